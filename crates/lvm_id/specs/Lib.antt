@@ -1,0 +1,3 @@
+pub mod LvmId
+pub mod Put
+pub mod Words
