@@ -1,0 +1,30 @@
+-- One image that a crash may leave, named by a list of choices.
+use Rattle.std.specs.Prelude.{◌≡◌, ℕ, ◌%◌, nat_lt, if◌then◌else◌, List, [], ◌∷◌, length, map, drop, flat_map, slice_index, slice_index_or, Option, None}
+use Rattle.std.specs.List.{range_with_len}
+use Rattle.dev_shelf.specs.Steps.{Told}
+use Rattle.dev_shelf.specs.ValueList.{values}
+use Rattle.dev_shelf.specs.DiskRow.{lengths_of}
+
+-- the value of this number modulo how many there are
+abbrev pub value_number : List (Option ℕ × List ℕ) → ℕ → List ℕ
+value_number all number = (slice_index_or all (number % length all) (None, [])).1
+
+-- of each list of values one: of a list of more than one the value of the next choice's number, and of each list after
+-- the last choice the first value
+abbrev pub chosen : List (List (Option ℕ × List ℕ)) → List ℕ → List (List ℕ)
+chosen [] choices = []
+chosen (all ∷ rest) choices =
+    if nat_lt 1 (length all) then value_number all (slice_index choices 0) ∷ chosen rest (drop 1 choices) else value_number all 0 ∷ chosen rest choices
+
+-- the values of each of the first so many sectors of the disk, in order
+abbrev pub disk_values : Told → ℕ → ℕ → List (List (Option ℕ × List ℕ))
+disk_values told pv count = map (λ sector. values told.opened told.steps pv sector) (range_with_len 0 count)
+
+-- the values of each sector of the first so many disks, in order of disk and sector
+abbrev pub row_values : Told → List ℕ → ℕ → List (List (Option ℕ × List ℕ))
+row_values told sizes count = flat_map (λ pv. disk_values told pv (slice_index sizes pv)) (range_with_len 0 count)
+
+-- the images, of disks of these sizes, are what the choices choose
+pub record IsChosen (told : Told) (sizes : List ℕ) (choices : List ℕ) (images : List (List (List ℕ))) : Type 0 where
+  pub sizes_same : lengths_of images ≡ sizes
+  pub sectors : flat_map (λ disk. disk) images ≡ chosen (row_values told sizes (length sizes)) choices

@@ -1,0 +1,191 @@
+//! A row of disks in memory, which keeps the images at opening and the record of all steps.
+ghost use Rattle.std.specs.Prelude.{◌≡◌, ◌≤◌, ◌<◌, ◌^◌, ◌↔◌, [], List, length, replicate, vec_len, IfOk, IfSome, IsNone, MatchOption, Contains};
+ghost use Rattle.dev_shelf.specs.Calls.{Completes};
+ghost use Rattle.dev_shelf.specs.CrashValues.{IsImage};
+ghost use Rattle.dev_shelf.specs.Moments.{at_moment};
+ghost use Rattle.dev_shelf.specs.ChosenImage.{IsChosen};
+ghost use Rattle.dev_shelf.specs.DiskRow.{image_of, state_of, new_state};
+ghost use Rattle.dev_shelf.specs.DiskRowInvariant.{IsGood, good_prop};
+
+mod completion;
+mod crash_image;
+mod disk_row;
+mod numbers;
+mod recorded;
+mod submission;
+mod values;
+
+use crate::{Done, Images, Op, Shelf, ShelfPlan};
+use crash_image::disks_at;
+use disk_row::DiskRow;
+use numbers::next_of;
+use sector_base::Sectors;
+use std::alloc::{AllocError, Global};
+
+/// A row of disks in memory. It tells its images at opening and its record, and completes and fails its operations as
+/// its plan says.
+#[derive(Drop)]
+pub struct MemShelf {
+    alloc: Global,
+    row: DiskRow,
+    picks: Vec<u64>,
+    picked: usize,
+    ghost good: { IsGood row } by { good_prop row },
+}
+
+impl MemShelf {
+    ghost use Rattle.dev_shelf.specs.Plan.{FollowsPlan};
+    ghost use Rattle.dev_shelf.specs.MemShelf.{plan_left, state_of_shelf};
+
+    /// Disks with these images, nothing in flight and nothing spare. The plan may hold nothing back yet, and its
+    /// `limit` does nothing. Only memory can be wanting.
+    pub fn new(alloc: Global, images: Images, plan: ShelfPlan) -> Result<MemShelf, AllocError>
+        requires disks { length images < 2 ^ 32 }
+        requires holds { plan.holds.items ≡ [] }
+        ensures state { IfOk result (λ shelf. state_of_shelf shelf ≡ new_state images) }
+        ensures plan { IfOk result (λ shelf. plan_left shelf ≡ record { picks = plan.picks.items; fails = plan.fails.items }) }
+    {
+        let current = copies(alloc, images.as_slice())?;
+        let faults = zeros(alloc, images.len())?;
+        let row = DiskRow {
+            opened: images.into_vec(),
+            current,
+            faults,
+            in_flight: Vec::new(alloc),
+            steps: Vec::new(alloc),
+            written: Vec::new(alloc),
+            next_tag: 0,
+            spare_ops: 0,
+            spare_sectors: 0,
+            fails: plan.fails,
+        };
+        Ok(MemShelf {
+            alloc,
+            row,
+            picks: plan.picks,
+            picked: 0,
+        })
+    }
+
+    /// How many moments the record has after that of opening, which is moment 0: one for each step.
+    pub fn moments(&self) -> u64
+        ensures { result ≡ (state_of_shelf self.now).steps }
+    {
+        self.row.steps.len() as u64
+    }
+
+    /// An image that a crash at this moment may leave. The k-th sector with more than one possible value, in order of
+    /// disk and sector, takes value number `choices[k]` modulo how many it has, and the first value after the list's
+    /// end. The values of a sector are the opened one and then those of its writes, in the order in which they were
+    /// submitted. Only memory can be wanting.
+    pub fn images_at(&self, moment: u64, choices: &Vec<u64>) -> Result<Images, AllocError>
+        requires { moment ≤ (state_of_shelf self.now).steps }
+        ensures chosen { IfSome (state_of_shelf self.now).told (λ told.
+            IfOk result (IsChosen (at_moment moment told) (state_of_shelf self.now).sizes choices.now.items)) }
+        ensures image { IfSome (state_of_shelf self.now).told (λ told.
+            IfOk result (λ images. IsImage (at_moment moment told) (image_of images))) }
+    {
+        let disks = disks_at(self.alloc, &self.row, moment as usize, choices)?;
+        Ok(Images::from_vec(disks))
+    }
+
+    // Completes the next operation of the plan, if one is in flight.
+    fn complete_next(&mut self) -> Option<Done>
+        ensures none { IsNone result ↔ ((state_of_shelf self.old).in_flight ≡ []) }
+        ensures cases { MatchOption result (state_of_shelf self.new ≡ state_of_shelf self.old) (λ done. Completes (state_of_shelf self.old) done (state_of_shelf self.new)) }
+        ensures ready { IfSome result (λ done. Contains (state_of_shelf self.old).ready done.tag) }
+        ensures plan { MatchOption result (plan_left self.new ≡ plan_left self.old)
+            (λ done. FollowsPlan (state_of_shelf self.old) (plan_left self.old) done (state_of_shelf self.new) (plan_left self.new)) }
+    {
+        if self.row.in_flight.is_empty() {
+            return None;
+        }
+        let pick = next_of(&self.picks, &mut self.picked);
+        let at = pick as usize % self.row.in_flight.len();
+        Some(self.row.complete(at))
+    }
+}
+
+impl Shelf for MemShelf {
+    ghost use Rattle.std.specs.Prelude.{OnOk, OnErr};
+    ghost use Rattle.dev_shelf.specs.Operations.{Lies, sectors_of};
+    ghost use Rattle.dev_shelf.specs.Calls.{Submits, Reserves};
+    ghost use Rattle.dev_shelf.specs.DiskRowInvariant.{lawful_of};
+    ghost use Rattle.dev_shelf.specs.Plan.{FollowsPlan};
+    ghost use Rattle.dev_shelf.specs.MemShelf.{plan_left, state_of_shelf};
+
+    ghost state = { state_of_shelf };
+
+    ghost lawful = { λ shelf. lawful_of shelf.row shelf.good };
+
+    fn count(&self) -> u32 {
+        self.row.opened.len() as u32
+    }
+
+    fn sectors(&self, pv: u32) -> u64 {
+        self.row.opened[pv as usize].len() as u64
+    }
+
+    fn faults(&self, pv: u32) -> u64 {
+        self.row.faults[pv as usize]
+    }
+
+    fn steps(&self) -> u64 {
+        self.row.steps.len() as u64
+    }
+
+    fn reserve(&mut self, ops: u64, sectors: u64) -> Result<(), AllocError>
+        ensures ok { OnOk result (Reserves (state_of_shelf self.old) ops sectors (state_of_shelf self.new)) }
+        ensures err { OnErr result (state_of_shelf self.new ≡ state_of_shelf self.old) }
+        ensures plan { plan_left self.new ≡ plan_left self.old }
+    {
+        self.row.reserve(ops, sectors)
+    }
+
+    fn submit(&mut self, op: Op) -> u64
+        requires lies { Lies (state_of_shelf self.old).sizes op }
+        requires ops { 0 < (state_of_shelf self.old).spare_ops }
+        requires sectors { sectors_of op ≤ (state_of_shelf self.old).spare_sectors }
+        ensures submits { Submits (state_of_shelf self.old) op result (state_of_shelf self.new) }
+        ensures plan { plan_left self.new ≡ plan_left self.old }
+    {
+        self.row.submit(op)
+    }
+
+    fn reap(&mut self) -> Option<Done>
+        ensures none { IsNone result ↔ ((state_of_shelf self.old).ready ≡ []) }
+        ensures cases { MatchOption result (state_of_shelf self.new ≡ state_of_shelf self.old) (λ done. Completes (state_of_shelf self.old) done (state_of_shelf self.new)) }
+        ensures ready { IfSome result (λ done. Contains (state_of_shelf self.old).ready done.tag) }
+        ensures plan { MatchOption result (plan_left self.new ≡ plan_left self.old)
+            (λ done. FollowsPlan (state_of_shelf self.old) (plan_left self.old) done (state_of_shelf self.new) (plan_left self.new)) }
+    {
+        self.complete_next()
+    }
+
+    fn settle(&mut self) -> Option<Done>
+        ensures none { IsNone result ↔ ((state_of_shelf self.old).in_flight ≡ []) }
+        ensures cases { MatchOption result (state_of_shelf self.new ≡ state_of_shelf self.old) (λ done. Completes (state_of_shelf self.old) done (state_of_shelf self.new)) }
+        ensures plan { MatchOption result (plan_left self.new ≡ plan_left self.old)
+            (λ done. FollowsPlan (state_of_shelf self.old) (plan_left self.old) done (state_of_shelf self.new) (plan_left self.new)) }
+    {
+        self.complete_next()
+    }
+}
+
+// A copy of each disk.
+fn copies(alloc: Global, disks: &[Sectors]) -> Result<Vec<Sectors>, AllocError>
+    ensures { IfOk result (λ copy. copy.items ≡ disks.now) }
+{
+    let mut all = Vec::new(alloc);
+    for disk in disks {
+        all.push(disk.try_copy(alloc)?)?;
+    }
+    Ok(all)
+}
+
+// So many zeros.
+fn zeros(alloc: Global, count: usize) -> Result<Vec<u64>, AllocError>
+    ensures { IfOk result (λ zeros. zeros.items ≡ replicate count 0) }
+{
+    Ok(vec![in alloc; 0; count]?)
+}

@@ -1,0 +1,256 @@
+//! What no clause says: that calls succeed, and the worked rows of the disk model.
+ghost use Rattle.std.specs.Prelude.{◌≡◌, ◌<◌, ◌≤◌, ◌+◌, [], ◌∷◌, length, slice_index_or, IfOk};
+ghost use Rattle.dev_shelf.specs.DiskRow.{new_state};
+
+use crate::{Fail, Images, MemShelf, Op, Shelf, ShelfPlan, run_one};
+use sector_base::{Bytes512, Sectors, Span};
+use std::alloc::{AllocError, Global};
+use std::process::Abort;
+use std::test::Fail as Failed;
+
+const SECTOR_0: Span = Span {
+    pv: 0,
+    first: 0,
+    count: 1,
+};
+
+const SECTORS_0_1: Span = Span {
+    pv: 0,
+    first: 0,
+    count: 2,
+};
+
+// One sector, all of this byte.
+fn one(alloc: Global, byte: u8) -> Result<Sectors, AllocError>
+    ensures { IfOk result (λ sectors. length sectors ≡ 1) }
+{
+    let mut list = Vec::new(alloc);
+    list.push(Bytes512::new([byte; 512]))?;
+    Ok(Sectors::from_vec(list))
+}
+
+// Two sectors, each all of its byte.
+fn two(alloc: Global, first: u8, second: u8) -> Result<Sectors, AllocError>
+    ensures { IfOk result (λ sectors. length sectors ≡ 2) }
+{
+    let mut list = Vec::new(alloc);
+    list.push(Bytes512::new([first; 512]))?;
+    list.push(Bytes512::new([second; 512]))?;
+    Ok(Sectors::from_vec(list))
+}
+
+// The first byte of each of two sectors.
+fn first_bytes(sectors: &Sectors) -> (u8, u8)
+    requires { 1 < length sectors.now }
+{
+    (sectors.get(0).as_bytes()[0], sectors.get(1).as_bytes()[0])
+}
+
+// A shelf of two disks, of 8 and 4 sectors of zeros.
+fn two_disks(alloc: Global, picks: Vec<u64>, fails: Vec<Fail>) -> Result<MemShelf, AllocError>
+    ensures { IfOk result (λ shelf. (images : _) × (length images ≡ 2) × (length (slice_index_or images 0 []) ≡ 8) × (length (slice_index_or images 1 []) ≡ 4)
+        × (⟦<MemShelf as Shelf>⟧.state shelf ≡ new_state images)) }
+{
+    let mut disks = Vec::new(alloc);
+    disks.push(Sectors::zeroed(alloc, 8)?)?;
+    disks.push(Sectors::zeroed(alloc, 4)?)?;
+    let plan = ShelfPlan {
+        picks,
+        fails,
+        holds: Vec::new(alloc),
+        limit: 0,
+    };
+    MemShelf::new(alloc, Images::from_vec(disks), plan)
+}
+
+// Writes sectors 0 and 1 of disk 0, flushes it, and reads them again.
+fn write_and_read<S: Shelf>(alloc: Global, shelf: &mut S) -> Result<(u8, u8), Failed>
+    requires idle { (S.state shelf.old).in_flight ≡ [] }
+    requires disk { 0 < length (S.state shelf.old).sizes }
+    requires sectors { 2 ≤ slice_index_or (S.state shelf.old).sizes 0 0 }
+    ensures { (S.state shelf.new).sizes ≡ (S.state shelf.old).sizes }
+{
+    shelf.reserve(3, 4)?;
+    let _write = run_one(shelf, Op::Write(SECTORS_0_1, two(alloc, 7, 8)?));
+    let _flush = run_one(shelf, Op::Flush(0));
+    let read = run_one(shelf, Op::Read(SECTORS_0_1, Sectors::zeroed(alloc, 2)?));
+    match read.op {
+        Op::Read(_, buffer) => Ok(first_bytes(&buffer)),
+        Op::Write(_, _) | Op::Flush(_) => unreachable!(),
+    }
+}
+
+#[test]
+fn reads_what_was_written(rt: HostRuntime) -> Result<(), Failed> {
+    let alloc = rt.alloc();
+    let mut shelf = two_disks(alloc, Vec::new(alloc), Vec::new(alloc))?;
+    assert_eq!(rt; write_and_read(alloc, &mut shelf)?, (7, 8));
+    assert_eq!(rt; (shelf.steps(), shelf.count(), shelf.sectors(1)), (6, 2, 4));
+    assert!(rt; shelf.reap().is_none() && shelf.settle().is_none());
+    Ok(())
+}
+
+// A list of these picks.
+fn picks(alloc: Global, list: &[u64]) -> Result<Vec<u64>, AllocError> {
+    Vec::from_slice(alloc, list)
+}
+
+// The plan that this operation fails, with so many new sectors.
+fn failing(alloc: Global, tag: u64, fresh: u32) -> Result<Vec<Fail>, AllocError> {
+    let mut list = Vec::new(alloc);
+    list.push(Fail { tag, fresh })?;
+    Ok(list)
+}
+
+#[test]
+fn a_pick_is_taken_modulo_the_number_that_are_ready(rt: HostRuntime) -> Result<(), Failed> {
+    let alloc = rt.alloc();
+    let mut shelf = two_disks(alloc, picks(alloc, &[5])?, Vec::new(alloc))?;
+    shelf.reserve(3, 3)?;
+    let older = shelf.submit(Op::Write(SECTOR_0, one(alloc, 1)?));
+    let newer = shelf.submit(Op::Write(SECTOR_0, one(alloc, 2)?));
+    // Number 5 modulo 2 is the newer one, and after the last pick comes the oldest.
+    assert_eq!(rt; shelf.reap().ok_or("none")?.tag, newer);
+    assert_eq!(rt; shelf.reap().ok_or("none")?.tag, older);
+    let read = run_one(&mut shelf, Op::Read(SECTOR_0, one(alloc, 0)?));
+    match read.op {
+        Op::Read(_, buffer) => assert_eq!(rt; buffer.get(0), Bytes512::new([1; 512])),
+        Op::Write(_, _) | Op::Flush(_) => unreachable!(),
+    }
+    Ok(())
+}
+
+#[test]
+fn a_failed_write_leaves_its_first_sectors_new(rt: HostRuntime) -> Result<(), Failed> {
+    let alloc = rt.alloc();
+    let mut shelf = two_disks(alloc, Vec::new(alloc), failing(alloc, 0, 1)?)?;
+    assert_eq!(rt; write_and_read(alloc, &mut shelf)?, (7, 0));
+    assert_eq!(rt; (shelf.faults(0), shelf.faults(1)), (1, 0));
+    Ok(())
+}
+
+#[test]
+fn a_failed_flush_counts_on_its_own_disk(rt: HostRuntime) -> Result<(), Failed> {
+    let alloc = rt.alloc();
+    let mut shelf = two_disks(alloc, Vec::new(alloc), failing(alloc, 0, 0)?)?;
+    shelf.reserve(1, 0)?;
+    let tag = shelf.submit(Op::Flush(1));
+    let done = shelf.settle().ok_or("none")?;
+    assert!(rt; done.tag == tag && !done.well);
+    assert_eq!(rt;
+        (shelf.faults(0), shelf.faults(1), shelf.steps()),
+        (0, 1, 2)
+    );
+    Ok(())
+}
+
+// The first byte of this sector of disk 0, in the image that the choices take at the moment.
+fn byte_at(
+    rt: &impl Abort,
+    shelf: &MemShelf,
+    moment: u64,
+    choices: &Vec<u64>,
+    sector: usize,
+) -> Result<u8, Failed> {
+    assert!(rt; moment <= shelf.moments());
+    let images = shelf.images_at(moment, choices)?;
+    assert!(rt; images.len() > 0);
+    let disk = images.get(0);
+    assert!(rt; sector < disk.len());
+    Ok(disk.get(sector).as_bytes()[0])
+}
+
+// Submits a write of this byte to sector 0 of disk 0.
+fn submit_write<S: Shelf>(alloc: Global, shelf: &mut S, byte: u8) -> Result<(), Failed>
+    requires disk { 0 < length (S.state shelf.old).sizes }
+    requires sectors { 1 ≤ slice_index_or (S.state shelf.old).sizes 0 0 }
+    ensures { (S.state shelf.new).sizes ≡ (S.state shelf.old).sizes }
+{
+    shelf.reserve(1, 1)?;
+    let _tag = shelf.submit(Op::Write(SECTOR_0, one(alloc, byte)?));
+    Ok(())
+}
+
+// Submits a flush of disk 0.
+fn submit_flush<S: Shelf>(shelf: &mut S) -> Result<(), Failed>
+    requires { 0 < length (S.state shelf.old).sizes }
+    ensures { (S.state shelf.new).sizes ≡ (S.state shelf.old).sizes }
+{
+    shelf.reserve(1, 0)?;
+    let _tag = shelf.submit(Op::Flush(0));
+    Ok(())
+}
+
+// Completes so many operations.
+fn complete<S: Shelf>(shelf: &mut S, count: usize)
+    ensures { (S.state shelf.new).sizes ≡ (S.state shelf.old).sizes }
+{
+    for _ in 0..count {
+        let _done = shelf.settle();
+    }
+}
+
+#[test]
+fn a_flush_drops_what_was_overtaken_when_it_was_submitted(rt: HostRuntime) -> Result<(), Failed> {
+    let alloc = rt.alloc();
+    let mut shelf = two_disks(alloc, picks(alloc, &[0, 1, 1])?, Vec::new(alloc))?;
+    submit_write(alloc, &mut shelf, 1)?;
+    submit_write(alloc, &mut shelf, 2)?;
+    submit_flush(&mut shelf)?;
+    // The first write and this flush complete, then a later flush, then the second write, and then the last flush.
+    complete(&mut shelf, 2);
+    submit_flush(&mut shelf)?;
+    complete(&mut shelf, 2);
+    submit_flush(&mut shelf)?;
+    complete(&mut shelf, 1);
+    assert_eq!(rt; shelf.moments(), 10);
+    for (moment, choice, want) in [
+        (0, 1, 0),
+        (1, 0, 0),
+        (1, 1, 1),
+        (1, 2, 0),
+        (2, 2, 2),
+        (5, 0, 0),
+        (6, 1, 1),
+        (7, 0, 1),
+        (7, 1, 2),
+        (9, 0, 1),
+        (10, 0, 2),
+        (10, 1, 2),
+    ] {
+        let found = byte_at(&rt, &shelf, moment, &picks(alloc, &[choice])?, 0)?;
+        assert_eq!(rt; found, want, "at {moment}, {choice}");
+    }
+    Ok(())
+}
+
+// Submits a write of the byte 2 to sector 2 of disk 0.
+fn submit_other<S: Shelf>(alloc: Global, shelf: &mut S) -> Result<(), Failed>
+    requires disk { 0 < length (S.state shelf.old).sizes }
+    requires sectors { 3 ≤ slice_index_or (S.state shelf.old).sizes 0 0 }
+{
+    shelf.reserve(1, 1)?;
+    let span = Span {
+        pv: 0,
+        first: 2,
+        count: 1,
+    };
+    let _tag = shelf.submit(Op::Write(span, one(alloc, 2)?));
+    Ok(())
+}
+
+#[test]
+fn a_sector_with_one_value_takes_no_choice(rt: HostRuntime) -> Result<(), Failed> {
+    let alloc = rt.alloc();
+    let mut shelf = two_disks(alloc, Vec::new(alloc), Vec::new(alloc))?;
+    submit_write(alloc, &mut shelf, 1)?;
+    submit_other(alloc, &mut shelf)?;
+    for (list, want) in [([0, 0], (0, 0)), ([0, 1], (0, 2)), ([1, 0], (1, 0))] {
+        let choices = picks(alloc, &list)?;
+        let first = byte_at(&rt, &shelf, 2, &choices, 0)?;
+        let other = byte_at(&rt, &shelf, 2, &choices, 2)?;
+        assert_eq!(rt; (first, other), want);
+    }
+    assert_eq!(rt; byte_at(&rt, &shelf, 2, &Vec::new(alloc), 2)?, 0);
+    Ok(())
+}
