@@ -1,0 +1,5 @@
+pub mod Areas
+pub mod DataSectors
+pub mod Extents
+pub mod PvHeader
+pub mod PvRefusal
