@@ -1,0 +1,3 @@
+pub mod Fields
+mod ReadAgain
+mod Writing
