@@ -1,0 +1,5 @@
+mod Gathered
+mod NextPlace
+mod RingPlaces
+mod SpanLaws
+mod TextBytes

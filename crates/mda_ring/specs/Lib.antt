@@ -1,0 +1,5 @@
+pub mod Areas
+pub mod Planned
+pub mod Ring
+pub mod RingSpans
+pub mod Texts
