@@ -1,0 +1,9 @@
+-- So many sectors are written.
+use Rattle.std.proofs.Common.{◌≤◌, length, ◌-◌}
+use Rattle.file_shelf.proofs.transfer.write_span.Given as goal
+
+abbrev pub invariant-loop-done : goal.invariant-loop-done
+invariant-loop-done g l = l.done ≤ length l.from
+
+abbrev pub decreases-loop-done : goal.decreases-loop-done
+decreases-loop-done g l = length l.from - l.done

@@ -1,0 +1,5 @@
+pub mod Bytes
+pub mod Opened
+pub mod RowInvariant
+pub mod Rows
+pub mod Sizes

@@ -1,0 +1,84 @@
+//! What a file does for an operation.
+ghost use Rattle.std.specs.Prelude.{◌≡◌, ◌≤◌, ◌+◌, ◌^◌, ℕ, List, length};
+ghost use Rattle.dev_shelf.specs.Operations.{Lies, work_of};
+ghost use Rattle.file_shelf.specs.Bytes.{IsInFile};
+
+use crate::copying::{SECTOR, gather, scatter};
+use dev_shelf::Op;
+use sector_base::Sectors;
+use std::fs::OpenFile;
+use std::os::unix::fs::FileExt;
+
+/// How many bytes are read or written at once.
+pub const AT_ONCE: usize = 65_536;
+
+// The place of a sector in its file, in bytes.
+fn offset(sector: u64) -> u64
+    requires { sector ≤ 2 ^ 40 }
+{
+    512 * sector
+}
+
+// Reads from the sector `first` on until all are filled. What comes after a fault stays.
+fn read_span<F: FileExt>(file: &F, first: u64, into: &mut Sectors, bytes: &mut [u8]) -> bool
+    requires within { first + length into.old ≤ 2 ^ 40 }
+    requires room { length bytes.old ≡ AT_ONCE }
+    ensures { length into.new ≡ length into.old }
+{
+    let mut done = 0;
+    while done < into.len() {
+        let count = (into.len() - done).min(AT_ONCE / SECTOR);
+        let piece = &mut bytes[..SECTOR * count];
+        if file
+            .read_exact_at(piece, offset(first + done as u64))
+            .is_err()
+        {
+            return false;
+        }
+        scatter(piece, into, done, count);
+        done += count;
+    }
+    true
+}
+
+// Writes all, from the sector `first` on, up to a fault.
+fn write_span<F: FileExt>(file: &F, first: u64, from: &Sectors, bytes: &mut [u8]) -> bool
+    requires within { first + length from.now ≤ 2 ^ 40 }
+    requires room { length bytes.old ≡ AT_ONCE }
+{
+    let mut done = 0;
+    while done < from.len() {
+        let count = (from.len() - done).min(AT_ONCE / SECTOR);
+        let piece = &mut bytes[..SECTOR * count];
+        gather(from, done, count, piece);
+        if file
+            .write_all_at(piece, offset(first + done as u64))
+            .is_err()
+        {
+            return false;
+        }
+        done += count;
+    }
+    true
+}
+
+/// Carries the operation out, and says whether it went well. A flush syncs the file.
+pub fn carry_out<F: FileExt + OpenFile>(file: &F, op: Op, bytes: &mut [u8]) -> (Op, bool)
+    requires within { IsInFile op }
+    requires room { length bytes.old ≡ AT_ONCE }
+    ensures work { work_of result.0 ≡ work_of op }
+    ensures lies { (sizes : List ℕ) → Lies sizes op → Lies sizes result.0 }
+{
+    match op {
+        Op::Read(span, buffer) => {
+            let mut buffer = buffer;
+            let well = read_span(file, span.first, &mut buffer, bytes);
+            (Op::Read(span, buffer), well)
+        }
+        Op::Write(span, sectors) => {
+            let well = write_span(file, span.first, &sectors, bytes);
+            (Op::Write(span, sectors), well)
+        }
+        Op::Flush(pv) => (Op::Flush(pv), file.sync_all().is_ok()),
+    }
+}
