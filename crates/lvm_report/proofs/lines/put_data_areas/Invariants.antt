@@ -1,0 +1,7 @@
+-- The lines of the areas so far.
+use Rattle.std.proofs.Common.{◌≡◌, ◌++◌, flat_map, string_bytes, take}
+use Rattle.lvm_report.specs.Lines.{data_line}
+use Rattle.lvm_report.proofs.lines.put_data_areas.Given as goal
+
+abbrev pub invariant-loop-area : goal.invariant-loop-area
+invariant-loop-area l = string_bytes l.text ≡ string_bytes l.initial.text ++ flat_map data_line (take l.area-index l.areas)

@@ -1,0 +1,64 @@
+//! What stands in the header sectors of the metadata areas.
+ghost use Rattle.std.specs.Prelude.{◌≡◌, ◌<◌, ◌/◌, [], length, slice_index_or, All, MatchResult};
+ghost use Rattle.lvm_report.specs.Found.{AreAreasFound, IsAreaFound, IsMdaFound};
+ghost use Rattle.lvm_report.specs.Parts.{Stands, Stopped, Went};
+
+use crate::PvckRefusal;
+use crate::found::{AreaFound, AreasFound};
+use crate::reading::read_sector;
+use dev_shelf::Shelf;
+use mda_header::read_mda;
+use pv_header::Extent;
+use sector_base::Bytes512;
+use std::alloc::Global;
+
+/// Looks at the header sector of each of these metadata areas. What is refused in one doesn't end the look.
+pub fn read_areas<S: Shelf>(
+    alloc: Global,
+    shelf: &mut S,
+    pv: u32,
+    areas: &[Extent],
+) -> Result<AreasFound, PvckRefusal>
+    requires idle { (S.state shelf.old).in_flight ≡ [] }
+    requires disk { pv < length (S.state shelf.old).sizes }
+    requires within { All (λ area. area.offset / 512 < slice_index_or (S.state shelf.old).sizes pv 0) areas.now }
+    ensures { MatchResult result
+        (λ all. Went (S.state shelf.old) (S.state shelf.new) × Stands (S.state shelf.old).told pv (λ sector_at. AreAreasFound sector_at areas.now all))
+        (Stopped pv (S.state shelf.old) (S.state shelf.new)) }
+{
+    let mut list = Vec::new(alloc);
+    for area in areas {
+        let found = read_area(alloc, shelf, pv, *area)?;
+        list.push(found)?;
+    }
+    Ok(AreasFound::from_vec(list))
+}
+
+// Looks at the header sector of a metadata area.
+fn read_area<S: Shelf>(
+    alloc: Global,
+    shelf: &mut S,
+    pv: u32,
+    area: Extent,
+) -> Result<AreaFound, PvckRefusal>
+    requires idle { (S.state shelf.old).in_flight ≡ [] }
+    requires disk { pv < length (S.state shelf.old).sizes }
+    requires within { area.offset / 512 < slice_index_or (S.state shelf.old).sizes pv 0 }
+    ensures { MatchResult result
+        (λ found. Went (S.state shelf.old) (S.state shelf.new) × (found.area ≡ area) × Stands (S.state shelf.old).told pv (λ sector_at. IsAreaFound sector_at found))
+        (Stopped pv (S.state shelf.old) (S.state shelf.new)) }
+{
+    let sector = read_sector(alloc, shelf, pv, area.offset / 512)?;
+    Ok(look(&sector, area))
+}
+
+// What stands in the header sector of a metadata area, by its contents.
+fn look(sector: &Bytes512, area: Extent) -> AreaFound
+    ensures area { result.area ≡ area }
+    ensures header { IsMdaFound sector.now area result.header }
+{
+    AreaFound {
+        area,
+        header: read_mda(sector, area.offset, area.size),
+    }
+}

@@ -1,0 +1,43 @@
+//! The report of pvck.
+ghost use Rattle.std.specs.Prelude.{◌≡◌, ◌≤◌, ◌<◌, ◌^◌, ℕ, List, [], length, slice_index_or, IfOk, IfSome, MatchResult};
+ghost use Rattle.dev_shelf.specs.Steps.{now_after};
+ghost use Rattle.lvm_report.specs.Causes.{HasSameFaults, IsPvckCause};
+ghost use Rattle.lvm_report.specs.Reads.{IsIdleAgain, ReadsTold};
+ghost use Rattle.lvm_report.specs.Report.{IsReport};
+
+use crate::PvckRefusal;
+use crate::find::find_pv;
+use crate::report::report;
+use dev_shelf::Shelf;
+use sector_base::Text;
+use std::alloc::Global;
+
+/// Reads lvm2's sectors of the disk, and answers the report on what stands there, one item a line. Each line ends with
+/// a line feed.
+///
+/// The lines come in this order: `label SECTOR`, `id ID`, `size BYTES`, a line `data OFFSET SIZE` for each data area, a
+/// line `area OFFSET SIZE` for each metadata area, and `extension VERSION FLAGS`. Under a metadata area's line stand
+/// `committed OFFSET SIZE SUM` and `precommitted OFFSET SIZE SUM` where its header names such texts. What isn't read is
+/// answered in its place by a line `refused KIND VALUES`, after which a report ends, but for that of an area.
+pub fn pvck<S: Shelf>(alloc: Global, shelf: &mut S, pv: u32) -> Result<Text, PvckRefusal>
+    requires disk { pv < length (S.state shelf.old).sizes }
+    requires least { 8 ≤ slice_index_or (S.state shelf.old).sizes pv 0 }
+    requires most { slice_index_or (S.state shelf.old).sizes pv 0 ≤ 2 ^ 40 }
+    requires idle { (S.state shelf.old).in_flight ≡ [] }
+
+    // The text is the report on the disk's sectors, which have no other.
+    ensures report { IfOk result (λ text. IfSome (S.state shelf.old).told (λ told.
+        IsReport (now_after told.opened told.steps pv) (slice_index_or (S.state shelf.old).sizes pv 0) text)) }
+    ensures one { IfOk result (λ text. IfSome (S.state shelf.old).told (λ told.
+        (other : List ℕ) → IsReport (now_after told.opened told.steps pv) (slice_index_or (S.state shelf.old).sizes pv 0) other → other ≡ text)) }
+
+    // It submits reads alone.
+    ensures reads { ReadsTold (S.state shelf.old).told (S.state shelf.new).told }
+    ensures worked { IsIdleAgain (S.state shelf.old) (S.state shelf.new) }
+
+    // A fault is counted where the read failed, and nowhere else.
+    ensures cause { MatchResult result (λ _. HasSameFaults (S.state shelf.old) (S.state shelf.new)) (IsPvckCause pv (S.state shelf.old) (S.state shelf.new)) }
+{
+    let found = find_pv(alloc, shelf, pv)?;
+    Ok(report(alloc, &found)?)
+}

@@ -1,0 +1,77 @@
+//! Reads of one disk, where nothing else is in flight.
+ghost use Rattle.std.specs.Prelude.{◌≡◌, ◌≤◌, ◌<◌, ◌+◌, ℕ, [], length, slice_index_or, MatchResult};
+ghost use Rattle.lvm_report.specs.Found.{first_four};
+ghost use Rattle.lvm_report.specs.Parts.{Stands, Stopped, Went};
+
+use crate::PvckRefusal;
+use dev_shelf::{Shelf, read_span};
+use sector_base::{Bytes512, Sectors, Span};
+use std::alloc::Global;
+
+/// Reads the first four sectors of the disk.
+pub fn read_first<S: Shelf>(
+    alloc: Global,
+    shelf: &mut S,
+    pv: u32,
+) -> Result<[Bytes512; 4], PvckRefusal>
+    requires idle { (S.state shelf.old).in_flight ≡ [] }
+    requires disk { pv < length (S.state shelf.old).sizes }
+    requires least { 4 ≤ slice_index_or (S.state shelf.old).sizes pv 0 }
+    ensures { MatchResult result
+        (λ four. Went (S.state shelf.old) (S.state shelf.new) × Stands (S.state shelf.old).told pv (λ sector_at. four ≡ first_four sector_at))
+        (Stopped pv (S.state shelf.old) (S.state shelf.new)) }
+{
+    let span = Span {
+        pv,
+        first: 0,
+        count: 4,
+    };
+    let sectors = read_sectors(alloc, shelf, span)?;
+    Ok([
+        sectors.get(0),
+        sectors.get(1),
+        sectors.get(2),
+        sectors.get(3),
+    ])
+}
+
+/// Reads one sector of the disk.
+pub fn read_sector<S: Shelf>(
+    alloc: Global,
+    shelf: &mut S,
+    pv: u32,
+    sector: u64,
+) -> Result<Bytes512, PvckRefusal>
+    requires idle { (S.state shelf.old).in_flight ≡ [] }
+    requires disk { pv < length (S.state shelf.old).sizes }
+    requires within { sector < slice_index_or (S.state shelf.old).sizes pv 0 }
+    ensures { MatchResult result
+        (λ contents. Went (S.state shelf.old) (S.state shelf.new) × Stands (S.state shelf.old).told pv (λ sector_at. contents ≡ sector_at sector))
+        (Stopped pv (S.state shelf.old) (S.state shelf.new)) }
+{
+    let span = Span {
+        pv,
+        first: sector,
+        count: 1,
+    };
+    let sectors = read_sectors(alloc, shelf, span)?;
+    Ok(sectors.get(0))
+}
+
+// Reads the span. Memory is taken first: without it the shelf is as before.
+fn read_sectors<S: Shelf>(alloc: Global, shelf: &mut S, span: Span) -> Result<Sectors, PvckRefusal>
+    requires idle { (S.state shelf.old).in_flight ≡ [] }
+    requires disk { span.pv < length (S.state shelf.old).sizes }
+    requires within { span.first + span.count ≤ slice_index_or (S.state shelf.old).sizes span.pv 0 }
+    ensures { MatchResult result
+        (λ sectors. Went (S.state shelf.old) (S.state shelf.new) × (length sectors ≡ span.count)
+        × Stands (S.state shelf.old).told span.pv (λ sector_at. (k : ℕ) → k < span.count → slice_index_or sectors k [] ≡ sector_at (span.first + k)))
+        (Stopped span.pv (S.state shelf.old) (S.state shelf.new)) }
+{
+    let buffer = Sectors::zeroed(alloc, span.count)?;
+    shelf.reserve(1, u64::from(span.count))?;
+    match read_span(shelf, span, buffer) {
+        Some(sectors) => Ok(sectors),
+        None => Err(PvckRefusal::ReadFailed(span.pv)),
+    }
+}
