@@ -1,0 +1,9 @@
+pub mod Asked
+pub mod Causing
+pub mod Creating
+pub mod Looking
+pub mod NewPvs
+pub mod Opening
+pub mod Patching
+pub mod Printing
+pub mod Putting
