@@ -1,5 +1,6 @@
 -- Images with some sectors put, one after another.
-use Rattle.std.proofs.Common.{◌≡◌, ◌≤◌, ℕ, suc, ◌+◌, ◌==◌, ◌&&◌, cond, Bool, true, false, List, [], ◌∷◌, ◌++◌, length, take, Option, refl, sym, ap, subst, ◌∙◌, arith, length-append, append_assoc}
+use Rattle.std.proofs.Common.{◌≡◌, ◌≤◌, ℕ, ◌+◌, ◌==◌, ◌&&◌, cond, Bool, true, false, List, [], ◌∷◌, ◌++◌, length, take, Option, refl, sym, ap, subst, ◌∙◌, arith, length-append, append_assoc}
+use Rattle.std.proofs.Math.Seq.{take-append-add}
 use Rattle.std.proofs.lemmas.List.{take-append-le}
 use Rattle.dev_shelf.specs.Steps.{Image, Step, Told, now_after}
 use Rattle.dev_shelf.specs.Moments.{EveryImageSince}
@@ -20,13 +21,6 @@ pub patched_append : (first more : List Put) (base : Image) → patched (first +
 patched_append [] more base = refl
 patched_append (put ∷ first) more base = patched_append first more (put_on put base)
 
--- a front that ends in the second of two lists
-take_past : (first more : List Put) (n : ℕ) → take (length first + n) (first ++ more) ≡ first ++ take n more
-take_past [] more n = let e : length {A = Put} [] + n ≡ n = omega arith in ap (λ (k : ℕ). take k more) e
-take_past (put ∷ first) more n =
-    let e : length (put ∷ first) + n ≡ suc (length first + n) = omega arith in
-    ap (λ (k : ℕ). take k (put ∷ first ++ more)) e ∙ ap (λ (l : List Put). put ∷ l) (take_past first more n)
-
 -- the first so many of some puts are those of a longer list
 pub first_of_more : (first more : List Put) (base image : Image) → HasFirst first base image → HasFirst (first ++ more) base image
 first_of_more first more base image h = record {
@@ -39,7 +33,7 @@ first_of_more first more base image h = record {
 pub first_after_all : (first more : List Put) (base image : Image) → HasFirst more (patched first base) image → HasFirst (first ++ more) base image
 first_after_all first more base image h =
     let puts : patched (take h.count more) (patched first base) ≡ patched (take (length first + h.count) (first ++ more)) base =
-    sym (patched_append first (take h.count more) base) ∙ ap (λ (l : List Put). patched l base) (sym (take_past first more h.count)) in
+    sym (patched_append first (take h.count more) base) ∙ ap (λ (l : List Put). patched l base) (sym (take-append-add first more h.count)) in
     record {
       count = length first + h.count;
       among = omega (arith, h.among, length-append first more);

@@ -1,5 +1,6 @@
 -- Texts that are written one after another.
-use Rattle.std.proofs.Common.{◌≡◌, ℕ, suc, ◌+◌, List, [], ◌∷◌, ◌++◌, length, take, Option, Some, None, Result, Ok, Err, OnOk, OnErr, refl, sym, ap, subst, ◌∙◌, arith, length-append, append_assoc}
+use Rattle.std.proofs.Common.{◌≡◌, ℕ, ◌+◌, List, ◌++◌, length, take, Option, Some, None, Result, Ok, Err, OnOk, OnErr, refl, sym, ap, subst, ◌∙◌, arith, length-append, append_assoc}
+use Rattle.std.proofs.Math.Seq.{take-append-add}
 use Rattle.std.proofs.lemmas.List.{take-append-le}
 use Rattle.std.proofs.lemmas.Result.{on_ok_weaker, on_err_weaker}
 use Rattle.lvm_script.specs.Streams.{WritesFront, with_more}
@@ -11,18 +12,12 @@ more_more : (before : Option (List ℕ)) (a b : List ℕ) → with_more (with_mo
 more_more None a b = refl
 more_more (Some bytes) a b = ap (λ (l : List ℕ). Some l) (append_assoc bytes a b)
 
-take_past : (a b : List ℕ) (n : ℕ) → take (length a + n) (a ++ b) ≡ a ++ take n b
-take_past [] b n = let e : length {A = ℕ} [] + n ≡ n = omega arith in ap (λ (k : ℕ). take k b) e
-take_past (x ∷ a) b n =
-    let e : length (x ∷ a) + n ≡ suc (length a + n) = omega arith in
-    ap (λ (k : ℕ). take k (x ∷ a ++ b)) e ∙ ap (λ (l : List ℕ). x ∷ l) (take_past a b n)
-
 -- a whole text and then a front of the next
 pub front_later : (before mid after : Option (List ℕ)) (a b : List ℕ) → mid ≡ with_more before a → WritesFront mid b after → WritesFront before (a ++ b) after
 front_later before mid after a b e h = (
   length a + h.0,
   omega (arith, h.1, length-append a b),
-  h.2 ∙ ap (λ (o : Option (List ℕ)). with_more o (take h.0 b)) e ∙ more_more before a (take h.0 b) ∙ ap (λ (l : List ℕ). with_more before l) (sym (take_past a b h.0)),
+  h.2 ∙ ap (λ (o : Option (List ℕ)). with_more o (take h.0 b)) e ∙ more_more before a (take h.0 b) ∙ ap (λ (l : List ℕ). with_more before l) (sym (take-append-add a b h.0)),
 )
 
 -- a front of the first of two texts
