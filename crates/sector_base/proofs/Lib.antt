@@ -1,3 +1,5 @@
 pub mod Checksums
-pub mod Puts
+pub mod DivisionTable
 pub mod PvSetLemmas
+pub mod Puts
+pub mod SectorBytes

@@ -17,10 +17,10 @@ abbrev pub differs : Bool → Bool → Bool
 differs a b = if a then not b else b
 
 -- the two lists of bits combined by exclusive or, as far as the first goes
-abbrev pub combined : List Bool → List Bool → List Bool
-combined [] ys = []
-combined (x ∷ xs) [] = x ∷ xs
-combined (x ∷ xs) (y ∷ ys) = differs x y ∷ combined xs ys
+abbrev pub xor_bits : List Bool → List Bool → List Bool
+xor_bits [] ys = []
+xor_bits (x ∷ xs) [] = x ∷ xs
+xor_bits (x ∷ xs) (y ∷ ys) = differs x y ∷ xor_bits xs ys
 
 -- the bits of the polynomial EDB88320, the lowest first
 unfoldable pub polynomial : List Bool
@@ -28,15 +28,15 @@ polynomial = bits_of 32 0xEDB88320
 
 -- one input bit is divided in: the state shifts down by one, and the polynomial is combined with it where the bit
 -- that leaves differs from the input bit
-abbrev pub divided : List Bool → Bool → List Bool
-divided [] input = []
-divided (low ∷ high) input = if differs low input then combined (high ++ false ∷ []) polynomial else high ++ false ∷ []
+abbrev pub with_bit : List Bool → Bool → List Bool
+with_bit [] input = []
+with_bit (low ∷ high) input = if differs low input then xor_bits (high ++ false ∷ []) polynomial else high ++ false ∷ []
 
 -- the input bits are divided in, one after another
-abbrev pub divided_all : List Bool → List Bool → List Bool
-divided_all state [] = state
-divided_all state (input ∷ inputs) = divided_all (divided state input) inputs
+abbrev pub with_bits : List Bool → List Bool → List Bool
+with_bits state [] = state
+with_bits state (input ∷ inputs) = with_bits (with_bit state input) inputs
 
 -- the checksum of these bytes from a state of 32 bits on; each byte's lowest bit comes first
 unfoldable pub checksum : ℕ → List ℕ → ℕ
-checksum start bytes = number_of (divided_all (bits_of 32 start) (flat_map (bits_of 8) bytes))
+checksum start bytes = number_of (with_bits (bits_of 32 start) (flat_map (bits_of 8) bytes))

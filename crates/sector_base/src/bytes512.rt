@@ -1,6 +1,7 @@
 //! One sector.
 ghost use Rattle.std.specs.Prelude.{◌≡◌, ◌+◌, ◌≤◌, ℕ, List, length, replicate};
 ghost use Rattle.sector_base.specs.Fields.{with_bytes};
+ghost use Rattle.sector_base.specs.Sectors.{IsSector};
 
 use std::marker::Model;
 
@@ -11,9 +12,14 @@ pub struct Bytes512 {
 }
 
 impl Model for Bytes512 {
+    ghost use Rattle.std.specs.Prelude.{ℕ, List};
+    ghost use Rattle.sector_base.specs.Sectors.{IsSector};
+
     ghost Value = { List ℕ };
 
     ghost view = { λ s. s.bytes };
+
+    ghost invariant = { λ s. IsSector s.bytes };
 
     ghost inverse = { λ v. record { bytes = v } };
 }
@@ -23,6 +29,7 @@ impl Bytes512 {
     pub fn new(bytes: [u8; 512]) -> Self
         ensures { result ≡ bytes }
     {
+        see_sector(&bytes);
         Bytes512 { bytes }
     }
 
@@ -30,12 +37,13 @@ impl Bytes512 {
     pub fn zeroed() -> Self
         ensures { result ≡ replicate 512 0 }
     {
-        Bytes512 { bytes: [0; 512] }
+        Bytes512::new([0; 512])
     }
 
     /// All 512 bytes.
     pub fn as_bytes(&self) -> &[u8; 512]
-        ensures { result.now ≡ self.now }
+        ensures value { result.now ≡ self.now }
+        ensures valid { IsSector self.now }
     {
         &self.bytes
     }
@@ -47,4 +55,12 @@ impl Bytes512 {
     {
         self.bytes[at..at + bytes.len()].copy_from_slice(bytes);
     }
+}
+
+// These bytes are a sector.
+fn see_sector(bytes: &[u8; 512])
+    ensures { IsSector bytes.now }
+{
+    let all: &[u8] = bytes;
+    let _first = all.first();
 }

@@ -1,11 +1,11 @@
 //! The checksum of labels, area headers and metadata texts.
-ghost use Rattle.std.specs.Prelude.{◌≡◌, false};
-ghost use Rattle.sector_base.specs.Checksum.{bits_of, checksum, divided, divided_all};
+ghost use Rattle.std.specs.Prelude.{◌≡◌, ◌<◌, slice_index};
+ghost use Rattle.sector_base.specs.Checksum.{bits_of, checksum, with_bits};
+
+use crate::division_table::DIVIDED_EIGHT;
 
 /// From where lvm2 starts the checksum of a label, of an area header and of a text.
 pub const LVM_CRC_START: u32 = 0xF597_A6CF;
-
-const POLYNOMIAL: u32 = 0xEDB8_8320;
 
 /// The checksum of lvm2's on-disk format: the reflected CRC-32 without a final inversion, from the state `start` on.
 pub fn crc(start: u32, bytes: &[u8]) -> u32
@@ -18,24 +18,19 @@ pub fn crc(start: u32, bytes: &[u8]) -> u32
     state
 }
 
-// One byte is combined with the state, which is then divided eight times.
+// One byte is combined with the state, which is then divided eight times: the table has what that makes of the lowest
+// byte, and the other bytes move down.
 fn divide_byte(state: u32, byte: u8) -> u32
-    ensures { bits_of 32 result ≡ divided_all (bits_of 32 state) (bits_of 8 byte) }
+    ensures { bits_of 32 result ≡ with_bits (bits_of 32 state) (bits_of 8 byte) }
 {
-    let mut divided = state ^ u32::from(byte);
-    for _ in 0..8u32 {
-        divided = divide_bit(divided);
-    }
-    divided
+    let xor_bits = state ^ u32::from(byte);
+    divided_eight(xor_bits % 256) ^ (xor_bits / 256)
 }
 
-// The state is shifted right by one, and combined with the polynomial where the bit that left was 1.
-fn divide_bit(state: u32) -> u32
-    ensures { bits_of 32 result ≡ divided (bits_of 32 state) false }
+// What the table has of this byte.
+fn divided_eight(byte: u32) -> u32
+    requires { byte < 256 }
+    ensures { result ≡ slice_index DIVIDED_EIGHT byte }
 {
-    if state & 1 == 1 {
-        (state >> 1) ^ POLYNOMIAL
-    } else {
-        state >> 1
-    }
+    DIVIDED_EIGHT[byte as usize]
 }

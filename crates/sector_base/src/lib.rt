@@ -7,11 +7,13 @@
 
 mod bytes512;
 mod checksum;
-mod disk_list;
+mod division_table;
 mod fields;
+mod item_list;
 mod places;
 mod pv_set;
 mod sector_list;
+mod shown;
 mod span_of;
 mod spans;
 #[cfg(test)]
@@ -20,11 +22,12 @@ mod texts;
 
 pub use bytes512::Bytes512;
 pub use checksum::{LVM_CRC_START, crc};
-pub use disk_list::PvDisks;
 pub use fields::{get_u32, get_u64, put_u32, put_u64};
+pub use item_list::{ItemList, PvDisks};
 pub use places::{At, Piece};
 pub use pv_set::PvSet;
-pub use sector_list::Sectors;
+pub use sector_list::{Sectors, see_sectors};
+pub use shown::{Shown, write_shown};
 pub use span_of::span;
 pub use spans::{Span, SpanRefusal};
 pub use texts::Text;

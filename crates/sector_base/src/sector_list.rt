@@ -1,5 +1,6 @@
 //! Lists of sectors: the buffers of reads and writes, and the disks in memory.
-ghost use Rattle.std.specs.Prelude.{◌≡◌, ◌≤◌, ◌<◌, ◌+◌, ◌-◌, ◌&&◌, ℕ, List, [], length, replicate, slice_set, slice_index_or, nat_le, nat_lt, if◌then◌else◌, IfOk};
+ghost use Rattle.std.specs.Prelude.{◌≡◌, ◌≤◌, ◌<◌, ◌+◌, ◌-◌, ◌&&◌, ℕ, List, [], length, replicate, slice_set, slice_index_or, nat_le, nat_lt, if◌then◌else◌, IfOk, All};
+ghost use Rattle.sector_base.specs.Sectors.{IsSector};
 
 use crate::Bytes512;
 use std::alloc::{AllocError, Global};
@@ -12,9 +13,14 @@ pub struct Sectors {
 }
 
 impl Model for Sectors {
+    ghost use Rattle.std.specs.Prelude.{ℕ, List, All};
+    ghost use Rattle.sector_base.specs.Sectors.{IsSector};
+
     ghost Value = { List (List ℕ) };
 
     ghost view = { λ s. s.list.items };
+
+    ghost invariant = { λ s. All IsSector s.list.items };
 }
 
 impl Sectors {
@@ -34,6 +40,7 @@ impl Sectors {
     pub fn from_vec(list: Vec<Bytes512>) -> Self
         ensures { result ≡ list.items }
     {
+        see_each(&list);
         Sectors { list }
     }
 
@@ -46,14 +53,16 @@ impl Sectors {
 
     /// All of them.
     pub fn as_slice(&self) -> &[Bytes512]
-        ensures { result.now ≡ self.now }
+        ensures value { result.now ≡ self.now }
+        ensures valid { All IsSector self.now }
     {
         &self.list
     }
 
     /// How many they are.
     pub fn len(&self) -> usize
-        ensures { result ≡ length self.now }
+        ensures value { result ≡ length self.now }
+        ensures valid { All IsSector self.now }
     {
         self.list.len()
     }
@@ -61,7 +70,8 @@ impl Sectors {
     /// The sector at this place.
     pub fn get(&self, at: usize) -> Bytes512
         requires { at < length self.now }
-        ensures { result ≡ slice_index_or self.now at [] }
+        ensures value { result ≡ slice_index_or self.now at [] }
+        ensures valid { IsSector result }
     {
         self.list[at]
     }
@@ -71,6 +81,7 @@ impl Sectors {
         requires { at < length self.old }
         ensures { self.new ≡ slice_set self.old at sector }
     {
+        let _bytes = sector.as_bytes();
         self.list[at] = sector;
     }
 
@@ -107,5 +118,23 @@ impl Sectors {
         for k in 0..self.len() {
             self.set(k, from.get(first + k));
         }
+    }
+}
+
+/// Does nothing: that each list of sectors has sectors alone is known from then on, of the disks in memory for one.
+pub fn see_sectors(disks: &[Sectors])
+    ensures { All (λ sectors. All IsSector sectors) disks.now }
+{
+    for sectors in disks {
+        let _count = sectors.len();
+    }
+}
+
+// Does nothing: that each of these is a sector is known from then on.
+fn see_each(list: &[Bytes512])
+    ensures { All IsSector list.now }
+{
+    for sector in list {
+        let _bytes = sector.as_bytes();
     }
 }

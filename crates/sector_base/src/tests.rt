@@ -1,6 +1,6 @@
-//! Outside values of the checksum, the refusals of spans as a table, and each list and set once.
+//! Outside values of the checksum, the refusals of spans as a table, what is printed, and each list and set once.
 use crate::{
-    Bytes512, LVM_CRC_START, PvDisks, PvSet, Sectors, Span, SpanRefusal, Text, crc, get_u32,
+    Bytes512, LVM_CRC_START, PvDisks, PvSet, Sectors, Shown, Span, SpanRefusal, Text, crc, get_u32,
     get_u64, put_u32, put_u64, span,
 };
 use std::test::Fail;
@@ -127,9 +127,31 @@ fn sets_lists_and_texts(rt: HostRuntime) -> Result<(), Fail> {
     assert!(rt; !set.is_empty() && !set.contains(0));
     let disks = PvDisks::from_vec(vec![in alloc; 4, 0]?);
     assert_eq!(rt; disks.as_slice(), [4, 0].as_slice());
+    assert_eq!(rt; (disks.len(), *disks.get(0)), (2, 4));
     assert_eq!(rt; disks.into_vec().len(), 2);
     let text = Text::from_vec(vec![in alloc; b'v', b'g']?);
     assert_eq!(rt; text.as_bytes(), b"vg".as_slice());
     assert_eq!(rt; text.into_vec().len(), 2);
+    Ok(())
+}
+
+#[test]
+fn prints_values_and_refusals(rt: HostRuntime) -> Result<(), Fail> {
+    let alloc = rt.alloc();
+    for (shown, text) in [
+        (Shown::Number(u64::MAX), "18446744073709551615"),
+        (Shown::Sum(0xBEEF), "0000beef"),
+        (Shown::Text("vg0"), "vg0"),
+    ] {
+        let said = format!(in alloc; "{shown}")?;
+        assert_eq!(rt; said.as_str(), text);
+    }
+    for (refusal, text) in [
+        (SpanRefusal::Empty, "Empty"),
+        (SpanRefusal::PastEnd { end: 9, disk: 8 }, "PastEnd 9 8"),
+    ] {
+        let said = format!(in alloc; "{refusal}")?;
+        assert_eq!(rt; said.as_str(), text);
+    }
     Ok(())
 }

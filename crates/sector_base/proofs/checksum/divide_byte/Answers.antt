@@ -1,16 +1,16 @@
-use Rattle.std.proofs.Common.{◌≡◌, ◌+◌, ℕ, suc, arith, sym, ap, ◌∙◌, List, Bool, false, replicate}
+use Rattle.std.proofs.Common.{◌≡◌, ◌/◌, ℕ, false, replicate, arith, sym, ap, ◌∙◌}
 use Rattle.std.specs.Int.RustNames.{bit_xor}
-use Rattle.sector_base.specs.Checksum.{bits_of, divided, divided_all}
-use Rattle.sector_base.proofs.Checksums.{divided_all-byte, divided_all-step}
+use Rattle.std.proofs.lemmas.Nat.{xor_of_32}
+use Rattle.sector_base.specs.Checksum.{bits_of, with_bits}
+use Rattle.sector_base.proofs.Checksums.{with_bits-byte}
+use Rattle.sector_base.proofs.DivisionTable.{with_bits-table}
 use Rattle.sector_base.proofs.checksum.divide_byte.Goals as goal
-
-pub loop-preserved : goal.loop-preserved
-loop-preserved c =
-    let start = bits_of 32 (bit_xor c.args.state c.args.byte) in
-    let next : suc c.loop.counter ≡ c.loop.counter + 1 = omega arith in
-    c.divide_bit-divided.ensures ∙ ap (λ (l : List Bool). divided l false) c.loop.invariant ∙ sym (divided_all-step start c.loop.counter) ∙ ap (λ (n : ℕ). divided_all start (replicate n false)) next
 
 pub returns : goal.returns
 returns c =
-    let all : c.loop.counter ≡ 8 = omega arith in
-    c.loop.invariant ∙ ap (λ (n : ℕ). divided_all (bits_of 32 (bit_xor c.args.state c.args.byte)) (replicate n false)) all ∙ sym (divided_all-byte c.args.state c.args.byte c.ranges.byte.fits)
+    let byte : c.from.result ≡ c.args.byte = c.from.ensures in
+    let state : ℕ = bit_xor c.args.state c.from.result in
+    ap (λ (n : ℕ). bits_of 32 (bit_xor n (state / 256))) c.divided_eight.ensures
+    ∙ sym (with_bits-table state (xor_of_32 c.args.state c.from.result (omega arith) (omega arith)))
+    ∙ ap (λ (n : ℕ). with_bits (bits_of 32 (bit_xor c.args.state n)) (replicate 8 false)) byte
+    ∙ sym (with_bits-byte c.args.state c.args.byte c.ranges.byte.fits)
