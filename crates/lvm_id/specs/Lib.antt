@@ -1,3 +1,4 @@
 pub mod LvmId
 pub mod Put
+pub mod ShownId
 pub mod Words

@@ -22,8 +22,8 @@ pieces [] text = []
 pieces (n ∷ ns) text = take n text ∷ pieces ns (drop n text)
 
 -- an id as it prints: its groups with hyphens between
-unfoldable pub hyphenated : List ℕ → List ℕ
-hyphenated chars = join_with_byte 45 (pieces (6 ∷ 4 ∷ 4 ∷ 4 ∷ 4 ∷ 4 ∷ 6 ∷ []) chars)
+unfoldable pub hyphen_form : List ℕ → List ℕ
+hyphen_form chars = join_with_byte 45 (pieces (6 ∷ 4 ∷ 4 ∷ 4 ∷ 4 ∷ 4 ∷ 6 ∷ []) chars)
 
 -- the places of the hyphens in a printed id
 abbrev pub is_hyphen_place : ℕ → Bool

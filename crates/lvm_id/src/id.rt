@@ -1,7 +1,7 @@
 //! One id.
 ghost use Rattle.std.specs.Prelude.{◌≡◌, ◌≤◌, ◌<◌, ◌+◌, ◌++◌, ℕ, List, [], ◌∷◌, length, All, Some};
 ghost use Rattle.std.specs.Fmt.{padded};
-ghost use Rattle.lvm_id.specs.LvmId.{IsId, IsIdChar, hyphenated, digit_char, word_chars, id_of_words};
+ghost use Rattle.lvm_id.specs.LvmId.{IsId, IsIdChar, hyphen_form, digit_char, word_chars, id_of_words};
 
 use crate::Words64;
 use crate::put::put;
@@ -56,7 +56,7 @@ impl LvmId {
 
     /// The id as it prints, in groups of 6, 4, 4, 4, 4, 4 and 6 characters with hyphens between.
     pub fn hyphen(&self) -> [u8; 38]
-        ensures value { result ≡ hyphenated self.now }
+        ensures value { result ≡ hyphen_form self.now }
         ensures valid { IsId self.now }
     {
         let chars = &self.chars;
@@ -74,9 +74,9 @@ impl LvmId {
 
 /// Prints the id in groups.
 impl fmt::Display for LvmId {
-    ghost output = { λ id. Some (hyphenated id) };
+    ghost output = { λ id. Some (hyphen_form id) };
 
-    ghost styled_output = { λ id spec. Some (padded spec (hyphenated id)) };
+    ghost styled_output = { λ id spec. Some (padded spec (hyphen_form id)) };
 
     fn fmt<W: fmt::Write>(&self, f: &mut fmt::Formatter<W>) -> fmt::Result {
         f.pad(str::from_utf8(&self.hyphen()).unwrap())

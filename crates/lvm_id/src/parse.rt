@@ -1,6 +1,6 @@
 //! Reading ids.
 ghost use Rattle.std.specs.Prelude.{◌≡◌, ◌≢◌, ◌≤◌, ◌<◌, ◌+◌, ◌↔◌, ℕ, List, length, slice_index, All, IsTrue, IsFalse, IsOk, Ok, IfOk, IsErrOf, MatchOption};
-ghost use Rattle.lvm_id.specs.LvmId.{IsId, IsIdChar, is_id_char, is_hyphen_place, fits_plain, fits_hyphenated, IsFirstMisfit, hyphenated};
+ghost use Rattle.lvm_id.specs.LvmId.{IsId, IsIdChar, is_id_char, is_hyphen_place, fits_plain, fits_hyphenated, IsFirstMisfit, hyphen_form};
 
 use crate::put::put;
 use crate::{IdRefusal, LvmId};
@@ -30,8 +30,8 @@ pub fn parse_plain(text: &[u8]) -> Result<LvmId, IdRefusal>
 /// Reads an id as it prints, 38 bytes. A text of another length is refused as `BadLength`, and then by the first place
 /// whose byte may not stand there: as `BadHyphen` where a hyphen should stand, and as `BadChar` elsewhere.
 pub fn parse_hyphen(text: &[u8]) -> Result<LvmId, IdRefusal>
-    ensures value { IfOk result (λ id. IsId id × (hyphenated id ≡ text.now)) }
-    ensures accepted { (id : List ℕ) → IsId id → hyphenated id ≡ text.now → result ≡ Ok id }
+    ensures value { IfOk result (λ id. IsId id × (hyphen_form id ≡ text.now)) }
+    ensures accepted { (id : List ℕ) → IsId id → hyphen_form id ≡ text.now → result ≡ Ok id }
     ensures bad_length { (bytes : ℕ) → IsErrOf result (IdRefusal.BadLength bytes) ↔ ((length text.now ≡ bytes) × (bytes ≢ 38)) }
     ensures bad_char { (place : ℕ) → IsErrOf result (IdRefusal.BadChar place) ↔ ((length text.now ≡ 38) × IsFirstMisfit fits_hyphenated text.now place × IsFalse (is_hyphen_place place)) }
     ensures bad_hyphen { (place : ℕ) → IsErrOf result (IdRefusal.BadHyphen place) ↔ ((length text.now ≡ 38) × IsFirstMisfit fits_hyphenated text.now place × IsTrue (is_hyphen_place place)) }
@@ -98,7 +98,7 @@ fn first_misfit(text: &[u8]) -> Option<usize>
 fn without_hyphens(text: &[u8]) -> [u8; 32]
     requires long { length text.now ≡ 38 }
     requires fits { (k : ℕ) → k < 38 → IsTrue (fits_hyphenated k (slice_index text.now k)) }
-    ensures printed { hyphenated result ≡ text.now }
+    ensures printed { hyphen_form result ≡ text.now }
     ensures valid { IsId result }
 {
     let mut chars = [0; 32];

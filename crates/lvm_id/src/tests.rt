@@ -106,11 +106,11 @@ fn refuses_hyphenated(rt: HostRuntime) {
 }
 
 #[test]
-fn says_why(rt: HostRuntime) -> Result<(), Fail> {
+fn prints_each_refusal(rt: HostRuntime) -> Result<(), Fail> {
     let rows = [
-        (IdRefusal::BadLength(31), "31 bytes long"),
-        (IdRefusal::BadChar(5), "no character of an id at place 5"),
-        (IdRefusal::BadHyphen(6), "no hyphen at place 6"),
+        (IdRefusal::BadLength(31), "BadLength 31"),
+        (IdRefusal::BadChar(5), "BadChar 5"),
+        (IdRefusal::BadHyphen(6), "BadHyphen 6"),
     ];
     for (refusal, text) in rows {
         let said = format!(in rt.alloc(); "{refusal}")?;
@@ -121,7 +121,7 @@ fn says_why(rt: HostRuntime) -> Result<(), Fail> {
 
 #[test]
 fn mixes_as_published(rt: HostRuntime) {
-    let mut words = MixWords::new(1_234_567);
+    let mut words = MixWords { state: 1_234_567 };
     let want: [u64; 5] = [
         6_457_827_717_110_365_317,
         3_203_168_211_198_807_973,

@@ -1,7 +1,7 @@
 use Rattle.std.proofs.Common.{refl}
-use Rattle.lvm_id.specs.Words.{mixed}
+use Rattle.lvm_id.specs.Words.{splitmix_output}
 use Rattle.lvm_id.proofs.mix_words.mix.Goals as goal
 
 pub returns : goal.returns
-unfolding mixed
+unfolding splitmix_output
 returns c = refl
