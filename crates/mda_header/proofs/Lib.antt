@@ -1,3 +1,3 @@
 pub mod Fields
+mod HeaderBytes
 mod ReadAgain
-mod Writing

@@ -8,7 +8,7 @@ use Rattle.sector_base.proofs.Puts.{field-front}
 use Rattle.mda_header.specs.declared.header.Locn.{Locn}
 use Rattle.mda_header.specs.declared.header.MdaHeader.{MdaHeader}
 use Rattle.mda_header.specs.Header.{IsCommitted, IsHeader, IsInside, IsPrecommitted, IsSound, locn_at}
-use Rattle.mda_header.specs.Written.{IsNoneOrInside, covered, header_bytes}
+use Rattle.mda_header.specs.HeaderBytes.{IsNoneOrInside, summed_bytes, header_bytes}
 
 abbrev of_fields : ℕ → ℕ → Option Locn → Option Locn → Bool → MdaHeader
 of_fields start size committed precommitted ignored = record { start = start; size = size; committed = committed; precommitted = precommitted; ignored = ignored }
@@ -32,14 +32,14 @@ entry_read sector rest at size flags locn fits sum_fits inside offset_is size_is
 
 committed_read : (start size : ℕ) (committed precommitted : Option Locn) (ignored : Bool) → size < 256 ^ 8 → IfSome committed (λ text. text.sum < 2 ^ 32) → IsNoneOrInside size committed
     → IsCommitted (header_bytes (of_fields start size committed precommitted ignored)) size committed
-unfolding header_bytes covered
+unfolding header_bytes summed_bytes
 committed_read start size None precommitted ignored fits sum inside = refl
 committed_read start size (Some locn) precommitted ignored fits sum inside =
     entry_read (header_bytes (of_fields start size (Some locn) precommitted ignored)) (drop 64 (header_bytes (of_fields start size (Some locn) precommitted ignored))) 40 size (if ignored then 1 else 0) locn fits sum inside refl refl refl
 
 precommitted_read : (start size : ℕ) (committed precommitted : Option Locn) (ignored : Bool) → size < 256 ^ 8 → IfSome precommitted (λ text. text.sum < 2 ^ 32) → IsNoneOrInside size precommitted
     → IsPrecommitted (header_bytes (of_fields start size committed precommitted ignored)) size precommitted
-unfolding header_bytes covered
+unfolding header_bytes summed_bytes
 precommitted_read start size None None ignored fits sum inside = λ is. let behind : 512 ≤ 0 = is.behind_header in absurd (omega arith)
 precommitted_read start size (Some first) None ignored fits sum inside = λ is. let behind : 512 ≤ 0 = is.behind_header in absurd (omega arith)
 precommitted_read start size None (Some locn) ignored fits sum inside =
@@ -49,24 +49,24 @@ precommitted_read start size (Some first) (Some locn) ignored fits sum inside =
 
 ignored_read : (start size : ℕ) (committed precommitted : Option Locn) (ignored : Bool)
     → IsTrue ignored ↔ (field 4 (header_bytes (of_fields start size committed precommitted ignored)) 60 % 2 ≡ 1)
-unfolding header_bytes covered
+unfolding header_bytes summed_bytes
 ignored_read start size None precommitted true = (λ _. refl, λ _. refl)
 ignored_read start size (Some locn) precommitted true = (λ _. refl, λ _. refl)
 ignored_read start size None precommitted false = (λ h. absurd (true≢false (sym h)), λ h. let no : 0 ≡ 1 = h in absurd (omega arith))
 ignored_read start size (Some locn) precommitted false = (λ h. absurd (true≢false (sym h)), λ h. let no : 0 ≡ 1 = h in absurd (omega arith))
 
-sound_read : (header : MdaHeader) → checksum LVM_CRC_START (covered header) < 256 ^ 4 → IsSound (header_bytes header)
-unfolding header_bytes covered
+sound_read : (header : MdaHeader) → checksum LVM_CRC_START (summed_bytes header) < 256 ^ 4 → IsSound (header_bytes header)
+unfolding header_bytes summed_bytes
 sound_read header fits = record {
-  checksum_xl = field-front 4 (checksum LVM_CRC_START (covered header)) (covered header) fits;
+  checksum_xl = field-front 4 (checksum LVM_CRC_START (summed_bytes header)) (summed_bytes header) fits;
   magic = refl;
   version = refl;
 }
 
 pub header_read : (start size : ℕ) (committed precommitted : Option Locn) (ignored : Bool) → start < 256 ^ 8 → size < 256 ^ 8 → IfSome committed (λ text. text.sum < 2 ^ 32) → IfSome precommitted (λ text. text.sum < 2 ^ 32)
-    → checksum LVM_CRC_START (covered (of_fields start size committed precommitted ignored)) < 256 ^ 4 → IsNoneOrInside size committed → IsNoneOrInside size precommitted
+    → checksum LVM_CRC_START (summed_bytes (of_fields start size committed precommitted ignored)) < 256 ^ 4 → IsNoneOrInside size committed → IsNoneOrInside size precommitted
     → IsHeader (header_bytes (of_fields start size committed precommitted ignored)) (of_fields start size committed precommitted ignored)
-unfolding header_bytes covered
+unfolding header_bytes summed_bytes
 header_read start size committed precommitted ignored start_fits size_fits sum sum' fits inside inside' = record {
   sound = sound_read (of_fields start size committed precommitted ignored) fits;
   start = field-front 8 start (drop 32 (header_bytes (of_fields start size committed precommitted ignored))) start_fits;

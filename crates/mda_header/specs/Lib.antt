@@ -1,2 +1,3 @@
 pub mod Header
-pub mod Written
+pub mod HeaderBytes
+pub mod ShownMda

@@ -2,7 +2,7 @@
 ghost use Rattle.std.specs.Prelude.{◌≡◌, ◌+◌, ◌^◌, ◌<◌, ◌≤◌, IfSome};
 ghost use Rattle.sector_base.specs.Fields.{with_bytes};
 ghost use Rattle.mda_header.specs.Header.{IsHeader};
-ghost use Rattle.mda_header.specs.Written.{CanBeRead, header_bytes, locn_bytes};
+ghost use Rattle.mda_header.specs.HeaderBytes.{CanBeRead, header_bytes, locn_bytes};
 
 use crate::{Locn, MdaHeader};
 use sector_base::{Bytes512, LVM_CRC_START, crc, put_u32, put_u64};

@@ -1,4 +1,4 @@
-mod Gathered
+mod EntryBytes
 mod NextPlace
 mod RingPlaces
 mod SpanLaws

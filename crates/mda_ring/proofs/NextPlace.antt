@@ -1,10 +1,10 @@
 -- The next text's place lies in the ring, and beside the committed text.
 use Rattle.std.proofs.Common.{◌≡◌, ℕ, ◌+◌, ◌-◌, ◌*◌, ◌/◌, ◌%◌, ◌<◌, ◌≤◌, min, Option, None, Some, ◌⊎◌, inl, inr, sym, ◌∙◌, arith}
 use Rattle.mda_header.specs.Header.{IsInside}
-use Rattle.mda_header.specs.Written.{IsNoneOrInside}
+use Rattle.mda_header.specs.HeaderBytes.{IsNoneOrInside}
 use Rattle.mda_header.specs.declared.header.Locn.{Locn}
 use Rattle.mda_ring.specs.declared.place.Place.{Place}
-use Rattle.mda_ring.specs.Planned.{IsApart, IsInRing, IsNext}
+use Rattle.mda_ring.specs.NextPlace.{IsApart, IsInRing, IsNext}
 use Rattle.mda_ring.specs.Ring.{byte_place, need, next_offset, ring_sectors, room}
 use Rattle.mda_ring.proofs.RingPlaces.{byte_place-cases, once_round}
 

@@ -5,7 +5,7 @@ use Rattle.sector_base.specs.Spans.{covers}
 use Rattle.sector_base.specs.declared.spans.Span.{Span}
 use Rattle.mda_ring.specs.declared.area.Area.{Area}
 use Rattle.mda_ring.specs.Areas.{IsArea}
-use Rattle.mda_ring.specs.Ring.{Touches, byte_place, ring_sector, touched}
+use Rattle.mda_ring.specs.Ring.{Touches, byte_place, ring_sector, touched_count}
 use Rattle.mda_ring.specs.RingSpans.{IsTouched, nth_sector, sectors_to_end, span_of_area, spans_cover}
 use Rattle.mda_ring.proofs.RingPlaces.{byte_place-cases, ring_sector-cases}
 
@@ -24,7 +24,7 @@ covers_tells span pv sector is =
 
 -- a sector of the area from the text's first one on is touched
 touched_ahead : (size offset count sector : ℕ) → size % 512 ≡ 0 → 1536 ≤ size → 512 ≤ offset → offset < size → 1 ≤ count → count ≤ size - 512
-    → offset / 512 ≤ sector → sector < size / 512 → sector - offset / 512 < touched size offset count → Touches size offset count sector
+    → offset / 512 ≤ sector → sector < size / 512 → sector - offset / 512 < touched_count size offset count → Touches size offset count sector
 touched_ahead size offset count sector whole big behind before some short from to within =
     let j : ℕ = 512 * sector - offset in
     let in_text : j < count = omega arith in (
@@ -38,7 +38,7 @@ touched_ahead size offset count sector whole big behind before some short from t
 
 -- a sector of the ring that comes round is touched
 touched_round : (size offset count sector : ℕ) → size % 512 ≡ 0 → 1536 ≤ size → 512 ≤ offset → offset < size → 1 ≤ count → count ≤ size - 512
-    → 1 ≤ sector → sector + sectors_to_end size offset ≤ touched size offset count → Touches size offset count sector
+    → 1 ≤ sector → sector + sectors_to_end size offset ≤ touched_count size offset count → Touches size offset count sector
 touched_round size offset count sector whole big behind before some short from within =
     let j : ℕ = 512 * sector + (size - 512) - offset in
     let in_text : j < count = omega arith in (
@@ -52,8 +52,8 @@ touched_round size offset count sector whole big behind before some short from w
 
 -- a touched sector comes from the text's first one on, or round
 touched_where : (size offset count sector : ℕ) → size % 512 ≡ 0 → 1536 ≤ size → 512 ≤ offset → offset < size → 1 ≤ count → count ≤ size - 512 → Touches size offset count sector
-    → ((offset / 512 ≤ sector) × (sector < size / 512) × (sector - offset / 512 < touched size offset count))
-    ⊎ ((1 ≤ sector) × (sector + sectors_to_end size offset ≤ touched size offset count))
+    → ((offset / 512 ≤ sector) × (sector < size / 512) × (sector - offset / 512 < touched_count size offset count))
+    ⊎ ((1 ≤ sector) × (sector + sectors_to_end size offset ≤ touched_count size offset count))
 touched_where size offset count sector whole big behind before some short is =
     let here : byte_place size offset is.0 / 512 ≡ sector = is.2 in
     let in_text : is.0 < count = is.1 in
@@ -67,11 +67,11 @@ touched_where size offset count sector whole big behind before some short is =
     ]
 
 -- the sectors, in order, where they come round
-pub order_round : (area : Area) (offset count : ℕ) → IsArea area → 512 ≤ offset → offset < area.size → sectors_to_end area.size offset < touched area.size offset count → (k : ℕ) → k < touched area.size offset count
-    → nth_sector (span_of_area area (offset / 512) (min (touched area.size offset count) (sectors_to_end area.size offset)), Some (span_of_area area 1 (touched area.size offset count - sectors_to_end area.size offset))) k
+pub order_round : (area : Area) (offset count : ℕ) → IsArea area → 512 ≤ offset → offset < area.size → sectors_to_end area.size offset < touched_count area.size offset count → (k : ℕ) → k < touched_count area.size offset count
+    → nth_sector (span_of_area area (offset / 512) (min (touched_count area.size offset count) (sectors_to_end area.size offset)), Some (span_of_area area 1 (touched_count area.size offset count - sectors_to_end area.size offset))) k
     ≡ area.start / 512 + ring_sector area.size offset k
 order_round area offset count good behind before round k within =
-    let all : ℕ = touched area.size offset count in
+    let all : ℕ = touched_count area.size offset count in
     let to_end : ℕ = sectors_to_end area.size offset in
     let big : 1536 ≤ area.size = good.has_ring in
     let whole : area.size % 512 ≡ 0 = good.size_is_whole in
@@ -81,11 +81,11 @@ order_round area offset count good behind before round k within =
     ]
 
 -- the sectors that are covered, where they come round
-pub cover_round : (area : Area) (offset count : ℕ) → IsArea area → 512 ≤ offset → offset < area.size → 1 ≤ count → count ≤ area.size - 512 → sectors_to_end area.size offset < touched area.size offset count → (pv sector : ℕ)
-    → IsTrue (spans_cover (span_of_area area (offset / 512) (min (touched area.size offset count) (sectors_to_end area.size offset)), Some (span_of_area area 1 (touched area.size offset count - sectors_to_end area.size offset))) pv sector)
+pub cover_round : (area : Area) (offset count : ℕ) → IsArea area → 512 ≤ offset → offset < area.size → 1 ≤ count → count ≤ area.size - 512 → sectors_to_end area.size offset < touched_count area.size offset count → (pv sector : ℕ)
+    → IsTrue (spans_cover (span_of_area area (offset / 512) (min (touched_count area.size offset count) (sectors_to_end area.size offset)), Some (span_of_area area 1 (touched_count area.size offset count - sectors_to_end area.size offset))) pv sector)
     ↔ IsTouched area offset count pv sector
 cover_round area offset count good behind before some short round pv sector =
-    let all : ℕ = touched area.size offset count in
+    let all : ℕ = touched_count area.size offset count in
     let to_end : ℕ = sectors_to_end area.size offset in
     let first : Span = span_of_area area (offset / 512) (min all to_end) in
     let second : Span = span_of_area area 1 (all - to_end) in
@@ -116,11 +116,11 @@ cover_round area offset count good behind before some short round pv sector =
     )
 
 -- the sectors that are covered, where none comes round
-pub cover_ahead : (area : Area) (offset count : ℕ) → IsArea area → 512 ≤ offset → offset < area.size → 1 ≤ count → count ≤ area.size - 512 → touched area.size offset count ≤ sectors_to_end area.size offset → (pv sector : ℕ)
-    → IsTrue (spans_cover (span_of_area area (offset / 512) (min (touched area.size offset count) (sectors_to_end area.size offset)), None) pv sector)
+pub cover_ahead : (area : Area) (offset count : ℕ) → IsArea area → 512 ≤ offset → offset < area.size → 1 ≤ count → count ≤ area.size - 512 → touched_count area.size offset count ≤ sectors_to_end area.size offset → (pv sector : ℕ)
+    → IsTrue (spans_cover (span_of_area area (offset / 512) (min (touched_count area.size offset count) (sectors_to_end area.size offset)), None) pv sector)
     ↔ IsTouched area offset count pv sector
 cover_ahead area offset count good behind before some short straight pv sector =
-    let all : ℕ = touched area.size offset count in
+    let all : ℕ = touched_count area.size offset count in
     let to_end : ℕ = sectors_to_end area.size offset in
     let first : Span = span_of_area area (offset / 512) (min all to_end) in
     let big : 1536 ≤ area.size = good.has_ring in

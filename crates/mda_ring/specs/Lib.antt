@@ -1,5 +1,6 @@
 pub mod Areas
-pub mod Planned
+pub mod NextPlace
 pub mod Ring
 pub mod RingSpans
+pub mod ShownRing
 pub mod Texts

@@ -21,13 +21,13 @@ ring_sectors size = size / 512 - 1
 
 -- how many sectors so many bytes from the offset on touch: those from the first one's to the last one's, and never more
 -- than the ring has, where the last byte is back in the sector of the first
-abbrev pub touched : ℕ → ℕ → ℕ → ℕ
-touched size offset count = min (ring_sectors size) (need (offset + count) - offset / 512)
+abbrev pub touched_count : ℕ → ℕ → ℕ → ℕ
+touched_count size offset count = min (ring_sectors size) (need (offset + count) - offset / 512)
 
 -- how many sectors the committed text leaves
 abbrev pub room : ℕ → Option Locn → ℕ
 room size None = ring_sectors size
-room size (Some text) = ring_sectors size - touched size text.offset text.size
+room size (Some text) = ring_sectors size - touched_count size text.offset text.size
 
 -- where the next text begins: at the first multiple of 512 at or after the committed text's end, which goes on at 512
 -- from the area's end on, and at 512 where no text is committed

@@ -4,7 +4,7 @@ use Rattle.std.specs.Option.{option_map_or}
 use Rattle.sector_base.specs.Spans.{covers}
 use Rattle.sector_base.specs.declared.spans.Span.{Span}
 use Rattle.mda_ring.specs.declared.area.Area.{Area}
-use Rattle.mda_ring.specs.Ring.{Touches, touched}
+use Rattle.mda_ring.specs.Ring.{Touches, touched_count}
 
 -- how many sectors there are from the first one of a text at this offset to the area's end
 abbrev pub sectors_to_end : ℕ → ℕ → ℕ
@@ -18,7 +18,7 @@ span_of_area area first count = record { pv = area.pv; first = area.start / 512 
 -- start on
 abbrev pub ring_spans : Area → ℕ → ℕ → Span × Option Span
 ring_spans area offset count =
-    let all : ℕ = touched area.size offset count in
+    let all : ℕ = touched_count area.size offset count in
     let to_end : ℕ = sectors_to_end area.size offset in
     (span_of_area area (offset / 512) (min all to_end), if nat_lt to_end all then Some (span_of_area area 1 (all - to_end)) else None)
 

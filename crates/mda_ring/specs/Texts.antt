@@ -36,16 +36,16 @@ IsDamaged locn bytes NoMemory = Unit {0}
 IsDamaged locn bytes (TooLarge need room) = ⊥
 
 -- bytes with zeros behind them, up to a whole sector
-abbrev pub filled : List ℕ → List ℕ
-filled bytes = bytes ++ replicate (512 - length bytes) 0
+abbrev pub with_zeros : List ℕ → List ℕ
+with_zeros bytes = bytes ++ replicate (512 - length bytes) 0
 
 -- sector number k of a text that is put into sectors, with zeros behind the text
 abbrev pub text_sector : List ℕ → ℕ → List ℕ
-text_sector text k = filled (take 512 (drop (512 * k) text))
+text_sector text k = with_zeros (take 512 (drop (512 * k) text))
 
 -- the text in so many sectors, with zeros behind it
-abbrev pub scattered : List ℕ → ℕ → List (List ℕ)
-scattered text sectors = map (text_sector text) (range_with_len 0 sectors)
+abbrev pub text_sectors : List ℕ → ℕ → List (List ℕ)
+text_sectors text sectors = map (text_sector text) (range_with_len 0 sectors)
 
 -- the byte at this place of the sectors, one behind the other, and the first behind the last
 abbrev pub byte_in : List (List ℕ) → ℕ → ℕ

@@ -6,22 +6,20 @@
 #![tactic(auto)]
 
 mod area;
-mod areas;
 mod counts;
-mod gathering;
+mod next_place;
 mod place;
-mod planning;
 mod refusal;
 mod ring_spans;
-mod scattering;
 #[cfg(test)]
 mod tests;
+mod text_read;
+mod text_write;
 
-pub use area::Area;
-pub use areas::Areas;
-pub use gathering::gather;
+pub use area::{Area, Areas};
+pub use next_place::plan_next;
 pub use place::Place;
-pub use planning::plan_next;
 pub use refusal::RingRefusal;
 pub use ring_spans::spans;
-pub use scattering::scatter;
+pub use text_read::gather;
+pub use text_write::scatter;

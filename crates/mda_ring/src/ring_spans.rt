@@ -1,7 +1,7 @@
 //! Which sectors a text stands in.
 ghost use Rattle.std.specs.Prelude.{◌≡◌, ℕ, ◌+◌, ◌-◌, ◌/◌, ◌<◌, ◌≤◌, ◌^◌, ◌↔◌, IsTrue, IfSome};
 ghost use Rattle.mda_ring.specs.Areas.{IsArea};
-ghost use Rattle.mda_ring.specs.Ring.{ring_sector, touched};
+ghost use Rattle.mda_ring.specs.Ring.{ring_sector, touched_count};
 ghost use Rattle.mda_ring.specs.RingSpans.{IsInArea, IsTouched, nth_sector, ring_spans, span_of_area, spans_count, spans_cover};
 
 use crate::Area;
@@ -21,8 +21,8 @@ pub fn spans(area: &Area, offset: u64, size: u64) -> (Span, Option<Span>)
     ensures spans { result ≡ ring_spans area.now offset size }
 
     // They have as many sectors as the bytes touch, in the order of the bytes, and all lie in the area.
-    ensures count { spans_count result ≡ touched area.now.size offset size }
-    ensures order { (k : ℕ) → k < touched area.now.size offset size → nth_sector result k ≡ area.now.start / 512 + ring_sector area.now.size offset k }
+    ensures count { spans_count result ≡ touched_count area.now.size offset size }
+    ensures order { (k : ℕ) → k < touched_count area.now.size offset size → nth_sector result k ≡ area.now.start / 512 + ring_sector area.now.size offset k }
     ensures in_area { IsInArea area.now result.0 × IfSome result.1 (IsInArea area.now) }
 
     // They cover exactly the sectors that the bytes touch.

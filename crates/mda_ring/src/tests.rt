@@ -125,8 +125,8 @@ fn gathered(
 ) -> Result<Text, RingRefusal>
     requires { IsInside 4096 text }
 {
-    let touched = touched_sectors(4_096, text.offset, text.size);
-    assert!(rt; sectors.len() as u64 == touched);
+    let touched_count = touched_sectors(4_096, text.offset, text.size);
+    assert!(rt; sectors.len() as u64 == touched_count);
     gather(alloc, &AREA, text, sectors)
 }
 
@@ -178,9 +178,9 @@ fn bytes_of_a_text_come_round(rt: HostRuntime) -> Result<(), Fail> {
         ((1_000, 3_584, 0x0E13_5AB3), &[1, 2, 3, 4, 5, 6, 7]),
         ((4_095, 3_584, 0xD545_56C6), &[7, 1, 2, 3, 4, 5, 6]),
     ];
-    for ((offset, size, sum), touched) in rows {
+    for ((offset, size, sum), touched_count) in rows {
         let mut list = Vec::new(rt.alloc());
-        for k in touched {
+        for k in touched_count {
             list.push(pattern_sector(*k, 4_096))?;
         }
         let stands = entry(&rt, offset, size, sum);
@@ -238,19 +238,16 @@ fn areas_are_given_back(rt: HostRuntime) -> Result<(), Fail> {
 }
 
 #[test]
-fn says_why(rt: HostRuntime) -> Result<(), Fail> {
+fn prints_each_refusal(rt: HostRuntime) -> Result<(), Fail> {
     let rows = [
-        (RingRefusal::NoMemory, "no memory"),
-        (
-            RingRefusal::TooLarge { need: 5, room: 4 },
-            "the text needs 5 sectors, and the ring has room for 4",
-        ),
+        (RingRefusal::NoMemory, "NoMemory"),
+        (RingRefusal::TooLarge { need: 5, room: 4 }, "TooLarge 5 4"),
         (
             RingRefusal::SumDiffers {
                 said: 17,
                 found: 0xF597_A6CF,
             },
-            "the entry says the checksum 00000011, and the text has f597a6cf",
+            "SumDiffers 00000011 f597a6cf",
         ),
     ];
     for (refusal, text) in rows {

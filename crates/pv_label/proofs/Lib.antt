@@ -1,2 +1,2 @@
+mod LabelBytes
 mod Refusals
-mod Sealing

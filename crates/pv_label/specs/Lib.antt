@@ -1,3 +1,5 @@
-pub mod Label
-pub mod Sealed
 pub mod First
+pub mod Label
+pub mod LabelBytes
+pub mod LabelSectors
+pub mod ShownLabel

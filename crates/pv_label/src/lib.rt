@@ -11,6 +11,6 @@ mod seal;
 #[cfg(test)]
 mod tests;
 
-pub use read::{LabelFound, begins_like_label, read_label};
+pub use read::{LABEL_SECTORS, LabelFound, begins_like_label, read_label};
 pub use refusal::LabelRefusal;
 pub use seal::seal_label;

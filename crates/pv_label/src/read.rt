@@ -8,6 +8,9 @@ ghost use Rattle.pv_label.specs.Label.{BeginsLikeLabel, IsFirstLabel, IsLabel, I
 use crate::LabelRefusal;
 use sector_base::{Bytes512, LVM_CRC_START, crc, get_u32, get_u64};
 
+/// How many sectors may hold the label of a disk, from its first on.
+pub const LABEL_SECTORS: u32 = 4;
+
 /// Where the label is.
 #[derive(Clone, Copy, Debug, Drop, PartialEq, Eq)]
 pub struct LabelFound {
@@ -22,7 +25,7 @@ pub fn read_label(sectors: &[Bytes512; 4]) -> Result<LabelFound, LabelRefusal>
     ensures { MatchResult result (λ found. IsFirstLabel sectors.now found.sector) (IsLabelRefusal sectors.now) }
 {
     let mut refusal = LabelRefusal::NoLabel;
-    for number in 0..4u32 {
+    for number in 0..LABEL_SECTORS {
         match test_label(&sectors[number as usize], number) {
             Ok(()) => return Ok(LabelFound { sector: number }),
             Err(cause) => refusal = first_of(refusal, cause),

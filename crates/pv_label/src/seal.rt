@@ -1,7 +1,7 @@
 //! Writing the label.
 ghost use Rattle.std.specs.Prelude.{◌≡◌, ◌<◌, drop};
 ghost use Rattle.pv_label.specs.Label.{IsLabel};
-ghost use Rattle.pv_label.specs.Sealed.{sealed};
+ghost use Rattle.pv_label.specs.LabelBytes.{with_label};
 
 use sector_base::{Bytes512, LVM_CRC_START, crc, put_u32, put_u64};
 
@@ -10,7 +10,7 @@ pub fn seal_label(contents: &mut Bytes512, sector: u32)
     requires { sector < 4 }
     ensures label { IsLabel contents.new sector }
     ensures rest { drop 32 contents.new ≡ drop 32 contents.old }
-    ensures bytes { contents.new ≡ sealed contents.old sector }
+    ensures bytes { contents.new ≡ with_label contents.old sector }
 {
     put_u32(contents, 20, 32);
     contents.put(24, b"LVM2 001");

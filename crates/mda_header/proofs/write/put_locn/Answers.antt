@@ -2,14 +2,14 @@
 use Rattle.std.proofs.Common.{◌≡◌, ℕ, ◌+◌, List, ◌++◌, length, refl, ap, sym, ◌∙◌, arith}
 use Rattle.sector_base.specs.Fields.{little_bytes, with_bytes}
 use Rattle.mda_header.specs.declared.write.TheConstants.{NO_TEXT}
-use Rattle.mda_header.proofs.Writing.{locn_bytes-fields, one_more}
+use Rattle.mda_header.proofs.HeaderBytes.{locn_bytes-fields, one_more}
 use Rattle.mda_header.proofs.write.put_locn.Goals as goal
 
 pub returns-clause-bytes : goal.returns-clause-bytes
 returns-clause-bytes c =
     let base = c.args.sector.now in
     let at = c.args.at in
-    let size : length base ≡ 512 = ap length (sym c.as_bytes.ensures) ∙ (omega arith) in
+    let size : length base ≡ 512 = ap length (sym c.as_bytes.ensures.value) ∙ (omega arith) in
     let text = c.unwrap_or-locn.result in
     let a : List ℕ = little_bytes 8 text.offset in
     let b : List ℕ = little_bytes 8 text.size in

@@ -6,16 +6,16 @@ use Rattle.sector_base.specs.Fields.{little_bytes, with_bytes}
 use Rattle.sector_base.specs.declared.checksum.TheConstants.{LVM_CRC_START}
 use Rattle.sector_base.proofs.Puts.{drop-with_bytes, length-with_bytes, with_bytes-behind, with_bytes-start}
 use Rattle.pv_label.specs.Label.{IsLabel}
-use Rattle.pv_label.specs.Sealed.{covered, sealed}
-use Rattle.pv_label.proofs.Sealing.{IsLabel-sealed, drop-sealed}
+use Rattle.pv_label.specs.LabelBytes.{summed_bytes, with_label}
+use Rattle.pv_label.proofs.LabelBytes.{IsLabel-with_label, drop-with_label}
 use Rattle.pv_label.proofs.seal.seal_label.Goals as goal
 
 -- the bytes that the checksum covers, once they are written
-covered_is : (c : goal.After-put_u32-2) → (length c.args.contents.now ≡ 512) × (length c.put.new.self ≡ 512) × (drop 20 c.put.new.self ≡ covered c.args.contents.now)
+covered_is : (c : goal.After-put_u32-2) → (length c.args.contents.now ≡ 512) × (length c.put.new.self ≡ 512) × (drop 20 c.put.new.self ≡ summed_bytes c.args.contents.now)
 covered_is c =
     let old = c.args.contents.now in
     let tail : List ℕ = little_bytes 4 32 ++ codes "LVM2 001" in
-    let lowest : length c.put.new.self ≡ 512 = ap length (sym c.as_bytes.ensures) ∙ (omega arith) in
+    let lowest : length c.put.new.self ≡ 512 = ap length (sym c.as_bytes.ensures.value) ∙ (omega arith) in
     let written : length (with_bytes (with_bytes old 20 (little_bytes 4 32)) 24 (codes "LVM2 001")) ≡ 512 =
     ap length (sym (c.put.ensures ∙ ap (λ (s : List ℕ). with_bytes s 24 (codes "LVM2 001")) c.put_u32.ensures)) ∙ lowest in
     let fits : length old ≡ 512 =
@@ -25,18 +25,18 @@ covered_is c =
     ∙ with_bytes-behind old 20 (little_bytes 4 32) 24 (codes "LVM2 001") refl (omega arith) in
     (fits, lowest, ap (drop 20) low ∙ drop-with_bytes old 20 tail (omega arith))
 
-sum_is : (c : goal.After-put_u32-2) → c.crc-sum.result ≡ checksum LVM_CRC_START (covered c.args.contents.now)
+sum_is : (c : goal.After-put_u32-2) → c.crc-sum.result ≡ checksum LVM_CRC_START (summed_bytes c.args.contents.now)
 sum_is c =
     c.crc-sum.ensures
-    ∙ ap (checksum LVM_CRC_START) (between_to_end c.as_bytes.result.now 20 512 (omega arith) ∙ ap (drop 20) c.as_bytes.ensures ∙ (covered_is c).2)
+    ∙ ap (checksum LVM_CRC_START) (between_to_end c.as_bytes.result.now 20 512 (omega arith) ∙ ap (drop 20) c.as_bytes.ensures.value ∙ (covered_is c).2)
 
-sealed_is : (c : goal.After-put_u32-2) → c.put_u32-2.new.s ≡ sealed c.args.contents.now c.args.sector
+sealed_is : (c : goal.After-put_u32-2) → c.put_u32-2.new.s ≡ with_label c.args.contents.now c.args.sector
 sealed_is c =
     let old = c.args.contents.now in
     let low = c.put.new.self in
     let label : List ℕ = codes "LABELONE" in
     let number : List ℕ = little_bytes 8 c.args.sector in
-    let sum : List ℕ = little_bytes 4 (checksum LVM_CRC_START (covered old)) in
+    let sum : List ℕ = little_bytes 4 (checksum LVM_CRC_START (summed_bytes old)) in
     let known = covered_is c in
     let two : c.put_u64.new.s ≡ with_bytes low 0 (label ++ number) =
     c.put_u64.ensures
@@ -54,10 +54,10 @@ pub returns-clause-bytes : goal.returns-clause-bytes
 returns-clause-bytes c = sealed_is c
 
 pub returns-clause-rest : goal.returns-clause-rest
-returns-clause-rest c = ap (drop 32) (sealed_is c) ∙ drop-sealed c.args.contents.now c.args.sector
+returns-clause-rest c = ap (drop 32) (sealed_is c) ∙ drop-with_label c.args.contents.now c.args.sector
 
 pub returns-clause-label : goal.returns-clause-label
 returns-clause-label c =
     let P : List ℕ → Type 0 = λ s. IsLabel s c.args.sector in
-    let fits : checksum LVM_CRC_START (covered c.args.contents.now) < 256 ^ 4 = subst (λ (n : ℕ). n < 256 ^ 4) (sum_is c) c.crc-sum.type_inv in
-    subst P (sym (sealed_is c)) (IsLabel-sealed c.args.contents.now c.args.sector (omega arith) fits)
+    let fits : checksum LVM_CRC_START (summed_bytes c.args.contents.now) < 256 ^ 4 = subst (λ (n : ℕ). n < 256 ^ 4) (sum_is c) c.crc-sum.type_inv in
+    subst P (sym (sealed_is c)) (IsLabel-with_label c.args.contents.now c.args.sector (omega arith) fits)
