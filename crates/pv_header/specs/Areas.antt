@@ -1,5 +1,5 @@
 -- Where the areas of a physical volume may lie on a disk.
-use Rattle.std.specs.Prelude.{◌≡◌, ℕ, ◌+◌, ◌%◌, Bool, not, ◌||◌, ◌==◌, nat_lt, if◌then◌else◌, min, max, Option, None, List, [], ◌∷◌, ◌++◌, map, filter, find, unwrap_or}
+use Rattle.std.specs.Prelude.{◌≡◌, ℕ, ◌+◌, ◌%◌, Bool, not, ◌||◌, ◌&&◌, ◌==◌, nat_lt, if◌then◌else◌, min, max, Option, None, List, [], ◌∷◌, ◌++◌, map, filter, find, unwrap_or}
 use Rattle.std.specs.List.{reduce}
 use Rattle.pv_header.specs.declared.extent_list.Extent.{Extent}
 
@@ -11,11 +11,16 @@ is_outside disk_bytes area = nat_lt disk_bytes (area.offset + area.size)
 abbrev pub is_misshapen : Extent → Bool
 is_misshapen area = not (area.offset % 512 == 0) || not (area.size % 512 == 0) || nat_lt area.offset 2048 || nat_lt area.size 1536
 
--- where the next of these areas after a place begins, and the stop where none does
-unfoldable pub next_start : List Extent → ℕ → ℕ → ℕ
-next_start areas place stop = unwrap_or (reduce min (filter (nat_lt place) (map (λ area. area.offset) areas))) stop
+-- whether an area comes next at or after a place: it begins after it, or it begins there and has a size of its own
+abbrev pub comes_next : ℕ → Extent → Bool
+comes_next place area = nat_lt place area.offset || (area.offset == place && not (area.size == 0))
 
--- where an area counts as ending: one of size 0 where the next of all areas begins, or at the disk's end
+-- where the next of these areas at or after a place begins, and the stop where none does
+unfoldable pub next_start : List Extent → ℕ → ℕ → ℕ
+next_start areas place stop = unwrap_or (reduce min (map (λ area. area.offset) (filter (comes_next place) areas))) stop
+
+-- where an area counts as ending: one of size 0 where the next of all areas at or after its offset begins, or at the
+-- disk's end. Where another begins with it, it is empty.
 abbrev pub end_of : List Extent → ℕ → Extent → ℕ
 end_of areas disk_bytes area = if area.size == 0 then next_start areas area.offset disk_bytes else area.offset + area.size
 

@@ -8,8 +8,8 @@ abbrev pub data_start_of : List Extent → ℕ → ℕ
 data_start_of [] disk = disk
 data_start_of (area ∷ more) disk = max 8 ((area.offset + 511) / 512)
 
--- the one after the last: where the first data area ends, rounded down; one of size 0 ends where the next metadata area
--- begins, or at the disk's end
+-- the one after the last: where the first data area ends, rounded down; one of size 0 ends where the next metadata area at
+-- or after its offset begins, or at the disk's end
 abbrev pub data_end_of : List Extent → List Extent → ℕ → ℕ
 data_end_of [] areas disk = disk
 data_end_of (area ∷ more) areas disk = end_of areas (disk * 512) area / 512

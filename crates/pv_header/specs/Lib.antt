@@ -3,3 +3,4 @@ pub mod DataSectors
 pub mod Extents
 pub mod PvHeader
 pub mod PvRefusal
+pub mod ShownPv

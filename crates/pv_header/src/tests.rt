@@ -256,31 +256,58 @@ fn reads_other_headers(rt: HostRuntime) -> Result<(), Fail> {
 }
 
 #[test]
-fn says_why(rt: HostRuntime) -> Result<(), Fail> {
+fn reads_an_empty_data_area(rt: HostRuntime) -> Result<(), Fail> {
+    // The device's size and the data's offset of what `pvcreate --metadatacopies 2` of lvm2 2.03.16 writes on 2 MiB,
+    // with `--dataalignment 2m` on 3 MiB, and with `--dataalignment 8m` on 9 MiB. The second metadata area begins with
+    // the data, and has one MiB.
+    let rows: [(u64, u64); 3] = [
+        (2_097_152, 1_048_576),
+        (3_145_728, 2_097_152),
+        (9_437_184, 8_388_608),
+    ];
+    for (device, data) in rows {
+        let numbers = [
+            (64, device),
+            (72, data),
+            (104, 4_096),
+            (112, data.saturating_sub(4_096)),
+            (120, data),
+            (128, 1_048_576),
+        ];
+        let disk = device / 512;
+        let header = read_pv(rt.alloc(), &sector_of(&numbers), disk)?;
+        assert_eq!(rt; header.areas.as_slice().len(), 2);
+        assert_eq!(rt;
+            (header.data_start(disk), header.data_end(disk)),
+            (data / 512, data / 512)
+        );
+    }
+    Ok(())
+}
+
+#[test]
+fn prints_each_refusal(rt: HostRuntime) -> Result<(), Fail> {
     let rows = [
-        (PvRefusal::NoMemory, "no memory"),
-        (PvRefusal::BadId(5), "no character of an id at place 5"),
-        (PvRefusal::ListUnended(3), "list 3 has no end"),
+        (PvRefusal::NoMemory, "NoMemory"),
+        (PvRefusal::BadId(5), "BadId 5"),
+        (PvRefusal::ListUnended(3), "ListUnended 3"),
         (
             PvRefusal::AreaOutside {
                 offset: 1,
                 size: 2,
                 disk_bytes: 3,
             },
-            "the area of 2 bytes at 1 is outside the disk of 3 bytes",
+            "AreaOutside 1 2 3",
         ),
-        (
-            PvRefusal::AreaShape { offset: 1, size: 2 },
-            "the metadata area of 2 bytes at 1 is misshapen",
-        ),
+        (PvRefusal::AreaShape { offset: 1, size: 2 }, "AreaShape 1 2"),
         (
             PvRefusal::AreasOverlap {
                 first: 1,
                 second: 2,
             },
-            "the areas at 1 and 2 overlap",
+            "AreasOverlap 1 2",
         ),
-        (PvRefusal::Bootloader(4), "there is a bootloader area at 4"),
+        (PvRefusal::Bootloader(4), "Bootloader 4"),
     ];
     for (refusal, text) in rows {
         let said = format!(in rt.alloc(); "{refusal}")?;

@@ -18,4 +18,4 @@ unreachable-requires-in-Err-BadHyphen c = c.in-Err-BadHyphen.ensures.bad_hyphen 
 pub returns-in-Err-BadChar : goal.returns-in-Err-BadChar
 returns-in-Err-BadChar c =
     let said = (c.in-Err-BadChar.ensures.bad_char c.in-Err-BadChar.place).0 (ap Err c.in-Err-BadChar.field-0-is) in
-    subst (λ s. IsFirstMisfit fits_plain (slice_range s 32 64) c.in-Err-BadChar.place) c.as_bytes.ensures said.1
+    subst (λ s. IsFirstMisfit fits_plain (slice_range s 32 64) c.in-Err-BadChar.place) c.as_bytes.ensures.value said.1
