@@ -1,0 +1,17 @@
+-- What calls leave that complete all that they submit.
+use Rattle.std.specs.Prelude.{◌≡◌, ◌≤◌, ℕ, ◌+◌, ◌*◌, []}
+use Rattle.disk_model.specs.State.{State}
+
+-- nothing is in flight, and the disks have their sizes
+pub record IsIdleAgain (old new : State) : Type 0 where
+  pub idle : new.in_flight ≡ []
+  pub sizes : new.sizes ≡ old.sizes
+
+-- at most so many operations were carried out, in two steps each, and at most so many operations and sectors used up;
+-- nothing is in flight, and the disks have their sizes
+pub record SpendsAtMost (old : State) (ops sectors : ℕ) (new : State) : Type 0 where
+  pub idle : new.in_flight ≡ []
+  pub sizes : new.sizes ≡ old.sizes
+  pub spare_ops : old.spare_ops ≤ new.spare_ops + ops
+  pub spare_sectors : old.spare_sectors ≤ new.spare_sectors + sectors
+  pub steps : new.steps ≤ old.steps + 2 * ops
