@@ -1,0 +1,4 @@
+pub mod Fresh
+pub mod Removed
+pub mod Telling
+pub mod Completion
