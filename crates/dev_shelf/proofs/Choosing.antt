@@ -6,13 +6,13 @@ use Rattle.std.proofs.lemmas.List.Concat.{flat_map-append}
 use Rattle.std.proofs.lemmas.List.FromFn.{map-range_with_len_more}
 use Rattle.std.proofs.Math.ListN.{get_or-append}
 use Rattle.std.proofs.Math.Seq.{get_or-append_seam}
-use Rattle.dev_shelf.specs.Steps.{Told}
-use Rattle.dev_shelf.specs.CrashValues.{MayLeave}
-use Rattle.dev_shelf.specs.ValueList.{values}
-use Rattle.dev_shelf.specs.ChosenImage.{chosen, disk_values, row_values, value_number}
+use Rattle.disk_model.specs.Steps.{Told}
+use Rattle.disk_model.specs.CrashValues.{MayLeave}
+use Rattle.disk_model.specs.ValueList.{values}
+use Rattle.dev_shelf.specs.ChosenImage.{chosen_values, disk_values, row_values, value_number}
 use Rattle.dev_shelf.specs.DiskRow.{image_of}
 use Rattle.dev_shelf.specs.RowValues.{choices_left, IsPossible, TakesSectors, TakesDisks}
-use Rattle.dev_shelf.proofs.ValueLists.{InValues, value_in, may_of}
+use Rattle.disk_model.proofs.ValueLists.{InValues, value_in, may_of}
 
 -- a test is true or false
 true_or_false : (b : Bool) → (b ≡ true) ⊎ (b ≡ false)
@@ -20,7 +20,7 @@ true_or_false true = inl refl
 true_or_false false = inr refl
 
 -- what is chosen of two lists, one after another
-chosen_append : (xs ys : List (List (Option ℕ × List ℕ))) (choices : List ℕ) → chosen (xs ++ ys) choices ≡ chosen xs choices ++ chosen ys (choices_left xs choices)
+chosen_append : (xs ys : List (List (Option ℕ × List ℕ))) (choices : List ℕ) → chosen_values (xs ++ ys) choices ≡ chosen_values xs choices ++ chosen_values ys (choices_left xs choices)
 chosen_append [] ys choices = refl
 chosen_append (all ∷ rest) ys choices =
     ⊎_elim
@@ -39,7 +39,7 @@ takes_no_sectors told pv choices = record { chosen_so = refl; left_so = refl; ma
 
 -- one sector more
 pub takes_one_more : (told : Told) (pv count : ℕ) (choices : List ℕ) (sectors : List (List ℕ)) (left : List ℕ) (all : List (Option ℕ × List ℕ)) (value : List ℕ) (left' : List ℕ)
-    → TakesSectors told pv count choices sectors left → all ≡ values told.opened told.steps pv count → chosen (all ∷ []) left ≡ value ∷ [] → left' ≡ choices_left (all ∷ []) left
+    → TakesSectors told pv count choices sectors left → all ≡ values told.opened told.steps pv count → chosen_values (all ∷ []) left ≡ value ∷ [] → left' ≡ choices_left (all ∷ []) left
     → (k : ℕ) × (k < length all) × ((slice_index_or all k (None, [])).1 ≡ value) → TakesSectors told pv (count + 1) choices (sectors ++ value ∷ []) left'
 takes_one_more told pv count choices sectors left all value left' so_far is here rest place =
     let f : ℕ → List (Option ℕ × List ℕ) = λ sector. values told.opened told.steps pv sector in
@@ -47,9 +47,9 @@ takes_one_more told pv count choices sectors left all value left' so_far is here
     record {
       chosen_so =
           ap (λ (l : List (List ℕ)). l ++ value ∷ []) so_far.chosen_so
-          ∙ ap (λ (l : List (List ℕ)). chosen (disk_values told pv count) choices ++ l) (sym here ∙ ap (λ (l : List ℕ). chosen (all ∷ []) l) so_far.left_so)
+          ∙ ap (λ (l : List (List ℕ)). chosen_values (disk_values told pv count) choices ++ l) (sym here ∙ ap (λ (l : List ℕ). chosen_values (all ∷ []) l) so_far.left_so)
           ∙ sym (chosen_append (disk_values told pv count) (all ∷ []) choices)
-          ∙ ap (λ (l : List (List (Option ℕ × List ℕ))). chosen l choices) (sym more);
+          ∙ ap (λ (l : List (List (Option ℕ × List ℕ))). chosen_values l choices) (sym more);
       left_so =
           rest
           ∙ ap (λ (l : List ℕ). choices_left (all ∷ []) l) so_far.left_so
@@ -98,9 +98,9 @@ takes_disk_more told sizes count choices disks left sectors left' so_far lt disk
       chosen_so =
           joined
           ∙ ap (λ (l : List (List ℕ)). l ++ sectors) so_far.chosen_so
-          ∙ ap (λ (l : List (List ℕ)). chosen before choices ++ l) (disk.chosen_so ∙ ap (λ (l : List ℕ). chosen now l) so_far.left_so)
+          ∙ ap (λ (l : List (List ℕ)). chosen_values before choices ++ l) (disk.chosen_so ∙ ap (λ (l : List ℕ). chosen_values now l) so_far.left_so)
           ∙ sym (chosen_append before now choices)
-          ∙ ap (λ (l : List (List (Option ℕ × List ℕ))). chosen l choices) (sym more);
+          ∙ ap (λ (l : List (List (Option ℕ × List ℕ))). chosen_values l choices) (sym more);
       left_so =
           disk.left_so
           ∙ ap (λ (l : List ℕ). choices_left now l) so_far.left_so

@@ -7,16 +7,16 @@ use Rattle.std.proofs.Math.ListN.{get_or-map}
 use Rattle.sector_base.specs.declared.spans.Span.{Span}
 use Rattle.sector_base.specs.Spans.{covers}
 use Rattle.dev_shelf.specs.declared.mem_shelf.disk_row.DiskRow.{DiskRow}
-use Rattle.dev_shelf.specs.Steps.{Image, Reading, Writing, Flushing, Step, Submitted, Completed, Told, now_after, value_at}
-use Rattle.dev_shelf.specs.CrashValues.{MayLeave, IsImage}
-use Rattle.dev_shelf.specs.Record.{IsRecord}
-use Rattle.dev_shelf.specs.Operations.{Fills}
-use Rattle.dev_shelf.specs.Moments.{at_moment}
+use Rattle.disk_model.specs.Steps.{Image, Reading, Writing, Flushing, Step, Submitted, Completed, Told, now_after, value_at}
+use Rattle.disk_model.specs.CrashValues.{MayLeave, IsImage}
+use Rattle.disk_model.specs.Record.{IsRecord}
+use Rattle.disk_model.specs.Operations.{Fills}
+use Rattle.disk_model.specs.Moments.{at_moment}
 use Rattle.dev_shelf.specs.ChosenImage.{IsChosen}
 use Rattle.dev_shelf.specs.DiskRow.{image_of, lengths_of, sizes_of, steps_of}
 use Rattle.dev_shelf.specs.DiskRowInvariant.{AllWithin, IsGood}
 use Rattle.dev_shelf.specs.RowValues.{TakesDisks, told_after}
-use Rattle.dev_shelf.proofs.NowStands.{now_image}
+use Rattle.disk_model.proofs.NowStands.{now_image}
 use Rattle.dev_shelf.proofs.RecordMoments.{steps_at, record_at, within_at}
 
 -- a span that lies in its disk covers no sector past the end

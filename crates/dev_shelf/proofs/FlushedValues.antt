@@ -5,11 +5,11 @@ use Rattle.dev_shelf.specs.declared.mem_shelf.recorded.RecordedWork.{RecordedWor
 use Rattle.dev_shelf.specs.declared.mem_shelf.recorded.RecordedWork.TheVariants.{Flushes}
 use Rattle.dev_shelf.specs.declared.mem_shelf.recorded.RecordedStep.{RecordedStep}
 use Rattle.dev_shelf.specs.declared.mem_shelf.recorded.RecordedStep.TheVariants.{Ended}
-use Rattle.dev_shelf.specs.Steps.{Image, Step}
-use Rattle.dev_shelf.specs.Record.{IsRecord}
-use Rattle.dev_shelf.specs.ValueList.{values}
+use Rattle.disk_model.specs.Steps.{Image, Step}
+use Rattle.disk_model.specs.Record.{IsRecord}
+use Rattle.disk_model.specs.ValueList.{values}
 use Rattle.dev_shelf.specs.DiskRow.{step_at}
-use Rattle.dev_shelf.proofs.ValueLists.{sole_stays}
+use Rattle.disk_model.proofs.ValueLists.{sole_stays}
 
 module _ (opened : Image) (written : List (List ℕ)) (earlier : List Step) (step : RecordedStep) (tag : ℕ) (work : RecordedWork) (disk fresh pv sector : ℕ) (well : Bool)
     (is : step ≡ Ended tag work well fresh) (flushes : work ≡ Flushes disk) where

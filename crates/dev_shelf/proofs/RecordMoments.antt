@@ -2,11 +2,11 @@
 use Rattle.std.proofs.Common.{◌≡◌, ◌≤◌, ◌<◌, ℕ, ◌+◌, ◌-◌, List, [], ◌∷◌, ◌++◌, length, take, drop, get_or, refl, sym, ap, subst, ◌∙◌, arith, append_assoc, take-append-drop}
 use Rattle.std.proofs.lemmas.List.{length-drop}
 use Rattle.dev_shelf.specs.declared.mem_shelf.recorded.RecordedStep.{RecordedStep}
-use Rattle.dev_shelf.specs.Steps.{Step, Submitted, Completed}
-use Rattle.dev_shelf.specs.Record.{IsRecord}
+use Rattle.disk_model.specs.Steps.{Step, Submitted, Completed}
+use Rattle.disk_model.specs.Record.{IsRecord}
 use Rattle.dev_shelf.specs.DiskRow.{step_at, steps_onto}
 use Rattle.dev_shelf.specs.DiskRowInvariant.{AllWithin, length_onto}
-use Rattle.dev_shelf.proofs.EveryMoment.{drop_newer}
+use Rattle.disk_model.proofs.EveryMoment.{drop_newer}
 use Rattle.dev_shelf.proofs.Recorded.{steps_more}
 
 -- recorded steps stand on top of earlier ones

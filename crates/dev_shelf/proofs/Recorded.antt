@@ -7,7 +7,7 @@ use Rattle.dev_shelf.specs.declared.mem_shelf.recorded.RecordedWork.{RecordedWor
 use Rattle.dev_shelf.specs.declared.mem_shelf.recorded.RecordedWork.TheVariants.{Reads, Writes, Flushes}
 use Rattle.dev_shelf.specs.declared.mem_shelf.recorded.RecordedStep.{RecordedStep}
 use Rattle.dev_shelf.specs.declared.mem_shelf.recorded.RecordedStep.TheVariants.{Began, Ended}
-use Rattle.dev_shelf.specs.Steps.{Work, Writing, Step, Submitted, Completed}
+use Rattle.disk_model.specs.Steps.{Work, Writing, Step, Submitted, Completed}
 use Rattle.dev_shelf.specs.DiskRow.{work_at, step_at, steps_onto}
 use Rattle.dev_shelf.specs.DiskRowInvariant.{IsKept, recorded_work}
 

@@ -1,20 +1,24 @@
 -- A row in memory, after one submission.
-use Rattle.std.proofs.Common.{◌≡◌, ◌≤◌, ℕ, ◌+◌, ◌*◌, ◌^◌, vec_len, vec_capacity, List, [], ◌∷◌, ◌++◌, length, map, Contains, refl, ap, ◌∙◌, arith, length-append}
+use Rattle.std.proofs.Common.{◌≡◌, ◌≤◌, ℕ, ◌+◌, vec_len, vec_capacity, All, List, [], ◌∷◌, ◌++◌, length, map, refl, sym, subst, ap, ◌∙◌, arith, length-append}
 use Rattle.std.proofs.lemmas.List.{map-append}
-use Rattle.std.proofs.lemmas.List.Elements.{All-push, All-weaker, Contains-append_left}
-use Rattle.std.proofs.lemmas.List.Quantifiers.{all_pairs_push}
-use Rattle.dev_shelf.specs.declared.ops.Op.{Op}
-use Rattle.dev_shelf.specs.declared.ops.Op.TheVariants.{Read, Write, Flush}
+use Rattle.std.proofs.lemmas.List.Elements.{All-append, All-head, All-push, All-tail, All-weaker}
+use Rattle.sector_base.specs.Sectors.{IsSector}
+use Rattle.disk_model.specs.declared.ops.Op.{Op}
+use Rattle.disk_model.specs.declared.ops.Op.TheVariants.{Read, Write, Flush}
+use Rattle.disk_model.specs.Steps.{Work, Step, Submitted, Completed}
+use Rattle.disk_model.specs.Record.{IsNewTag, Operation}
+use Rattle.disk_model.specs.Operations.{Lies, work_of, sectors_of}
+use Rattle.disk_model.specs.Submitting.{works_of}
+use Rattle.disk_model.specs.Calls.{Submits}
+use Rattle.op_queue.specs.Queue.{state_of as queue_state}
+use Rattle.op_queue.specs.QueueInvariant.{IsGood as IsGoodQueue}
+use Rattle.op_queue.proofs.Telling.{submits_telling}
 use Rattle.dev_shelf.specs.declared.mem_shelf.recorded.RecordedWork.{RecordedWork}
 use Rattle.dev_shelf.specs.declared.mem_shelf.recorded.RecordedStep.{RecordedStep}
 use Rattle.dev_shelf.specs.declared.mem_shelf.recorded.RecordedStep.TheVariants.{Began}
-use Rattle.dev_shelf.specs.declared.mem_shelf.disk_row.InFlight.{InFlight}
 use Rattle.dev_shelf.specs.declared.mem_shelf.disk_row.DiskRow.{DiskRow}
-use Rattle.dev_shelf.specs.Steps.{Work, Step, Submitted, Completed}
-use Rattle.dev_shelf.specs.Record.{IsNewTag}
-use Rattle.dev_shelf.specs.Operations.{Lies, work_of}
-use Rattle.dev_shelf.specs.DiskRow.{work_at, steps_onto, steps_of, sizes_of, operation_of}
-use Rattle.dev_shelf.specs.DiskRowInvariant.{IsKept, recorded_work, IsBefore, WaitsIn, WritesWithin, IsGood}
+use Rattle.dev_shelf.specs.DiskRow.{image_of, work_at, steps_onto, steps_of, sizes_of, told_by, state_of}
+use Rattle.dev_shelf.specs.DiskRowInvariant.{IsKept, recorded_work, WritesWithin, IsGood}
 use Rattle.dev_shelf.proofs.Recorded.{work_kept, steps_kept, steps_push, kept_more}
 
 -- a tag that is new is new below a greater one
@@ -29,63 +33,73 @@ within_of sizes (Read span buffer) lies = tt
 within_of sizes (Write span sectors) lies = lies
 within_of sizes (Flush pv) lies = tt
 
--- the tag of an operation in flight
-abbrev tag_of : InFlight → ℕ
-tag_of o = o.tag
+-- what is recorded of operations stays so where more sectors are kept
+works_kept : (written more : List (List ℕ)) (ws : List RecordedWork) → All (IsKept (length written)) ws → map (work_at (written ++ more)) ws ≡ map (work_at written) ws
+works_kept written more [] h = refl
+works_kept written more (w ∷ ws) h =
+    let P : RecordedWork → Type 0 = IsKept (length written) in
+    let here : work_at (written ++ more) w ≡ work_at written w = work_kept written more w (All-head P w ws h) in
+    rw (here, works_kept written more ws (All-tail P w ws h)) refl
 
 -- the submission of an operation
-module _ (old new : DiskRow) (op : Op) (recorded : RecordedWork) (more : List (List ℕ)) (good : IsGood old) (lies : Lies (sizes_of old) op)
-    (written : new.written.items ≡ old.written.items ++ more) (steps : new.steps.items ≡ old.steps.items ++ Began old.next_tag recorded ∷ [])
-    (in_flight : new.in_flight.items ≡ old.in_flight.items ++ record { tag = old.next_tag; op = op; work = recorded } ∷ [])
+module _ (old new : DiskRow) (op : Op) (tag : ℕ) (recorded : RecordedWork) (more : List (List ℕ)) (good : IsGood old) (lies : Lies (queue_state old.queue).sizes op)
+    (written : new.written.items ≡ old.written.items ++ more) (steps : new.steps.items ≡ old.steps.items ++ Began tag recorded ∷ [])
+    (works : new.works.items ≡ old.works.items ++ recorded ∷ [])
     (work : work_at new.written.items recorded ≡ work_of op) (kept : IsKept (length new.written.items) recorded)
-    (opened : new.opened ≡ old.opened) (next : new.next_tag ≡ old.next_tag + 1) where
+    (opened : new.opened ≡ old.opened) (submits : Submits (queue_state old.queue) op tag (queue_state new.queue)) where
   -- the record has the submission
-  pub steps_new : steps_of new ≡ Submitted old.next_tag (work_of op) ∷ steps_of old
+  steps_new : steps_of new ≡ Submitted tag (work_of op) ∷ steps_of old
   steps_new =
-      rw steps (steps_push new.written.items [] old.steps.items (Began old.next_tag recorded))
-      ∙ ap (λ (w : Work). Submitted old.next_tag w ∷ steps_onto new.written.items [] old.steps.items) work
-      ∙ ap (λ (l : List Step). Submitted old.next_tag (work_of op) ∷ l) (rw written (steps_kept old.written.items more [] old.steps.items good.kept))
+      rw steps (steps_push new.written.items [] old.steps.items (Began tag recorded))
+      ∙ ap (λ (w : Work). Submitted tag w ∷ steps_onto new.written.items [] old.steps.items) work
+      ∙ ap (λ (l : List Step). Submitted tag (work_of op) ∷ l) (rw written (steps_kept old.written.items more [] old.steps.items good.kept))
 
-  -- the operation is in flight
-  pub in_flight_new : map operation_of new.in_flight.items ≡ map operation_of old.in_flight.items ++ record { tag = old.next_tag; work = work_of op } ∷ []
-  in_flight_new = rw in_flight (map-append operation_of old.in_flight.items (record { tag = old.next_tag; op = op; work = recorded } ∷ []))
+  -- so the row's state has it
+  pub submits_new : Submits (state_of old) op tag (state_of new)
+  submits_new =
+      submits_telling (queue_state old.queue) (queue_state new.queue) op tag (told_by old) (told_by new) submits
+      (rw opened (ap (λ (l : List Step). record { opened = image_of old.opened.items; steps = l }) steps_new))
 
   -- no sector is lost
   longer : length old.written.items ≤ length new.written.items
   longer = omega (arith, ap (λ (l : List (List ℕ)). length l) written, length-append old.written.items more)
 
-  -- the others wait as before
-  waits_old : (w : InFlight) → WaitsIn old.written.items (sizes_of old) old.next_tag w → WaitsIn new.written.items (sizes_of new) new.next_tag w
-  waits_old w h = (rw written (work_kept old.written.items more w.work h.1) ∙ h.0, kept_more _ _ w.work longer h.1, rw opened h.2, omega (arith, h.3))
-
-  -- the next tag is new
-  next_new : IsNewTag new.next_tag (steps_of new)
-  next_new = rw steps_new (omega (arith, next), new_more old.next_tag new.next_tag (steps_of old) (omega (arith, next)) good.next)
-
-  -- what was ready still is
-  pub ready_new : (t : ℕ) → Contains (map tag_of old.in_flight.items) t → Contains (map tag_of new.in_flight.items) t
-  ready_new t was = rw (in_flight, map-append tag_of old.in_flight.items (record { tag = old.next_tag; op = op; work = recorded } ∷ [])) (Contains-append_left (map tag_of old.in_flight.items) (old.next_tag ∷ []) t was)
+  -- what is recorded of each operation in flight is what it does
+  works_new : map (work_at new.written.items) new.works.items ≡ works_of (queue_state new.queue).in_flight
+  works_new =
+      let work_in : Operation → Work = λ o. o.work in
+      let one : work_at (old.written.items ++ more) recorded ≡ work_of op = subst (λ (l : List (List ℕ)). work_at l recorded ≡ work_of op) written work in
+      rw (works, written)
+      (map-append (work_at (old.written.items ++ more)) old.works.items (recorded ∷ [])
+      ∙ ap (λ (l : List Work). l ++ work_at (old.written.items ++ more) recorded ∷ []) (works_kept old.written.items more old.works.items good.works_kept ∙ good.works)
+      ∙ ap (λ (w : Work). works_of (queue_state old.queue).in_flight ++ w ∷ []) one)
+      ∙ sym (map-append work_in (queue_state old.queue).in_flight (record { tag = tag; work = work_of op } ∷ []))
+      ∙ ap works_of (sym submits.in_flight)
 
   -- the row is good
-  pub good_new : new.current ≡ old.current → new.faults ≡ old.faults → vec_len new.steps + 2 * new.spare_ops + vec_len new.in_flight ≤ vec_capacity new.steps → vec_len new.in_flight + new.spare_ops ≤ vec_capacity new.in_flight
-      → vec_len new.written + new.spare_sectors ≤ vec_capacity new.written → new.next_tag + new.spare_ops ≤ 2 ^ 62 → vec_len new.in_flight ≡ vec_len old.in_flight + 1
-      → vec_len new.steps ≡ vec_len old.steps + 1 → IsGood new
-  good_new now faults room1 room2 room3 life len len_steps = record {
-    in_flight = rw (in_flight_new, good.in_flight, steps_new) refl;
-    waits = rw in_flight (All-push (WaitsIn new.written.items (sizes_of new) new.next_tag) old.in_flight.items (record { tag = old.next_tag; op = op; work = recorded }) (All-weaker (WaitsIn old.written.items (sizes_of old) old.next_tag) (WaitsIn new.written.items (sizes_of new) new.next_tag) waits_old old.in_flight.items good.waits) (work, kept, rw opened lies, omega (arith, next)));
-    order = rw in_flight (all_pairs_push IsBefore old.in_flight.items (record { tag = old.next_tag; op = op; work = recorded }) good.order (λ k d lt. (good.waits k d lt).3));
-    follows = rw steps_new (good.next, good.follows);
-    next = next_new;
-    within = rw (opened, steps_new) (within_of (sizes_of old) op lies, good.within);
-    kept = rw steps (All-push (λ (e : RecordedStep). IsKept (length new.written.items) (recorded_work e)) old.steps.items (Began old.next_tag recorded) (All-weaker (λ (e : RecordedStep). IsKept (length old.written.items) (recorded_work e)) (λ (e : RecordedStep). IsKept (length new.written.items) (recorded_work e)) (λ e h. kept_more _ _ (recorded_work e) longer h) old.steps.items good.kept) kept);
-    now = rw (now, opened, steps_new) good.now;
-    shape = rw (now, opened) good.shape;
-    count = rw opened good.count;
-    all_counted = rw (faults, opened) good.all_counted;
-    steps = omega (arith, good.steps, next, len, len_steps);
-    faults = λ pv. rw faults (omega (arith, good.faults pv, len, len_steps));
-    steps_room = room1;
-    in_flight_room = room2;
-    written_room = room3;
-    life = life;
-  }
+  pub good_new : IsGoodQueue new.queue → new.current ≡ old.current → All IsSector more → vec_len new.written ≤ vec_len old.written + sectors_of op → vec_capacity new.written ≡ vec_capacity old.written
+      → vec_len new.works ≡ vec_len old.works + 1 → vec_capacity new.works ≡ vec_capacity old.works
+      → vec_len new.steps ≡ vec_len old.steps + 1 → vec_capacity new.steps ≡ vec_capacity old.steps → IsGood new
+  good_new queue now sectors len_written cap_written len_works cap_works len_steps cap_steps =
+      let one_more : length (queue_state new.queue).in_flight ≡ length (queue_state old.queue).in_flight + 1 =
+      ap (λ (l : List Operation). length l) submits.in_flight ∙ length-append (queue_state old.queue).in_flight (record { tag = tag; work = work_of op } ∷ []) in
+      record {
+        queue = queue;
+        sizes = rw opened (submits.sizes ∙ good.sizes);
+        in_flight = submits.in_flight ∙ rw (good.in_flight, steps_new) refl;
+        works = works_new;
+        works_kept = rw works (All-push (IsKept (length new.written.items)) old.works.items recorded (All-weaker (IsKept (length old.written.items)) (IsKept (length new.written.items)) (λ w h. kept_more _ _ w longer h) old.works.items good.works_kept) kept);
+        follows = rw steps_new (new_more _ tag (steps_of old) submits.fresh good.next, good.follows);
+        next = rw steps_new (submits.next, new_more _ _ (steps_of old) (omega (arith, submits.fresh, submits.next)) good.next);
+        within = rw (opened, steps_new) (within_of (sizes_of old) op (subst (λ (l : List ℕ). Lies l op) good.sizes lies), good.within);
+        kept = rw steps (All-push (λ (e : RecordedStep). IsKept (length new.written.items) (recorded_work e)) old.steps.items (Began tag recorded) (All-weaker (λ (e : RecordedStep). IsKept (length old.written.items) (recorded_work e)) (λ (e : RecordedStep). IsKept (length new.written.items) (recorded_work e)) (λ e h. kept_more _ _ (recorded_work e) longer h) old.steps.items good.kept) kept);
+        opened_sectors = rw opened good.opened_sectors;
+        written_sectors = rw written (All-append IsSector old.written.items more good.written_sectors sectors);
+        now = rw (now, opened, steps_new) good.now;
+        shape = rw (now, opened) good.shape;
+        count = rw opened good.count;
+        steps = omega (arith, good.steps, submits.steps, len_steps);
+        steps_room = omega (arith, good.steps_room, submits.spare_ops, one_more, len_steps, cap_steps);
+        works_room = omega (arith, good.works_room, submits.spare_ops, len_works, cap_works);
+        written_room = omega (arith, good.written_room, submits.spare_sectors, len_written, cap_written);
+      }

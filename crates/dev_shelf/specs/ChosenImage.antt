@@ -1,9 +1,9 @@
 -- One image that a crash may leave, named by a list of choices.
-use Rattle.std.specs.Prelude.{◌≡◌, ℕ, ◌%◌, nat_lt, if◌then◌else◌, List, [], ◌∷◌, length, map, drop, flat_map, slice_index, slice_index_or, Option, None}
+use Rattle.std.specs.Prelude.{◌≡◌, ◌<◌, ℕ, ◌%◌, ◌^◌, All, nat_lt, if◌then◌else◌, List, [], ◌∷◌, length, map, drop, flat_map, slice_index, slice_index_or, Option, None}
 use Rattle.std.specs.List.{range_with_len}
-use Rattle.dev_shelf.specs.Steps.{Told}
-use Rattle.dev_shelf.specs.ValueList.{values}
-use Rattle.dev_shelf.specs.DiskRow.{lengths_of}
+use Rattle.disk_model.specs.Steps.{Image, Told}
+use Rattle.disk_model.specs.ValueList.{values}
+use Rattle.dev_shelf.specs.DiskRow.{image_of, lengths_of}
 
 -- the value of this number modulo how many there are
 abbrev pub value_number : List (Option ℕ × List ℕ) → ℕ → List ℕ
@@ -11,10 +11,10 @@ value_number all number = (slice_index_or all (number % length all) (None, [])).
 
 -- of each list of values one: of a list of more than one the value of the next choice's number, and of each list after
 -- the last choice the first value
-abbrev pub chosen : List (List (Option ℕ × List ℕ)) → List ℕ → List (List ℕ)
-chosen [] choices = []
-chosen (all ∷ rest) choices =
-    if nat_lt 1 (length all) then value_number all (slice_index choices 0) ∷ chosen rest (drop 1 choices) else value_number all 0 ∷ chosen rest choices
+abbrev pub chosen_values : List (List (Option ℕ × List ℕ)) → List ℕ → List (List ℕ)
+chosen_values [] choices = []
+chosen_values (all ∷ rest) choices =
+    if nat_lt 1 (length all) then value_number all (slice_index choices 0) ∷ chosen_values rest (drop 1 choices) else value_number all 0 ∷ chosen_values rest choices
 
 -- the values of each of the first so many sectors of the disk, in order
 abbrev pub disk_values : Told → ℕ → ℕ → List (List (Option ℕ × List ℕ))
@@ -27,4 +27,12 @@ row_values told sizes count = flat_map (λ pv. disk_values told pv (slice_index 
 -- the images, of disks of these sizes, are what the choices choose
 pub record IsChosen (told : Told) (sizes : List ℕ) (choices : List ℕ) (images : List (List (List ℕ))) : Type 0 where
   pub sizes_same : lengths_of images ≡ sizes
-  pub sectors : flat_map (λ disk. disk) images ≡ chosen (row_values told sizes (length sizes)) choices
+  pub sectors : flat_map (λ disk. disk) images ≡ chosen_values (row_values told sizes (length sizes)) choices
+
+-- the disks, of these sizes, have the image's sectors
+abbrev pub HasSectors : List ℕ → List (List (List ℕ)) → Image → Type 0
+HasSectors sizes images image = (pv sector : ℕ) → sector < slice_index_or sizes pv 0 → image_of images pv sector ≡ image pv sector
+
+-- some choices choose this image
+abbrev pub CanBeChosen : Told → List ℕ → Image → Type 0
+CanBeChosen told sizes image = (choices : List ℕ) × All (λ c. c < 2 ^ 64) choices × ((images : List (List (List ℕ))) → IsChosen told sizes choices images → HasSectors sizes images image)

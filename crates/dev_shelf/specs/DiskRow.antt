@@ -1,15 +1,13 @@
 -- What a row of disks in memory stands for.
-use Rattle.std.specs.Prelude.{ℕ, true, List, [], ◌∷◌, length, take, drop, map, replicate, slice_index_or, vec_len, Some}
+use Rattle.std.specs.Prelude.{ℕ, true, List, [], ◌∷◌, length, take, drop, map, replicate, slice_index_or, Some}
 use Rattle.dev_shelf.specs.declared.mem_shelf.recorded.RecordedWork.{RecordedWork}
 use Rattle.dev_shelf.specs.declared.mem_shelf.recorded.RecordedWork.TheVariants.{Reads, Writes, Flushes}
 use Rattle.dev_shelf.specs.declared.mem_shelf.recorded.RecordedStep.{RecordedStep}
 use Rattle.dev_shelf.specs.declared.mem_shelf.recorded.RecordedStep.TheVariants.{Began, Ended}
-use Rattle.dev_shelf.specs.declared.mem_shelf.disk_row.InFlight.{InFlight}
 use Rattle.dev_shelf.specs.declared.mem_shelf.disk_row.DiskRow.{DiskRow}
-use Rattle.dev_shelf.specs.Steps.{Image, Work, Reading, Writing, Flushing, Step, Submitted, Completed}
-use Rattle.dev_shelf.specs.Record.{Operation}
-use Rattle.dev_shelf.specs.Operations.{work_of}
-use Rattle.dev_shelf.specs.State.{State}
+use Rattle.disk_model.specs.Steps.{Image, Work, Reading, Writing, Flushing, Step, Submitted, Completed, Told}
+use Rattle.disk_model.specs.State.{State}
+use Rattle.op_queue.specs.Queue.{opened_state, state_of as queue_state}
 
 -- what stands in each sector of these disks
 abbrev pub image_of : List (List (List ℕ)) → Image
@@ -21,17 +19,7 @@ lengths_of disks = map (λ (disk : List (List ℕ)). length disk) disks
 
 -- the state of a row of these disks that was just made
 abbrev pub new_state : List (List (List ℕ)) → State
-new_state images = record {
-  sizes = lengths_of images;
-  in_flight = [];
-  ready = [];
-  spare_ops = 0;
-  spare_sectors = 0;
-  steps = 0;
-  faults = λ pv. 0;
-  next_tag = 0;
-  told = Some (record { opened = image_of images; steps = [] });
-}
+new_state images = record (opened_state (lengths_of images)) { told = Some (record { opened = image_of images; steps = [] }) }
 
 -- what a recorded operation does; the sectors of a write stand among all that were written, from a place on
 abbrev pub work_at : List (List ℕ) → RecordedWork → Work
@@ -53,24 +41,14 @@ steps_onto written earlier (r ∷ rs) = steps_onto written (step_at written r �
 abbrev pub steps_of : DiskRow → List Step
 steps_of row = steps_onto row.written.items [] row.steps.items
 
--- the operation in flight
-abbrev pub operation_of : InFlight → Operation
-operation_of o = record { tag = o.tag; work = work_of o.op }
-
 -- how many sectors each disk of the row has
 abbrev pub sizes_of : DiskRow → List ℕ
 sizes_of row = lengths_of row.opened.items
 
--- the state that the row stands for; each operation in flight is ready
+-- what the row tells: the opened images and the record
+abbrev pub told_by : DiskRow → Told
+told_by row = record { opened = image_of row.opened.items; steps = steps_of row }
+
+-- the state that the row stands for: its queue's, with what the row tells
 abbrev pub state_of : DiskRow → State
-state_of row = record {
-  sizes = sizes_of row;
-  in_flight = map operation_of row.in_flight.items;
-  ready = map (λ (o : InFlight). o.tag) row.in_flight.items;
-  spare_ops = row.spare_ops;
-  spare_sectors = row.spare_sectors;
-  steps = vec_len row.steps;
-  faults = λ pv. slice_index_or row.faults.items pv 0;
-  next_tag = row.next_tag;
-  told = Some (record { opened = image_of row.opened.items; steps = steps_of row });
-}
+state_of row = record (queue_state row.queue) { told = Some (told_by row) }

@@ -1,23 +1,30 @@
 -- What holds of every row of disks in memory, and that it makes the row's state lawful.
-use Rattle.std.specs.Prelude.{◌≡◌, ◌≤◌, ◌<◌, ℕ, ◌+◌, ◌*◌, ◌^◌, Bool, true, List, [], ◌∷◌, length, map, slice_index_or, vec_len, vec_capacity, All, AllPairs, Contains, IsTrue, if◌then◌else◌, min}
+use Rattle.std.specs.Prelude.{◌≡◌, ◌≤◌, ◌<◌, ℕ, ◌+◌, ◌*◌, ◌^◌, Bool, true, List, [], ◌∷◌, length, map, slice_index_or, vec_len, vec_capacity, All, IsTrue, if◌then◌else◌, min}
 use Rattle.sector_base.specs.Spans.{covers}
-use Rattle.dev_shelf.specs.declared.ops.Op.{Op}
-use Rattle.dev_shelf.specs.declared.ops.Op.TheVariants.{Read, Write, Flush}
+use Rattle.sector_base.specs.declared.spans.Span.{Span}
+use Rattle.sector_base.specs.Sectors.{IsSector}
+use Rattle.disk_model.specs.Brought.{BringOnly}
+use Rattle.std.proofs.lemmas.Bool.Decides.{nat_tests}
+use Rattle.disk_model.specs.declared.ops.Op.{Op}
+use Rattle.disk_model.specs.declared.ops.Op.TheVariants.{Read}
 use Rattle.dev_shelf.specs.declared.mem_shelf.recorded.RecordedWork.{RecordedWork}
 use Rattle.dev_shelf.specs.declared.mem_shelf.recorded.RecordedWork.TheVariants.{Reads, Writes, Flushes}
 use Rattle.dev_shelf.specs.declared.mem_shelf.recorded.RecordedStep.{RecordedStep}
 use Rattle.dev_shelf.specs.declared.mem_shelf.recorded.RecordedStep.TheVariants.{Began, Ended}
-use Rattle.dev_shelf.specs.declared.mem_shelf.disk_row.InFlight.{InFlight}
 use Rattle.dev_shelf.specs.declared.mem_shelf.disk_row.DiskRow.{DiskRow}
-use Rattle.dev_shelf.specs.Steps.{Image, Work, Reading, Writing, Flushing, Step, Submitted, Completed, now_after, value_at}
-use Rattle.dev_shelf.specs.Record.{Operation, in_flight_after, IsRecord, IsNewTag}
-use Rattle.dev_shelf.specs.Operations.{Fills, Lies, work_of}
-use Rattle.dev_shelf.specs.State.{IsLawful, tags_of}
-use Rattle.dev_shelf.specs.DiskRow.{image_of, lengths_of, work_at, step_at, steps_onto, steps_of, operation_of, sizes_of, state_of}
-use Rattle.std.proofs.Common.{arith, ap, ◌∙◌}
+use Rattle.disk_model.specs.Steps.{Image, Work, Reading, Writing, Flushing, Step, Submitted, Completed, now_after, value_at}
+use Rattle.disk_model.specs.Record.{in_flight_after, IsRecord, IsNewTag}
+use Rattle.disk_model.specs.Operations.{Fills}
+use Rattle.disk_model.specs.State.{IsLawful}
+use Rattle.disk_model.specs.Submitting.{works_of}
+use Rattle.op_queue.specs.Queue.{state_of as queue_state}
+use Rattle.op_queue.specs.QueueInvariant.{IsGood as IsGoodQueue, good_prop as queue_prop, lawful_of as queue_lawful}
+use Rattle.op_queue.proofs.Telling.{lawful_telling}
+use Rattle.dev_shelf.specs.DiskRow.{image_of, lengths_of, work_at, step_at, steps_onto, steps_of, sizes_of, told_by, state_of}
+use Rattle.std.proofs.Common.{arith, subst, sym, ◌∙◌, zero, suc, ◌-◌, drop}
 use Rattle.std.proofs.Props.{props}
-use Rattle.std.proofs.lemmas.List.Elements.{All-map}
-use Rattle.std.proofs.lemmas.List.{length-map, get_or-map}
+use Rattle.std.proofs.lemmas.List.Elements.{All-head, All-tail}
+use Rattle.std.proofs.lemmas.List.{get_or-drop, get_or-take}
 
 -- how many sectors of a write are new
 abbrev pub fresh_of : ℕ → Bool → ℕ → ℕ
@@ -39,14 +46,6 @@ abbrev pub recorded_work : RecordedStep → RecordedWork
 recorded_work (Began tag work) = work
 recorded_work (Ended tag work well fresh) = work
 
--- the one operation was submitted before the other
-abbrev pub IsBefore : InFlight → InFlight → Type 0
-IsBefore o p = o.tag < p.tag
-
--- the operation in flight is the recorded one, lies in its disk and has an earlier tag
-abbrev pub WaitsIn : List (List ℕ) → List ℕ → ℕ → InFlight → Type 0
-WaitsIn written sizes next o = (work_at written o.work ≡ work_of o.op) × IsKept (length written) o.work × Lies sizes o.op × (o.tag < next)
-
 -- the work is no write, or one that lies in disks of these sizes
 abbrev pub WritesWithin : List ℕ → Work → Type 0
 WritesWithin sizes (Writing span sectors) = Fills sizes span sectors
@@ -61,72 +60,76 @@ AllWithin sizes (Completed tag work well fresh ∷ steps) = WritesWithin sizes w
 
 -- what holds of every row
 pub record IsGood (row : DiskRow) : Type 0 where
-  pub in_flight : map operation_of row.in_flight.items ≡ in_flight_after (steps_of row)
-  pub waits : All (WaitsIn row.written.items (sizes_of row) row.next_tag) row.in_flight.items
-  pub order : AllPairs IsBefore row.in_flight.items
+  pub queue : IsGoodQueue row.queue
+  pub sizes : (queue_state row.queue).sizes ≡ sizes_of row
+  pub in_flight : (queue_state row.queue).in_flight ≡ in_flight_after (steps_of row)
+  -- what is recorded of each operation in flight is what it does
+  pub works : map (work_at row.written.items) row.works.items ≡ works_of (queue_state row.queue).in_flight
+  pub works_kept : All (IsKept (length row.written.items)) row.works.items
   pub follows : IsRecord (steps_of row)
-  pub next : IsNewTag row.next_tag (steps_of row)
+  pub next : IsNewTag (queue_state row.queue).next_tag (steps_of row)
   pub within : AllWithin (sizes_of row) (steps_of row)
   pub kept : All (λ (r : RecordedStep). IsKept (length row.written.items) (recorded_work r)) row.steps.items
+  -- each sector has 512 bytes
+  pub opened_sectors : All (All IsSector) row.opened.items
+  pub written_sectors : All IsSector row.written.items
   pub now : (pv sector : ℕ) → image_of row.current.items pv sector ≡ now_after (image_of row.opened.items) (steps_of row) pv sector
   pub shape : lengths_of row.current.items ≡ sizes_of row
   pub count : vec_len row.opened < 2 ^ 32
-  pub all_counted : vec_len row.faults ≡ vec_len row.opened
-  -- two steps of each operation that has completed, one of each in flight
-  pub steps : vec_len row.steps + vec_len row.in_flight ≡ 2 * row.next_tag
-  pub faults : (pv : ℕ) → 2 * slice_index_or row.faults.items pv 0 + vec_len row.in_flight ≤ vec_len row.steps
-  pub steps_room : vec_len row.steps + 2 * row.spare_ops + vec_len row.in_flight ≤ vec_capacity row.steps
-  pub in_flight_room : vec_len row.in_flight + row.spare_ops ≤ vec_capacity row.in_flight
-  pub written_room : vec_len row.written + row.spare_sectors ≤ vec_capacity row.written
-  pub life : row.next_tag + row.spare_ops ≤ 2 ^ 62
+  pub steps : vec_len row.steps ≡ (queue_state row.queue).steps
+  pub steps_room : vec_len row.steps + 2 * (queue_state row.queue).spare_ops + length (queue_state row.queue).in_flight ≤ vec_capacity row.steps
+  pub works_room : vec_len row.works + (queue_state row.queue).spare_ops ≤ vec_capacity row.works
+  pub written_room : vec_len row.written + (queue_state row.queue).spare_sectors ≤ vec_capacity row.written
 
 -- each recorded step is a step
 pub length_onto : (written : List (List ℕ)) (earlier : List Step) (rs : List RecordedStep) → length (steps_onto written earlier rs) ≡ length rs + length earlier
 length_onto written earlier [] = omega arith
 length_onto written earlier (r ∷ rs) = omega (arith, length_onto written (step_at written r ∷ earlier) rs)
 
--- the operations in flight are in the order of their tags
-order_of : (os : List InFlight) → AllPairs IsBefore os → AllPairs (λ (f g : Operation). f.tag < g.tag) (map operation_of os)
-order_of [] h i j d lt le = absurd (omega arith)
-order_of (o ∷ os) h i j d lt le =
-    let le' : j < length (o ∷ os) = rw length-map at le in
-    let lt' : i < length (o ∷ os) = omega arith in
-    rw (get_or-map operation_of (o ∷ os) i o d lt', get_or-map operation_of (o ∷ os) j o d le') (h i j o lt le')
+-- each sector of disks of sectors is one
+opened_sector : (disks : List (List (List ℕ))) → All (All IsSector) disks → (pv sector : ℕ) → sector < slice_index_or (lengths_of disks) pv 0 → IsSector (image_of disks pv sector)
+opened_sector [] all pv sector lt = absurd (omega arith)
+opened_sector (disk ∷ disks) all zero sector lt = All-head (All IsSector) disk disks all sector [] lt
+opened_sector (disk ∷ disks) all (suc pv) sector lt = opened_sector disks (All-tail (All IsSector) disk disks all) pv sector lt
 
--- what is ready is in flight
-ready_of : (os : List InFlight) → All (Contains (tags_of (map operation_of os))) (map (λ (o : InFlight). o.tag) os)
-ready_of os =
-    All-map (Contains (tags_of (map operation_of os))) (λ (o : InFlight). o.tag) os
-    (λ k d lt.
-    let lt' : k < length (map operation_of os) = rw length-map lt in
-    let tag : Operation → ℕ = λ o. o.tag in (
-      k,
-      rw length-map lt',
-      get_or-map tag (map operation_of os) k (operation_of d) _ lt' ∙ ap tag (get_or-map operation_of os k d (operation_of d) lt),
-    ))
+abbrev IsAnySector : ℕ → ℕ → List ℕ → Type 0
+IsAnySector pv sector value = IsSector value
+
+in_span : (span : Span) (pv sector : ℕ) → IsTrue (covers span pv sector) → sector - span.first < span.count
+in_span span pv sector h = grind (arith, nat_tests)
+
+-- a step that is recorded so brings sectors
+brings_step : (written : List (List ℕ)) → All IsSector written → (r : RecordedStep) → IsKept (length written) (recorded_work r) → (earlier : List Step) → BringOnly IsAnySector earlier → BringOnly IsAnySector (step_at written r ∷ earlier)
+brings_step written all (Began tag (Reads span)) kept earlier b = b
+brings_step written all (Began tag (Flushes pv)) kept earlier b = b
+brings_step written all (Began tag (Writes span from)) kept earlier b = (
+  λ pv sector inside.
+      let within : sector - span.first < span.count = in_span span pv sector inside in
+      subst IsSector (sym (get_or-take span.count (drop from written) (sector - span.first) [] within ∙ get_or-drop from written (sector - span.first) []))
+      (all (from + (sector - span.first)) [] (omega (arith, kept))),
+  b,
+)
+brings_step written all (Ended tag work well fresh) kept earlier b = b
+
+brings_sectors : (written : List (List ℕ)) → All IsSector written → (earlier : List Step) → BringOnly IsAnySector earlier → (rs : List RecordedStep) → All (λ (r : RecordedStep). IsKept (length written) (recorded_work r)) rs
+    → BringOnly IsAnySector (steps_onto written earlier rs)
+brings_sectors written all earlier b [] kept = b
+brings_sectors written all earlier b (r ∷ rs) kept =
+    let P : RecordedStep → Type 0 = λ r. IsKept (length written) (recorded_work r) in
+    brings_sectors written all (step_at written r ∷ earlier) (brings_step written all r (All-head P r rs kept) earlier b) rs (All-tail P r rs kept)
 
 -- the state of a row is lawful
 pub lawful_of : (row : DiskRow) → IsGood row → IsLawful (state_of row)
-lawful_of row good = record {
-  tags = All-map (λ (f : Operation). f.tag < row.next_tag) operation_of row.in_flight.items (λ k d lt. (good.waits k d lt).3);
-  order = order_of row.in_flight.items good.order;
-  ready = ready_of row.in_flight.items;
-  faults = λ pv. simp length-map (omega (arith, good.faults pv));
-  life = simp length-map (omega arith);
-  follows = good.follows;
-  in_flight = good.in_flight;
-  steps = omega (arith, length_onto row.written.items [] row.steps.items, row.steps.ok.0);
-}
+lawful_of row good =
+    lawful_telling (queue_state row.queue) (told_by row) (queue_lawful row.queue good.queue) good.follows good.next good.in_flight
+    (sym good.steps ∙ omega (arith, length_onto row.written.items [] row.steps.items, row.steps.ok.0))
+    (λ pv sector lt. opened_sector row.opened.items good.opened_sectors pv sector (subst (λ (l : List ℕ). sector < slice_index_or l pv 0) good.sizes lt))
+    (brings_sectors row.written.items good.written_sectors [] tt row.steps.items good.kept)
 
 kept_prop : (size : ℕ) (work : RecordedWork) → IsProp (IsKept size work)
 kept_prop size (Reads span) = hlevel props
 kept_prop size (Writes span from) = hlevel props
 kept_prop size (Flushes pv) = hlevel props
-
-lies_prop : (sizes : List ℕ) (op : Op) → IsProp (Lies sizes op)
-lies_prop sizes (Read span buffer) = hlevel props
-lies_prop sizes (Write span sectors) = hlevel props
-lies_prop sizes (Flush pv) = hlevel props
 
 work_set : IsSet Work
 work_set = hlevel props
@@ -153,4 +156,4 @@ within_prop sizes (Completed t work well fresh ∷ steps) = hlevel (props, write
 
 -- it holds in one way at most, as a ghost field must
 pub good_prop : (row : DiskRow) → IsProp (IsGood row)
-good_prop row = hlevel (props, kept_prop, lies_prop, work_set, new_tag_prop, record_prop, within_prop)
+good_prop row = hlevel (props, queue_prop, kept_prop, work_set, new_tag_prop, record_prop, within_prop)

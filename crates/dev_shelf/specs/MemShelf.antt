@@ -1,7 +1,7 @@
 -- What is known of a shelf in memory: its state, and what is left of its plan.
 use Rattle.std.specs.Prelude.{drop}
 use Rattle.dev_shelf.specs.declared.mem_shelf.MemShelf.{MemShelf}
-use Rattle.dev_shelf.specs.State.{State}
+use Rattle.disk_model.specs.State.{State}
 use Rattle.dev_shelf.specs.Plan.{PlanLeft}
 use Rattle.dev_shelf.specs.DiskRow.{state_of}
 

@@ -1,10 +1,10 @@
 -- How a plan orders the completions of a shelf in memory, and fails them.
 use Rattle.std.specs.Prelude.{◌≡◌, ◌<◌, ℕ, ◌%◌, true, ◌==◌, if◌then◌else◌, List, [], ◌∷◌, length, drop, replicate, slice_index, AllPairs, Option, Some, None, is_none, unwrap_or, option_map}
-use Rattle.dev_shelf.specs.declared.ops.Done.{Done}
+use Rattle.disk_model.specs.declared.ops.Done.{Done}
 use Rattle.dev_shelf.specs.declared.plan.Fail.{Fail}
-use Rattle.dev_shelf.specs.Steps.{Completed, step_on}
-use Rattle.dev_shelf.specs.Operations.{work_of}
-use Rattle.dev_shelf.specs.State.{State}
+use Rattle.disk_model.specs.Steps.{Completed, step_on}
+use Rattle.disk_model.specs.Operations.{work_of}
+use Rattle.disk_model.specs.State.{State}
 
 -- what is left of a plan: the picks to come, and the operations that fail
 pub record PlanLeft : Type 0 where

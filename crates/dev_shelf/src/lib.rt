@@ -1,27 +1,18 @@
-//! Rows of disks, whose operations are queued and complete in any order.
+//! A row of disks in memory, which behaves by the disk model and tells its images and its record.
 //!
-//! `Shelf` is the trait through which every layer above reads and writes disks. What holds of a shelf stands in
-//! `specs/`: `Steps` has the disk steps and what a read gives after them, `CrashValues` what a crash may leave in each
-//! sector, `State` all that is known of a shelf and what holds of every one, `Calls` what each call does to it, and
-//! `Moments`, `Durability` and `Order` the words in which the layers above state their promises. Each written sector
-//! is whole, old or new; a flush that completes well fixes every write that completed well before it was submitted.
-//!
-//! `MemShelf` is a shelf in memory, which tells its images and its record, and `run_one` carries one operation out.
+//! `MemShelf` completes and fails its operations as its plan says, and `images_at` gives what a crash may leave. The
+//! trait `Shelf` and all definitions of the model are those of `disk_model`, on which the layers above stand; tests
+//! stand on this crate.
 #![tactic(auto)]
 
-mod carry_out;
 mod images;
 mod mem_shelf;
-mod ops;
 mod plan;
-mod shelf;
 
-pub use carry_out::{read_span, run_one};
+pub use disk_model::{DiskFault, Done, Op, Shelf, flush, put_sector, read_span, run_one};
 pub use images::Images;
 pub use mem_shelf::MemShelf;
-pub use ops::{Done, Op};
 pub use plan::{Fail, Hold, ShelfPlan};
-pub use shelf::Shelf;
 
 #[cfg(test)]
 mod tests;

@@ -1,10 +1,10 @@
 //! A row of disks in memory, which keeps the images at opening and the record of all steps.
-ghost use Rattle.std.specs.Prelude.{◌≡◌, ◌≤◌, ◌<◌, ◌^◌, ◌↔◌, [], List, length, replicate, vec_len, IfOk, IfSome, IsNone, MatchOption, Contains};
-ghost use Rattle.dev_shelf.specs.Calls.{Completes};
-ghost use Rattle.dev_shelf.specs.CrashValues.{IsImage};
-ghost use Rattle.dev_shelf.specs.Moments.{at_moment};
-ghost use Rattle.dev_shelf.specs.ChosenImage.{IsChosen};
-ghost use Rattle.dev_shelf.specs.DiskRow.{image_of, state_of, new_state};
+ghost use Rattle.std.specs.Prelude.{◌≡◌, ◌≤◌, ◌<◌, ◌^◌, ◌↔◌, [], length, IfOk, IfSome, IsNone, MatchOption, Contains};
+ghost use Rattle.disk_model.specs.Calls.{Completes, MakesReady};
+ghost use Rattle.disk_model.specs.CrashValues.{IsImage};
+ghost use Rattle.disk_model.specs.Moments.{EachImage, at_moment};
+ghost use Rattle.dev_shelf.specs.ChosenImage.{CanBeChosen, IsChosen};
+ghost use Rattle.dev_shelf.specs.DiskRow.{image_of, lengths_of, new_state};
 ghost use Rattle.dev_shelf.specs.DiskRowInvariant.{IsGood, good_prop};
 
 mod completion;
@@ -13,13 +13,16 @@ mod disk_row;
 mod numbers;
 mod recorded;
 mod submission;
+mod touched;
 mod values;
 
-use crate::{Done, Images, Op, Shelf, ShelfPlan};
+use crate::{Images, ShelfPlan};
 use crash_image::disks_at;
+use disk_model::{Done, Op, Shelf};
 use disk_row::DiskRow;
 use numbers::next_of;
-use sector_base::Sectors;
+use op_queue::OpQueue;
+use sector_base::{Sectors, see_sectors};
 use std::alloc::{AllocError, Global};
 
 /// A row of disks in memory. It tells its images at opening and its record, and completes and fails its operations as
@@ -45,18 +48,17 @@ impl MemShelf {
         ensures state { IfOk result (λ shelf. state_of_shelf shelf ≡ new_state images) }
         ensures plan { IfOk result (λ shelf. plan_left shelf ≡ record { picks = plan.picks.items; fails = plan.fails.items }) }
     {
+        see_sectors(images.as_slice());
         let current = copies(alloc, images.as_slice())?;
-        let faults = zeros(alloc, images.len())?;
+        let sizes = sizes_of(alloc, images.as_slice())?;
+        let queue = OpQueue::new(alloc, sizes)?;
         let row = DiskRow {
             opened: images.into_vec(),
             current,
-            faults,
-            in_flight: Vec::new(alloc),
+            queue,
+            works: Vec::new(alloc),
             steps: Vec::new(alloc),
             written: Vec::new(alloc),
-            next_tag: 0,
-            spare_ops: 0,
-            spare_sectors: 0,
             fails: plan.fails,
         };
         Ok(MemShelf {
@@ -71,19 +73,21 @@ impl MemShelf {
     pub fn moments(&self) -> u64
         ensures { result ≡ (state_of_shelf self.now).steps }
     {
-        self.row.steps.len() as u64
+        self.row.queue.steps()
     }
 
     /// An image that a crash at this moment may leave. The k-th sector with more than one possible value, in order of
     /// disk and sector, takes value number `choices[k]` modulo how many it has, and the first value after the list's
     /// end. The values of a sector are the opened one and then those of its writes, in the order in which they were
-    /// submitted. Only memory can be wanting.
+    /// submitted. Some choices give each image that a crash may leave. Only memory can be wanting.
     pub fn images_at(&self, moment: u64, choices: &Vec<u64>) -> Result<Images, AllocError>
         requires { moment ≤ (state_of_shelf self.now).steps }
-        ensures chosen { IfSome (state_of_shelf self.now).told (λ told.
+        ensures chosen_values { IfSome (state_of_shelf self.now).told (λ told.
             IfOk result (IsChosen (at_moment moment told) (state_of_shelf self.now).sizes choices.now.items)) }
         ensures image { IfSome (state_of_shelf self.now).told (λ told.
             IfOk result (λ images. IsImage (at_moment moment told) (image_of images))) }
+        ensures every { IfSome (state_of_shelf self.now).told (λ told.
+            EachImage (CanBeChosen (at_moment moment told) (state_of_shelf self.now).sizes) (at_moment moment told)) }
     {
         let disks = disks_at(self.alloc, &self.row, moment as usize, choices)?;
         Ok(Images::from_vec(disks))
@@ -92,24 +96,24 @@ impl MemShelf {
     // Completes the next operation of the plan, if one is in flight.
     fn complete_next(&mut self) -> Option<Done>
         ensures none { IsNone result ↔ ((state_of_shelf self.old).in_flight ≡ []) }
-        ensures cases { MatchOption result (state_of_shelf self.new ≡ state_of_shelf self.old) (λ done. Completes (state_of_shelf self.old) done (state_of_shelf self.new)) }
+        ensures cases { MatchOption result (MakesReady (state_of_shelf self.old) (state_of_shelf self.new)) (λ done. Completes (state_of_shelf self.old) done (state_of_shelf self.new)) }
         ensures ready { IfSome result (λ done. Contains (state_of_shelf self.old).ready done.tag) }
         ensures plan { MatchOption result (plan_left self.new ≡ plan_left self.old)
             (λ done. FollowsPlan (state_of_shelf self.old) (plan_left self.old) done (state_of_shelf self.new) (plan_left self.new)) }
     {
-        if self.row.in_flight.is_empty() {
+        if self.row.queue.in_flight() == 0 {
             return None;
         }
         let pick = next_of(&self.picks, &mut self.picked);
-        let at = pick as usize % self.row.in_flight.len();
+        let at = pick as usize % self.row.queue.in_flight();
         Some(self.row.complete(at))
     }
 }
 
 impl Shelf for MemShelf {
     ghost use Rattle.std.specs.Prelude.{OnOk, OnErr};
-    ghost use Rattle.dev_shelf.specs.Operations.{Lies, sectors_of};
-    ghost use Rattle.dev_shelf.specs.Calls.{Submits, Reserves};
+    ghost use Rattle.disk_model.specs.Operations.{Lies, sectors_of};
+    ghost use Rattle.disk_model.specs.Calls.{Submits, Reserves};
     ghost use Rattle.dev_shelf.specs.DiskRowInvariant.{lawful_of};
     ghost use Rattle.dev_shelf.specs.Plan.{FollowsPlan};
     ghost use Rattle.dev_shelf.specs.MemShelf.{plan_left, state_of_shelf};
@@ -119,19 +123,19 @@ impl Shelf for MemShelf {
     ghost lawful = { λ shelf. lawful_of shelf.row shelf.good };
 
     fn count(&self) -> u32 {
-        self.row.opened.len() as u32
+        self.row.queue.count()
     }
 
     fn sectors(&self, pv: u32) -> u64 {
-        self.row.opened[pv as usize].len() as u64
+        self.row.queue.sectors(pv)
     }
 
     fn faults(&self, pv: u32) -> u64 {
-        self.row.faults[pv as usize]
+        self.row.queue.faults(pv)
     }
 
     fn steps(&self) -> u64 {
-        self.row.steps.len() as u64
+        self.row.queue.steps()
     }
 
     fn reserve(&mut self, ops: u64, sectors: u64) -> Result<(), AllocError>
@@ -154,7 +158,7 @@ impl Shelf for MemShelf {
 
     fn reap(&mut self) -> Option<Done>
         ensures none { IsNone result ↔ ((state_of_shelf self.old).ready ≡ []) }
-        ensures cases { MatchOption result (state_of_shelf self.new ≡ state_of_shelf self.old) (λ done. Completes (state_of_shelf self.old) done (state_of_shelf self.new)) }
+        ensures cases { MatchOption result (MakesReady (state_of_shelf self.old) (state_of_shelf self.new)) (λ done. Completes (state_of_shelf self.old) done (state_of_shelf self.new)) }
         ensures ready { IfSome result (λ done. Contains (state_of_shelf self.old).ready done.tag) }
         ensures plan { MatchOption result (plan_left self.new ≡ plan_left self.old)
             (λ done. FollowsPlan (state_of_shelf self.old) (plan_left self.old) done (state_of_shelf self.new) (plan_left self.new)) }
@@ -164,7 +168,7 @@ impl Shelf for MemShelf {
 
     fn settle(&mut self) -> Option<Done>
         ensures none { IsNone result ↔ ((state_of_shelf self.old).in_flight ≡ []) }
-        ensures cases { MatchOption result (state_of_shelf self.new ≡ state_of_shelf self.old) (λ done. Completes (state_of_shelf self.old) done (state_of_shelf self.new)) }
+        ensures cases { MatchOption result (MakesReady (state_of_shelf self.old) (state_of_shelf self.new)) (λ done. Completes (state_of_shelf self.old) done (state_of_shelf self.new)) }
         ensures plan { MatchOption result (plan_left self.new ≡ plan_left self.old)
             (λ done. FollowsPlan (state_of_shelf self.old) (plan_left self.old) done (state_of_shelf self.new) (plan_left self.new)) }
     {
@@ -183,9 +187,9 @@ fn copies(alloc: Global, disks: &[Sectors]) -> Result<Vec<Sectors>, AllocError>
     Ok(all)
 }
 
-// So many zeros.
-fn zeros(alloc: Global, count: usize) -> Result<Vec<u64>, AllocError>
-    ensures { IfOk result (λ zeros. zeros.items ≡ replicate count 0) }
+// The size of each disk in sectors.
+fn sizes_of(alloc: Global, disks: &[Sectors]) -> Result<Vec<u64>, AllocError>
+    ensures { IfOk result (λ sizes. sizes.items ≡ lengths_of disks.now) }
 {
-    Ok(vec![in alloc; 0; count]?)
+    disks.iter().map(|disk| disk.len() as u64).collect(alloc)
 }

@@ -2,7 +2,7 @@
 ghost use Rattle.std.specs.Prelude.{◌≡◌, ◌<◌, ◌≤◌, ◌+◌, [], ◌∷◌, length, slice_index_or, IfOk};
 ghost use Rattle.dev_shelf.specs.DiskRow.{new_state};
 
-use crate::{Fail, Images, MemShelf, Op, Shelf, ShelfPlan, run_one};
+use crate::{Fail, Images, MemShelf, Op, Shelf, ShelfPlan, put_sector, run_one};
 use sector_base::{Bytes512, Sectors, Span};
 use std::alloc::{AllocError, Global};
 use std::process::Abort;
@@ -252,5 +252,94 @@ fn a_sector_with_one_value_takes_no_choice(rt: HostRuntime) -> Result<(), Failed
         assert_eq!(rt; (first, other), want);
     }
     assert_eq!(rt; byte_at(&rt, &shelf, 2, &Vec::new(alloc), 2)?, 0);
+    Ok(())
+}
+
+// How many sectors are put in the long record, one after another.
+const PUTS: u64 = 600;
+
+// Two disks of 2,112 sectors of zeros.
+fn large_disks(alloc: Global) -> Result<MemShelf, AllocError>
+    ensures { IfOk result (λ shelf. (images : _) × (length images ≡ 2) × (length (slice_index_or images 0 []) ≡ 2112) × (length (slice_index_or images 1 []) ≡ 2112)
+        × (⟦<MemShelf as Shelf>⟧.state shelf ≡ new_state images)) }
+{
+    let mut disks = Vec::new(alloc);
+    disks.push(Sectors::zeroed(alloc, 2112)?)?;
+    disks.push(Sectors::zeroed(alloc, 2112)?)?;
+    let plan = ShelfPlan {
+        picks: Vec::new(alloc),
+        fails: Vec::new(alloc),
+        holds: Vec::new(alloc),
+        limit: 0,
+    };
+    MemShelf::new(alloc, Images::from_vec(disks), plan)
+}
+
+// Where the put of this number goes: its disk, and its sector, one of 32 on each disk.
+fn place_of(put: u64) -> (u32, u64)
+    ensures disk { result.0 < 2 }
+    ensures sector { result.1 < 2112 }
+{
+    (u32::from(put % 2 == 1), put / 2 % 32 * 66)
+}
+
+// The byte that the put of this number writes.
+fn byte_of(put: u64) -> u8 {
+    (put % 251 + 1) as u8
+}
+
+// Puts one sector more.
+fn put_more<S: Shelf>(alloc: Global, shelf: &mut S, put: u64) -> Result<(), Failed>
+    requires idle { (S.state shelf.old).in_flight ≡ [] }
+    requires sizes { (S.state shelf.old).sizes ≡ 2112 ∷ 2112 ∷ [] }
+    ensures idle { IfOk result (λ _. (S.state shelf.new).in_flight ≡ []) }
+    ensures sizes { IfOk result (λ _. (S.state shelf.new).sizes ≡ 2112 ∷ 2112 ∷ []) }
+{
+    shelf.reserve(2, 1)?;
+    let (pv, sector) = place_of(put);
+    put_sector(shelf, pv, sector, one(alloc, byte_of(put))?)?;
+    Ok(())
+}
+
+// The first byte that a crash at this moment leaves in this sector, with this choice.
+fn left_at(
+    rt: &impl Abort,
+    shelf: &MemShelf,
+    moment: u64,
+    choices: &Vec<u64>,
+    place: (u32, u64),
+) -> Result<u8, Failed> {
+    assert!(rt; moment <= shelf.moments());
+    let images = shelf.images_at(moment, choices)?;
+    let (pv, sector) = place;
+    assert!(rt; (pv as usize) < images.len());
+    let disk = images.get(pv as usize);
+    assert!(rt; sector < disk.len() as u64);
+    Ok(disk.get(sector as usize).as_bytes()[0])
+}
+
+#[test]
+fn each_moment_of_a_long_record_has_its_images(rt: HostRuntime) -> Result<(), Failed> {
+    let alloc = rt.alloc();
+    let mut shelf = large_disks(alloc)?;
+    for put in 0..PUTS {
+        put_more(alloc, &mut shelf, put)?;
+    }
+    assert_eq!(rt; shelf.moments(), 4 * PUTS);
+    let oldest = Vec::new(alloc);
+    let newest = picks(alloc, &[1])?;
+    for put in 0..PUTS {
+        let place = place_of(put);
+        let before = if put < 64 { 0 } else { byte_of(put - 64) };
+        // The old value is left until the flush has completed, and the new one may be from the write on.
+        for step in 1..4 {
+            let found = left_at(&rt, &shelf, 4 * put + step, &oldest, place)?;
+            assert_eq!(rt; found, before, "at {put}, {step}");
+        }
+        let found = left_at(&rt, &shelf, 4 * put + 1, &newest, place)?;
+        assert_eq!(rt; found, byte_of(put), "at {put}");
+        let found = left_at(&rt, &shelf, 4 * put + 4, &oldest, place)?;
+        assert_eq!(rt; found, byte_of(put), "after {put}");
+    }
     Ok(())
 }

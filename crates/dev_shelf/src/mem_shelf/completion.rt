@@ -1,23 +1,25 @@
 //! How operations complete.
-ghost use Rattle.std.specs.Prelude.{◌≡◌, ◌≤◌, ◌<◌, ◌+◌, ◌^◌, ◌*◌, ◌==◌, ◌&&◌, ℕ, [], ◌∷◌, List, length, replicate, slice_index, slice_index_or, vec_len, true, not, nat_le, nat_lt, if◌then◌else◌, IsTrue, Contains};
+ghost use Rattle.std.specs.Prelude.{◌≡◌, ◌≤◌, ◌<◌, ◌+◌, ◌==◌, ◌&&◌, ℕ, [], ◌∷◌, length, replicate, slice_index, true, nat_le, nat_lt, if◌then◌else◌, IsTrue, Contains};
 ghost use Rattle.sector_base.specs.Spans.{covers};
-ghost use Rattle.dev_shelf.specs.Steps.{Completed, now_after, value_at};
-ghost use Rattle.dev_shelf.specs.Operations.{Fills, Lies, work_of, disk_of as disk_number};
-ghost use Rattle.dev_shelf.specs.Calls.{Completes};
+ghost use Rattle.disk_model.specs.Steps.{Completed, now_after, value_at};
+ghost use Rattle.disk_model.specs.Operations.{Fills, Lies, work_of};
+ghost use Rattle.disk_model.specs.Calls.{Completes};
 ghost use Rattle.dev_shelf.specs.Plan.{FailsAsPlanned, failure_of};
 ghost use Rattle.dev_shelf.specs.DiskRow.{image_of, lengths_of, state_of};
 ghost use Rattle.dev_shelf.specs.DiskRowInvariant.{IsGood, ReadsImage, fresh_of};
 
-use super::disk_row::{DiskRow, InFlight};
+use super::disk_row::DiskRow;
 use super::recorded::RecordedStep;
-use crate::{Done, Fail, Op};
+use crate::Fail;
+use disk_model::{Done, Op};
+use op_queue::Waiting;
 use sector_base::{Sectors, Span};
 
 impl DiskRow {
     /// Completes the operation at this place of those in flight, and records that.
     pub fn complete(&mut self, at: usize) -> Done
         requires good { IsGood self.old }
-        requires at { at < vec_len self.old.in_flight }
+        requires at { at < length (state_of self.old).in_flight }
         ensures good { IsGood self.new }
         ensures completes { Completes (state_of self.old) result (state_of self.new) }
         ensures which { result.tag ≡ slice_index (state_of self.old).ready at }
@@ -25,15 +27,15 @@ impl DiskRow {
         ensures fails { FailsAsPlanned (state_of self.old) self.old.fails.items result (state_of self.new) }
         ensures plan { self.new.fails.items ≡ self.old.fails.items }
     {
-        let InFlight { tag, op, work } = self.in_flight.remove(at);
+        let Waiting { tag, op } = self.queue.take(at);
+        let work = self.works.remove(at);
         let failure = planned_failure(&self.fails, tag);
         let well = failure.is_none();
         let fresh = failure.unwrap_or(0);
         let op = carry_out(&mut self.current, op, well, fresh);
-        count_fault(&mut self.faults, disk_of(&op), well);
         self.steps
             .push_reserved(RecordedStep::Ended(tag, work, well, fresh));
-        Done { tag, op, well }
+        self.queue.complete(tag, op, well)
     }
 }
 
@@ -105,26 +107,4 @@ fn write_to(disks: &mut Vec<Sectors>, span: &Span, sectors: &Sectors, count: u32
 {
     let disk = &mut disks[span.pv as usize];
     disk.copy_in(span.first as usize, sectors, count as usize);
-}
-
-// The disk of the operation.
-fn disk_of(op: &Op) -> u32
-    ensures { result ≡ disk_number op.now }
-{
-    match op {
-        Op::Read(span, _) | Op::Write(span, _) => span.pv,
-        Op::Flush(pv) => *pv,
-    }
-}
-
-// Counts a fault of the disk, where the operation didn't go well.
-fn count_fault(faults: &mut Vec<u64>, pv: u32, well: bool)
-    requires disk { pv < vec_len faults.old }
-    requires room { (p : ℕ) → slice_index_or faults.old.items p 0 < 2 ^ 63 }
-    ensures len { vec_len faults.new ≡ vec_len faults.old }
-    ensures each { (p : ℕ) → slice_index_or faults.new.items p 0 ≡ (if not well && (pv == p) then slice_index_or faults.old.items p 0 + 1 else slice_index_or faults.old.items p 0) }
-{
-    if !well {
-        faults[pv as usize] += 1;
-    }
 }

@@ -1,9 +1,9 @@
 //! The values that a crash may leave in a sector.
 ghost use Rattle.std.specs.Prelude.{◌≡◌, ◌≤◌, ◌<◌, ℕ, List, [], ◌∷◌, filter, length, not, slice_index_or, take, vec_len, IfOk};
 ghost use Rattle.sector_base.specs.Spans.{covers};
-ghost use Rattle.dev_shelf.specs.Steps.{Step};
-ghost use Rattle.dev_shelf.specs.Record.{IsRecord};
-ghost use Rattle.dev_shelf.specs.ValueList.{is_dropped, values};
+ghost use Rattle.disk_model.specs.Steps.{Step};
+ghost use Rattle.disk_model.specs.Record.{IsRecord};
+ghost use Rattle.disk_model.specs.ValueList.{is_dropped, values};
 ghost use Rattle.dev_shelf.specs.DiskRow.{image_of, step_at, steps_onto};
 ghost use Rattle.dev_shelf.specs.DiskRowInvariant.{IsGood, IsKept, recorded_work};
 ghost use Rattle.dev_shelf.specs.RowValues.{IsSeen, is_write, told_after};

@@ -1,5 +1,5 @@
 use Rattle.std.proofs.Common.{List, arith, sym, subst, take, []}
-use Rattle.dev_shelf.specs.Steps.{Step}
+use Rattle.disk_model.specs.Steps.{Step}
 use Rattle.dev_shelf.specs.DiskRow.{steps_onto}
 use Rattle.dev_shelf.specs.RowValues.{IsSeen}
 use Rattle.dev_shelf.proofs.Recorded.{steps_more}

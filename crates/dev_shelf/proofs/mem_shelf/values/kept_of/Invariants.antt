@@ -1,6 +1,6 @@
 use Rattle.std.proofs.Common.{◌≡◌, [], take, filter, not}
 use Rattle.dev_shelf.specs.DiskRow.{steps_onto}
-use Rattle.dev_shelf.specs.ValueList.{is_dropped}
+use Rattle.disk_model.specs.ValueList.{is_dropped}
 use Rattle.dev_shelf.proofs.mem_shelf.values.kept_of.Given as goal
 
 abbrev pub invariant-loop-value : goal.invariant-loop-value

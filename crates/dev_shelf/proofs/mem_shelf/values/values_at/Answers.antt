@@ -1,6 +1,6 @@
 use Rattle.std.proofs.Common.{List, arith, sym, ap, ◌∙◌}
-use Rattle.dev_shelf.specs.Steps.{Step}
-use Rattle.dev_shelf.specs.ValueList.{values}
+use Rattle.disk_model.specs.Steps.{Step}
+use Rattle.disk_model.specs.ValueList.{values}
 use Rattle.dev_shelf.specs.DiskRow.{image_of}
 use Rattle.dev_shelf.proofs.Recorded.{steps_more}
 use Rattle.dev_shelf.proofs.RecordMoments.{record_more}

@@ -1,6 +1,6 @@
 use Rattle.std.proofs.Common.{◌≡◌, [], take}
 use Rattle.dev_shelf.specs.DiskRow.{steps_onto, image_of}
-use Rattle.dev_shelf.specs.ValueList.{values}
+use Rattle.disk_model.specs.ValueList.{values}
 use Rattle.dev_shelf.proofs.mem_shelf.values.values_at.Given as goal
 
 abbrev pub invariant-loop-i : goal.invariant-loop-i

@@ -1,5 +1,5 @@
 use Rattle.std.proofs.Common.{arith, sym, ap, ◌∙◌, ◌≤◌, List, ℕ, Option, length, take, []}
-use Rattle.dev_shelf.specs.ValueList.{values}
+use Rattle.disk_model.specs.ValueList.{values}
 use Rattle.dev_shelf.specs.DiskRow.{image_of, steps_onto}
 use Rattle.dev_shelf.proofs.FlushedValues.{flush_sole, flush_other, flush_failed}
 use Rattle.dev_shelf.proofs.mem_shelf.values.values_on.Goals as goal
