@@ -1,3 +1,6 @@
 pub mod Counts
-pub mod Meanings
+pub mod GivenValues
+pub mod NamesFound
+pub mod Numbers
+pub mod TextsWritten
 pub mod Written

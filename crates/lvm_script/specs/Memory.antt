@@ -16,7 +16,7 @@ pub record IsFresh (plan : Plan) (numbers : List ℕ) : Type 0 where
   pub faults : plan.faults ≡ 0
 
 -- one call more, and one fault more where it failed
-pub record Goes (old : Plan) (failed : Bool) (new : Plan) : Type 0 where
+pub record CountsCall (old : Plan) (failed : Bool) (new : Plan) : Type 0 where
   pub fails : new.fails ≡ old.fails
   pub calls : new.calls ≡ counted_on old.calls
   pub faults : new.faults ≡ (if failed then counted_on old.faults else old.faults)

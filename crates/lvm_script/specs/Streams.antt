@@ -1,5 +1,5 @@
 -- What a call does to the bytes of a stream and to its count of faults.
-use Rattle.std.specs.Prelude.{◌≡◌, ◌≤◌, ◌<◌, ◌⊎◌, ◌↔◌, ◌^◌, ◌+◌, ◌-◌, ℕ, List, [], ◌++◌, length, take, drop, min, Option, IfSome}
+use Rattle.std.specs.Prelude.{◌≡◌, ◌≤◌, Bool, true, false, ◌<◌, ◌⊎◌, ◌↔◌, ◌^◌, ◌+◌, ◌-◌, ℕ, List, [], ◌++◌, length, take, drop, min, Option, IfSome}
 use Rattle.std.specs.Option.{option_map}
 
 -- the count of faults has risen; one that stands at the end of its 64 bits counts as risen
@@ -32,3 +32,8 @@ pub record Writes (before : Option (List ℕ)) (piece : List ℕ) (n : ℕ) (aft
 -- what was written of a text is a front of it, and not all of it
 abbrev pub WritesFront : Option (List ℕ) → List ℕ → Option (List ℕ) → Type 0
 WritesFront before text after = (n : ℕ) × (n < length text) × (after ≡ with_more before (take n text))
+
+-- a text was written by a call that went well or failed: whole and without a fault, or a front of it before a fault
+abbrev pub WritesText : Option (List ℕ) → ℕ → List ℕ → Bool → Option (List ℕ) → ℕ → Type 0
+WritesText before faults_before text true after faults_after = (after ≡ with_more before text) × (faults_after ≡ faults_before)
+WritesText before faults_before text false after faults_after = WritesFront before text after × HasRisen faults_before faults_after

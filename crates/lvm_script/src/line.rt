@@ -1,34 +1,63 @@
-//! What a command line asks for.
-ghost use Rattle.std.specs.Prelude.{◌≡◌};
-ghost use Rattle.lvm_script.specs.Lines.{pv_of_line};
+//! What a command line or a line of a script asks for.
+ghost use Rattle.std.specs.Prelude.{◌≡◌, None, Some, IfOk, IfSome, OnErr, IsErrOf};
+ghost use Rattle.lvm_id.specs.LvmId.{IsId};
+ghost use Rattle.lvm_script.specs.Lines.{TakesId, draws, line_of as line_with, line_of_words};
+ghost use Rattle.lvm_script.specs.Meaning.{meaning_of_words};
+ghost use Rattle.lvm_script.specs.Options.{words_of};
 
-use lvm_id::LvmId;
-use sector_base::Text;
+use crate::meaning::command_of_words;
+use crate::{Command, LineRefusal};
+use lvm_id::{LvmId, Words64};
+use std::alloc::Global;
 
-/// A command and its arguments. Its number is the number of its line, 1 for a single command.
+/// A command with what it has as a line.
 #[derive(Debug, Drop)]
-pub enum Line {
-    /// Creates a physical volume with this id on the disk of this name, with so many metadata areas, 0 or 1.
-    Pvcreate {
-        number: u64,
-        id: LvmId,
-        pv: Text,
-        areas: u32,
-    },
-    /// Checks the metadata of the disk of this name.
-    Pvck {
-        number: u64,
-        pv: Text,
-    },
+pub struct Line {
+    /// The number of the line, from 1. A single command is line 1.
+    pub number: u64,
+    /// The id of what it creates, where its command draws one.
+    pub id: Option<LvmId>,
+    pub command: Command,
 }
 
-impl Line {
-    /// The name of the disk that the line is about.
-    pub fn pv(&self) -> &[u8]
-        ensures { result.now ≡ pv_of_line self.now }
-    {
-        match self {
-            Line::Pvcreate { pv, .. } | Line::Pvck { pv, .. } => pv.as_bytes(),
-        }
+/// The line of these words, which are those of a command line after the pairs `-d NAME`. It draws the next four numbers of
+/// `ids` where its command draws an id.
+///
+/// # Errors
+///
+/// `NoMemory` where memory is wanting, and else `NoMeaning` exactly where the words have no meaning. After both no number of
+/// `ids` was drawn.
+pub fn line_of<N: Words64>(
+    alloc: Global,
+    words: &[String],
+    ids: &mut N,
+) -> Result<Line, LineRefusal>
+    ensures line { IfOk result (λ line. line_of_words (words_of words.now) (N.upcoming ids.old) ≡ Some line) }
+    ensures no_meaning { IsErrOf result LineRefusal.NoMeaning → meaning_of_words (words_of words.now) ≡ None }
+    ensures valid { IfOk result (λ line. IfSome line.id IsId) }
+    ensures drawn { IfOk result (λ line. TakesId (draws line.command) (N.upcoming ids.old) (N.upcoming ids.new)) }
+    ensures undrawn { OnErr result (N.upcoming ids.new ≡ N.upcoming ids.old) }
+{
+    match command_of_words(alloc, words)? {
+        Some(command) => Ok(numbered(1, command, ids)),
+        None => Err(LineRefusal::NoMeaning),
+    }
+}
+
+// The line with this number and command.
+fn numbered<N: Words64>(number: u64, command: Command, ids: &mut N) -> Line
+    ensures line { result ≡ line_with number command (N.upcoming ids.old) }
+    ensures valid { IfSome result.id IsId }
+    ensures drawn { TakesId (draws command) (N.upcoming ids.old) (N.upcoming ids.new) }
+{
+    let id = if command.draws() {
+        Some(LvmId::from_words(ids))
+    } else {
+        None
+    };
+    Line {
+        number,
+        id,
+        command,
     }
 }

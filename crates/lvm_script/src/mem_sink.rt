@@ -1,5 +1,5 @@
 //! A sink in memory.
-ghost use Rattle.std.specs.Prelude.{◌≡◌, ◌≤◌, ◌<◌, ◌⊎◌, ◌↔◌, [], min, length, Some, IfOk, OnErr, IsErr, is_err};
+ghost use Rattle.std.specs.Prelude.{◌≡◌, ◌≤◌, ◌<◌, ◌⊎◌, ◌↔◌, [], min, length, Some, IfOk, OnErr, OnOk, IsErr, is_err};
 
 use crate::plan::Plan;
 use crate::{Failed, Sink};
@@ -38,7 +38,7 @@ impl MemSink {
 }
 
 impl Sink for MemSink {
-    ghost use Rattle.lvm_script.specs.Memory.{FailsNext, Goes, room_of};
+    ghost use Rattle.lvm_script.specs.Memory.{FailsNext, CountsCall, room_of};
     ghost use Rattle.lvm_script.specs.Streams.{HasRisen, Writes};
 
     ghost written = { λ sink. Some sink.bytes.items };
@@ -50,11 +50,12 @@ impl Sink for MemSink {
     fn write(&mut self, from: &[u8]) -> Result<usize, Failed>
         ensures ok { IfOk result (λ n. Writes (Some self.old.bytes.items) from.now n (Some self.new.bytes.items)) }
         ensures failed { OnErr result (self.new.bytes ≡ self.old.bytes) }
+        ensures unfaulted { OnOk result (self.new.plan.faults ≡ self.old.plan.faults) }
         ensures faulty { OnErr result (HasRisen self.old.plan.faults self.new.plan.faults) }
         ensures never_falls { self.old.plan.faults ≤ self.new.plan.faults }
         ensures planned { IsErr result ↔ (FailsNext self.old.plan ⊎ ((room_of self.old ≡ 0) × (0 < length from.now))) }
         ensures most { IfOk result (λ n. n ≡ min (length from.now) (room_of self.old)) }
-        ensures plan { Goes self.old.plan (is_err result) self.new.plan }
+        ensures plan { CountsCall self.old.plan (is_err result) self.new.plan }
     {
         let n = from.len().min(self.bytes.capacity() - self.bytes.len());
         let failed = self.plan.fails_next() || (n == 0 && !from.is_empty());

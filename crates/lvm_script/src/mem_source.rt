@@ -1,5 +1,5 @@
 //! A source in memory.
-ghost use Rattle.std.specs.Prelude.{◌≡◌, ◌≤◌, ◌<◌, ◌↔◌, min, length, vec_len, Some, IfOk, OnErr, IsErr, is_err};
+ghost use Rattle.std.specs.Prelude.{◌≡◌, ◌≤◌, ◌<◌, ◌↔◌, min, length, vec_len, Some, IfOk, OnErr, OnOk, IsErr, is_err};
 
 use crate::plan::Plan;
 use crate::{Failed, Source};
@@ -30,7 +30,7 @@ impl MemSource {
 }
 
 impl Source for MemSource {
-    ghost use Rattle.lvm_script.specs.Memory.{FailsNext, Goes, left_of};
+    ghost use Rattle.lvm_script.specs.Memory.{FailsNext, CountsCall, left_of};
     ghost use Rattle.lvm_script.specs.Streams.{HasRisen, Reads};
 
     ghost left = { λ source. Some (left_of source) };
@@ -42,11 +42,12 @@ impl Source for MemSource {
     fn read(&mut self, into: &mut [u8]) -> Result<usize, Failed>
         ensures ok { IfOk result (λ n. Reads (Some (left_of self.old)) into.old n into.new (Some (left_of self.new))) }
         ensures failed { OnErr result (left_of self.new ≡ left_of self.old) }
+        ensures unfaulted { OnOk result (self.new.plan.faults ≡ self.old.plan.faults) }
         ensures faulty { OnErr result (HasRisen self.old.plan.faults self.new.plan.faults) }
         ensures never_falls { self.old.plan.faults ≤ self.new.plan.faults }
         ensures planned { IsErr result ↔ FailsNext self.old.plan }
         ensures most { IfOk result (λ n. n ≡ min (length into.old) (length (left_of self.old))) }
-        ensures plan { Goes self.old.plan (is_err result) self.new.plan }
+        ensures plan { CountsCall self.old.plan (is_err result) self.new.plan }
     {
         let failed = self.plan.fails_next();
         self.plan.count(failed);

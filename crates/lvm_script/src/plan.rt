@@ -11,7 +11,7 @@ pub struct Plan {
 }
 
 impl Plan {
-    ghost use Rattle.lvm_script.specs.Memory.{FailsNext, IsFresh, Goes};
+    ghost use Rattle.lvm_script.specs.Memory.{FailsNext, IsFresh, CountsCall};
 
     /// No call yet, and these are to fail.
     pub fn new(fails: Vec<u64>) -> Self
@@ -33,7 +33,7 @@ impl Plan {
 
     /// Counts a call, and a fault where it failed.
     pub fn count(&mut self, failed: bool)
-        ensures { Goes self.old failed self.new }
+        ensures { CountsCall self.old failed self.new }
     {
         self.calls = self.calls.saturating_add(1);
         if failed {

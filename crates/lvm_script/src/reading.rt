@@ -1,54 +1,128 @@
-//! Reading a line from its words.
-ghost use Rattle.std.specs.Prelude.{◌≡◌, ◌↔◌, IfOk, OnErr, IsErrOf};
-ghost use Rattle.std.specs.String.{string_bytes};
-ghost use Rattle.lvm_script.specs.declared.line.Line.{Line};
-ghost use Rattle.lvm_script.specs.Lines.{AreAlike, Draws, MeansLine, number_of_line, words_of};
+//! Reading the words of a command from left to right.
+ghost use Rattle.std.specs.Prelude.{◌≡◌, OnOk};
+ghost use Rattle.lvm_script.specs.Words.{after_role, after_word, fault_of, first_fault, has_key, nothing_read, option_named, read_by, role_of, split_by};
+ghost use Rattle.lvm_script.specs.Table.{options_of};
 
-use crate::commands::{pvck_disk, pvcreate_disk};
-use crate::{Line, LineRefusal};
-use lvm_id::{LvmId, Words64};
-use sector_base::Text;
+use crate::role::Role;
+use crate::values::fault_in;
+use crate::{CommandName, Fault, OptionKey, OptionRow};
 use std::alloc::{AllocError, Global};
 
-/// The line of these words, which are those of a command line after the pairs `-d NAME`. A single command is line 1.
-/// Of the lines that have a meaning, pvcreate alone draws an id: the next four numbers of `ids`.
-///
-/// # Errors
-///
-/// `NoMeaning` exactly where the words have no meaning, and `NoMemory` where memory is wanting for the name of the disk. After
-/// both no number of `ids` was drawn.
-pub fn line_of<N: Words64>(
-    alloc: Global,
-    words: &[String],
-    ids: &mut N,
-) -> Result<Line, LineRefusal>
-    ensures meaning { IfOk result (MeansLine (words_of words.now)) }
-    ensures number { IfOk result (λ line. number_of_line line ≡ 1) }
-    ensures drawn { IfOk result (Draws (N.upcoming ids.old) (N.upcoming ids.new)) }
-    ensures undrawn { OnErr result (N.upcoming ids.new ≡ N.upcoming ids.old) }
-    ensures no_meaning { IsErrOf result LineRefusal.NoMeaning ↔ ((line : Line) → ¬ MeansLine (words_of words.now) line) }
-    ensures only { (line other : Line) → MeansLine (words_of words.now) line → MeansLine (words_of words.now) other → AreAlike line other }
-{
-    if let Some(pv) = pvck_disk(words) {
-        let pv = text_of(alloc, pv)?;
-        return Ok(Line::Pvck { number: 1, pv });
-    }
-    let Some((pv, areas)) = pvcreate_disk(words) else {
-        return Err(LineRefusal::NoMeaning);
-    };
-    let pv = text_of(alloc, pv)?;
-    let id = LvmId::from_words(ids);
-    Ok(Line::Pvcreate {
-        number: 1,
-        id,
-        pv,
-        areas,
-    })
+/// The words of a command so far, taken apart, and the first of them that is faulty.
+#[derive(Debug, Drop)]
+pub struct Reading<'a> {
+    /// The options so far.
+    pub seen: Vec<OptionKey>,
+    /// Those of them that have their value.
+    pub given: Vec<(OptionKey, &'a str)>,
+    /// The option whose value the next word is.
+    pub waiting: Option<OptionRow>,
+    pub arguments: Vec<&'a str>,
+    /// The first fault, and the place of its word.
+    pub fault: Option<(Fault, u64)>,
 }
 
-// The bytes of a word.
-fn text_of(alloc: Global, word: &String) -> Result<Text, AllocError>
-    ensures { IfOk result (λ text. text ≡ string_bytes word.now) }
+impl<'a> Reading<'a> {
+    /// No word yet.
+    pub fn new(alloc: Global) -> Self
+        ensures { read_by result ≡ nothing_read }
+    {
+        Reading {
+            seen: Vec::new(alloc),
+            given: Vec::new(alloc),
+            waiting: None,
+            arguments: Vec::new(alloc),
+            fault: None,
+        }
+    }
+
+    // What the next word is.
+    fn role(&self, name: CommandName, word: &str) -> Role
+        ensures { result ≡ role_of (options_of name) (split_by self.now) word.now }
+    {
+        if word.as_bytes().first() == Some(&b'-') {
+            match option_named(name.options(), word) {
+                Some(row) if !self.has_seen(row.key) => Role::Option(row),
+                _ => Role::Stray,
+            }
+        } else {
+            match self.waiting {
+                Some(row) => Role::Value(row),
+                None => Role::Argument(self.arguments.len()),
+            }
+        }
+    }
+
+    // Whether the option stands among the words.
+    fn has_seen(&self, key: OptionKey) -> bool
+        ensures { result ≡ has_key self.now.seen.items key }
+    {
+        has_key(&self.seen, key)
+    }
+
+    /// Takes one more word. Only memory can be wanting.
+    pub fn take(&mut self, name: CommandName, word: &'a str, place: u64) -> Result<(), AllocError>
+        ensures { OnOk result (read_by self.new ≡ after_word name (read_by self.old) (word.now, place)) }
+    {
+        let role = self.role(name, word);
+        self.fault = first_fault(self.fault, fault_of(name, word, role), place);
+        self.add(word, role)
+    }
+
+    // Puts the word where it belongs.
+    fn add(&mut self, word: &'a str, role: Role) -> Result<(), AllocError>
+        ensures split { OnOk result (split_by self.new ≡ after_role (split_by self.old) word.now role) }
+        ensures fault { self.new.fault ≡ self.old.fault }
+    {
+        match role {
+            Role::Stray => self.waiting = None,
+            Role::Option(row) => {
+                self.seen.push(row.key)?;
+                self.waiting = Some(row);
+            }
+            Role::Value(row) => {
+                self.given.push((row.key, word))?;
+                self.waiting = None;
+            }
+            Role::Argument(_) => self.arguments.push(word)?,
+        }
+        Ok(())
+    }
+}
+
+// Whether the option is one of these.
+fn has_key(keys: &[OptionKey], key: OptionKey) -> bool
+    ensures { result ≡ has_key keys.now key }
 {
-    Ok(Text::from_vec(Vec::from_slice(alloc, word.as_bytes())?))
+    keys.iter().any(|seen| seen.is(key))
+}
+
+// The option that the word is.
+fn option_named(rows: &[OptionRow], word: &str) -> Option<OptionRow>
+    ensures { result ≡ option_named rows.now word.now }
+{
+    rows.iter().copied().find(|row| row.key.spells(word))
+}
+
+// The fault of a word.
+fn fault_of(name: CommandName, word: &str, role: Role) -> Option<Fault>
+    ensures { result ≡ fault_of name word.now role }
+{
+    match role {
+        Role::Stray => Some(Fault::BadOption),
+        Role::Option(_) => None,
+        Role::Value(row) => fault_in(row.kind, word),
+        Role::Argument(number) => fault_in(name.argument(number)?, word),
+    }
+}
+
+// The first fault, with one more word at this place.
+fn first_fault(first: Option<(Fault, u64)>, next: Option<Fault>, place: u64) -> Option<(Fault, u64)>
+    ensures { result ≡ first_fault first next place }
+{
+    match (first, next) {
+        (Some(fault), _) => Some(fault),
+        (None, Some(fault)) => Some((fault, place)),
+        (None, None) => None,
+    }
 }

@@ -1,6 +1,18 @@
-//! Why words are no line.
+//! Why words are no command and no line.
+use crate::Fault;
 use std::alloc::AllocError;
 use thiserror::Error;
+
+/// The words after a command's name aren't those of a command, or memory was wanting.
+#[derive(Clone, Copy, Debug, PartialEq, Eq)]
+pub enum CommandRefusal {
+    /// The first faulty word from the left, by its place.
+    Faulty(Fault, u64),
+    /// Too few or too many words, or a needed option or value that is missing.
+    WrongWords,
+    /// Memory was wanting.
+    NoMemory,
+}
 
 /// Why words are no line.
 #[derive(Clone, Copy, Debug, PartialEq, Eq, Error)]

@@ -1,5 +1,5 @@
 //! What bytes go to.
-ghost use Rattle.std.specs.Prelude.{◌≡◌, ◌≤◌, ◌<◌, ◌^◌, ℕ, List, Option, OnErr, IfOk};
+ghost use Rattle.std.specs.Prelude.{◌≡◌, ◌≤◌, ◌<◌, ◌^◌, ℕ, List, Option, OnErr, OnOk, IfOk};
 ghost use Rattle.lvm_script.specs.Streams.{HasRisen, Writes};
 
 use crate::Failed;
@@ -15,10 +15,11 @@ pub trait Sink {
     ///
     /// # Errors
     ///
-    /// `Failed` only where the count of faults has risen in this call. Then the bytes written are as before.
+    /// `Failed` exactly where the count of faults has risen in this call. Then the bytes written are as before.
     fn write(&mut self, from: &[u8]) -> Result<usize, Failed>
         ensures ok { IfOk result (λ n. Writes (written self.old) from.now n (written self.new)) }
         ensures failed { OnErr result (written self.new ≡ written self.old) }
+        ensures unfaulted { OnOk result (fault_count self.new ≡ fault_count self.old) }
         ensures faulty { OnErr result (HasRisen (fault_count self.old) (fault_count self.new)) }
         ensures never_falls { fault_count self.old ≤ fault_count self.new };
 

@@ -1,5 +1,5 @@
 //! What bytes come from.
-ghost use Rattle.std.specs.Prelude.{◌≡◌, ◌≤◌, ◌<◌, ◌^◌, ℕ, List, Option, OnErr, IfOk};
+ghost use Rattle.std.specs.Prelude.{◌≡◌, ◌≤◌, ◌<◌, ◌^◌, ℕ, List, Option, OnErr, OnOk, IfOk};
 ghost use Rattle.lvm_script.specs.Streams.{HasRisen, Reads};
 
 use crate::Failed;
@@ -16,10 +16,11 @@ pub trait Source {
     ///
     /// # Errors
     ///
-    /// `Failed` only where the count of faults has risen in this call. Then the bytes left are as before.
+    /// `Failed` exactly where the count of faults has risen in this call. Then the bytes left are as before.
     fn read(&mut self, into: &mut [u8]) -> Result<usize, Failed>
         ensures ok { IfOk result (λ n. Reads (left self.old) into.old n into.new (left self.new)) }
         ensures failed { OnErr result (left self.new ≡ left self.old) }
+        ensures unfaulted { OnOk result (fault_count self.new ≡ fault_count self.old) }
         ensures faulty { OnErr result (HasRisen (fault_count self.old) (fault_count self.new)) }
         ensures never_falls { fault_count self.old ≤ fault_count self.new };
 

@@ -1,6 +1,9 @@
 //! Streams through their bounds, with a fault in mid-stream, and the meanings of words as a table.
-use crate::{Failed, Line, LineRefusal, MemSink, MemSource, Sink, Source, line_of, write_all};
+use crate::{
+    Command, Failed, Line, LineRefusal, MemSink, MemSource, Sink, Source, line_of, write_all,
+};
 use lvm_id::{MemWords, Words64};
+use sector_base::Text;
 use std::alloc::{AllocError, Global};
 use std::test::Fail;
 
@@ -52,7 +55,7 @@ fn writes_a_text_up_to_the_fault(rt: HostRuntime) -> Result<(), Fail> {
     ];
     for (capacity, fail, written, well) in cases {
         let mut sink = MemSink::new(rt.alloc(), capacity, [fail].to_vec(rt.alloc())?)?;
-        let answer = write_all(&mut sink, text);
+        let answer = write_all(&mut sink, &Text::from_vec(text.to_vec(rt.alloc())?));
         assert_eq!(rt; answer, if well { Ok(()) } else { Err(Failed) });
         assert_eq!(rt; sink.bytes(), written);
         assert_eq!(rt; sink.faults(), if well { 0 } else { 1 });
@@ -60,6 +63,7 @@ fn writes_a_text_up_to_the_fault(rt: HostRuntime) -> Result<(), Fail> {
     Ok(())
 }
 
+// The words as a list of their own.
 fn list_of(alloc: Global, words: &[&str]) -> Result<Vec<String>, AllocError> {
     let mut list = Vec::new(alloc);
     for word in words {
@@ -70,9 +74,9 @@ fn list_of(alloc: Global, words: &[&str]) -> Result<Vec<String>, AllocError> {
 
 #[test]
 fn words_are_read_as_lines(rt: HostRuntime) -> Result<(), Fail> {
-    // How many areas pvcreate gives the disk `a`, none for pvck.
+    // How many copies of the metadata pvcreate gives the disk `a`, none for pvck.
     let refused = Err(LineRefusal::NoMeaning);
-    let rows: [(&[&str], Result<Option<u32>, LineRefusal>); 17] = [
+    let rows: [(&[&str], Result<Option<u64>, LineRefusal>); 23] = [
         (&["pvck", "a"], Ok(None)),
         (&["pvcreate", "a"], Ok(Some(1))),
         (&["pvcreate", "--metadatacopies", "0", "a"], Ok(Some(0))),
@@ -82,36 +86,65 @@ fn words_are_read_as_lines(rt: HostRuntime) -> Result<(), Fail> {
         (&["pvcreate", "--metadatacopies", "2", "a"], refused),
         (&["pvcreate", "--metadatacopies", "+1", "a"], refused),
         (&["pvcreate", "--metadatacopies", "", "a"], refused),
+        (&["pvcreate", "--metadatacopies=1", "a"], refused),
         (&["pvcreate", "a", "--metadatacopies"], refused),
+        (&["pvcreate", "--metadatacopies", "a"], refused),
+        (
+            &["pvcreate", "--metadatacopies", "18446744073709551616", "a"],
+            refused,
+        ),
+        (
+            &[
+                "pvcreate",
+                "--metadatacopies",
+                "0",
+                "a",
+                "--metadatacopies",
+                "0",
+            ],
+            refused,
+        ),
         (&["pvcreate", "-a"], refused),
+        (&["pvcreate", "--", "a"], refused),
         (&["pvcreate", ""], refused),
         (&["pvcreate"], refused),
         (&["pvck", "a", "a"], refused),
+        (&["pvck", "--metadatacopies", "0", "a"], refused),
         (&["pvck", "a b"], refused),
         (&["lvs", "a"], refused),
         (&[], refused),
     ];
     for (words, want) in rows {
         let mut ids = MemWords::new([0, 1, 62, 3, 9].to_vec(rt.alloc())?);
-        let line = line_of(rt.alloc(), &list_of(rt.alloc(), words)?, &mut ids);
-        match &line {
+        match line_of(rt.alloc(), &list_of(rt.alloc(), words)?, &mut ids) {
             Ok(
-                Line::Pvcreate {
+                Line {
                     number,
                     id,
-                    pv,
-                    areas,
+                    command,
                 },
             ) => {
-                assert_eq!(rt; (*number, pv.as_bytes()), (1, b"a".as_slice()));
-                assert_eq!(rt; &id.plain(), b"00000000100000000100000030000000");
-                assert_eq!(rt; Ok(Some(*areas)), want);
+                assert_eq!(rt; number, 1);
+                let copies = match &command {
+                    Command::Pvcreate {
+                        pv,
+                        metadata_copies,
+                    } => {
+                        assert_eq!(rt; pv.as_bytes(), b"a".as_slice());
+                        Some(*metadata_copies)
+                    }
+                    Command::Pvck { pv } => {
+                        assert_eq!(rt; pv.as_bytes(), b"a".as_slice());
+                        None
+                    }
+                };
+                assert_eq!(rt; Ok(copies), want);
+                if let Some(id) = &id {
+                    assert_eq!(rt; &id.plain(), b"00000000100000000100000030000000");
+                }
+                assert_eq!(rt; id.is_some(), copies.is_some());
             }
-            Ok(Line::Pvck { number, pv }) => {
-                assert_eq!(rt; (*number, pv.as_bytes()), (1, b"a".as_slice()));
-                assert_eq!(rt; Ok(None), want);
-            }
-            Err(refusal) => assert_eq!(rt; Err(*refusal), want),
+            Err(refusal) => assert_eq!(rt; Err(refusal), want),
         }
         // Only pvcreate draws.
         let left = if matches!(&want, Ok(Some(_))) { 9 } else { 0 };

@@ -1,0 +1,42 @@
+-- The options and their spellings.
+use Rattle.std.specs.Prelude.{ℕ, ◌+◌, Bool, false, ◌==◌, ◌||◌, if◌then◌else◌, option_map, List, [], ◌∷◌, map, Option, None, Some, codes, slice_index}
+use Rattle.std.specs.Option.{option_map_or}
+use Rattle.std.specs.Str.{bytes_eq}
+use Rattle.std.specs.String.{string_bytes}
+use Rattle.std.specs.declared.string.String.{String}
+use Rattle.lvm_script.specs.declared.option_key.OptionKey.{OptionKey}
+use Rattle.lvm_script.specs.declared.option_key.OptionKey.TheVariants.{MetadataCopies}
+
+-- a word of a command line, as its bytes
+abbrev pub Word : Type 0
+Word = List ℕ
+
+-- the bytes of each word
+abbrev pub words_of : {A : Type 0} → List (String A) → List Word
+words_of words = map string_bytes words
+
+-- the place of a word among words, from 0
+unfoldable pub number_named : List Word → Word → Option ℕ
+number_named [] word = None
+number_named (name ∷ names) word = if bytes_eq name word then Some 0 else option_map (λ n. n + 1) (number_named names word)
+
+-- the long spelling of an option in lvm(8), without the two hyphens
+abbrev pub name_of : OptionKey → Word
+name_of MetadataCopies = codes "metadatacopies"
+
+-- its letter, where lvm(8) has one
+abbrev pub letter_of : OptionKey → Option ℕ
+letter_of MetadataCopies = None
+
+-- both are the same option
+abbrev pub is_key : OptionKey → OptionKey → Bool
+is_key a b = bytes_eq (name_of a) (name_of b)
+
+-- the word begins with `-`
+abbrev pub is_dashed : Word → Bool
+is_dashed word = slice_index word 0 == 45
+
+-- the word is exactly the option: `--` and its name, or `-` and its letter
+abbrev pub spells : OptionKey → Word → Bool
+spells key word = bytes_eq (45 ∷ 45 ∷ name_of key) word
+    || option_map_or (λ letter. bytes_eq (45 ∷ letter ∷ []) word) (letter_of key) false
