@@ -1,7 +1,7 @@
 -- Sectors in a run of bytes, and the operations that a file can carry out.
 use Rattle.std.specs.Prelude.{◌≡◌, ◌≤◌, ◌^◌, ℕ, ◌+◌, ◌*◌, List, length, take, drop}
-use Rattle.dev_shelf.specs.declared.ops.Op.{Op}
-use Rattle.dev_shelf.specs.declared.ops.Op.TheVariants.{Read, Write, Flush}
+use Rattle.disk_model.specs.declared.ops.Op.{Op}
+use Rattle.disk_model.specs.declared.ops.Op.TheVariants.{Read, Write, Flush}
 
 -- the sector with this number in a run of bytes
 abbrev pub sector_of : List ℕ → ℕ → List ℕ

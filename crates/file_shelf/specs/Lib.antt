@@ -1,5 +1,4 @@
+pub mod Answering
 pub mod Bytes
 pub mod Opened
-pub mod RowInvariant
-pub mod Rows
 pub mod Sizes

@@ -1,13 +1,15 @@
 //! Files as a row of disks.
-ghost use Rattle.std.specs.Prelude.{◌≡◌, ◌≤◌, ◌<◌, ◌^◌, ◌↔◌, ℕ, [], length, vec_len, All, MatchOption, IfOk, IfErr, IfSome, IsNone, Contains};
-ghost use Rattle.dev_shelf.specs.Calls.{Completes};
-ghost use Rattle.file_shelf.specs.Rows.{state_of};
-ghost use Rattle.file_shelf.specs.RowInvariant.{IsGood, good_prop};
+ghost use Rattle.std.specs.Prelude.{◌≡◌, ◌<◌, ◌^◌, ◌↔◌, [], length, map, vec_len, All, MatchOption, IfOk, IfErr, IfSome, IsNone, Contains};
+ghost use Rattle.disk_model.specs.Calls.{Completes};
+ghost use Rattle.op_queue.specs.Queue.{state_of};
+ghost use Rattle.op_queue.specs.QueueInvariant.{IsGood, good_prop};
+ghost use Rattle.file_shelf.specs.Sizes.{IsSize, sizes_prop};
 
+use crate::image::{Access, Image, ImageFile};
 use crate::opening::{OpenFault, open_all};
-use crate::row::{Row, Waiting, count_fault, disk_of};
 use crate::transfer::{AT_ONCE, carry_out};
-use dev_shelf::{Done, Op, Shelf};
+use disk_model::{Done, Op, Shelf};
+use op_queue::{OpQueue, Waiting, disk_of};
 use std::alloc::{AllocError, Global};
 use std::fs::{Files, OpenFile};
 use std::os::unix::fs::FileExt;
@@ -18,48 +20,59 @@ use std::os::unix::fs::FileExt;
 /// is a completion that did not go well, and counts as a fault of that disk. A flush syncs the file.
 #[derive(Drop)]
 pub struct FileShelf<F> {
-    files: Vec<F>,
-    row: Row,
+    images: Vec<Image<F>>,
+    queue: OpQueue,
     bytes: Vec<u8>,
-    ghost good: { IsGood row } by { good_prop row },
-    ghost each: { vec_len files ≡ vec_len row.sizes },
+    ghost good: { IsGood queue } by { good_prop queue },
+    ghost sizes: { All IsSize (state_of queue).sizes } by { sizes_prop (state_of queue).sizes },
+    ghost each: { vec_len images ≡ length (state_of queue).sizes },
     ghost room: { vec_len bytes ≡ 65_536 },
+}
+
+// The size of each disk in sectors.
+fn sizes_of<F>(alloc: Global, images: &Vec<Image<F>>) -> Result<Vec<u64>, AllocError>
+    ensures { IfOk result (λ sizes. sizes.items ≡ map (λ image. image.sectors) images.now.items) }
+{
+    images.iter().map(|image| image.sectors).collect(alloc)
 }
 
 // The oldest operation completes, if there is one.
 fn complete_oldest<F: FileExt + OpenFile>(
-    row: &mut Row,
-    files: &Vec<F>,
+    queue: &mut OpQueue,
+    images: &Vec<Image<F>>,
     bytes: &mut Vec<u8>,
 ) -> Option<Done>
-    requires good { IsGood row.old }
-    requires each { vec_len files.now ≡ vec_len row.old.sizes }
+    requires good { IsGood queue.old }
+    requires within { All IsSize (state_of queue.old).sizes }
+    requires each { vec_len images.now ≡ length (state_of queue.old).sizes }
     requires room { vec_len bytes.old ≡ AT_ONCE }
-    ensures good { IsGood row.new }
-    ensures sizes { row.new.sizes ≡ row.old.sizes }
+    ensures good { IsGood queue.new }
+    ensures sizes { (state_of queue.new).sizes ≡ (state_of queue.old).sizes }
     ensures room { vec_len bytes.new ≡ vec_len bytes.old }
-    ensures none { IsNone result ↔ ((state_of row.old).in_flight ≡ []) }
-    ensures cases { MatchOption result (state_of row.new ≡ state_of row.old) (λ done. Completes (state_of row.old) done (state_of row.new)) }
-    ensures ready { IfSome result (λ done. Contains (state_of row.old).ready done.tag) }
+    ensures none { IsNone result ↔ ((state_of queue.old).in_flight ≡ []) }
+    ensures cases { MatchOption result (state_of queue.new ≡ state_of queue.old) (λ done. Completes (state_of queue.old) done (state_of queue.new)) }
+    ensures ready { IfSome result (λ done. Contains (state_of queue.old).ready done.tag) }
 {
-    let Waiting { tag, op } = row.queue.pop_front()?;
+    if queue.in_flight() == 0 {
+        return None;
+    }
+    let Waiting { tag, op } = queue.take(0);
     let pv = disk_of(&op);
-    let (op, well) = carry_out(&files[pv as usize], op, bytes);
-    count_fault(&mut row.faults, pv, well);
-    row.steps += 1;
-    Some(Done { tag, op, well })
+    let (op, well) = carry_out(&images[pv as usize].file, op, bytes);
+    Some(queue.complete(tag, op, well))
 }
 
-impl<F: FileExt + OpenFile + Drop> FileShelf<F> {
-    ghost use Rattle.file_shelf.specs.Opened.{IsOpened, NamesFile, opened_state};
-    ghost use Rattle.file_shelf.specs.Sizes.{IsSize};
+impl<F: ImageFile + Drop> FileShelf<F> {
+    ghost use Rattle.file_shelf.specs.Opened.{IsOpened, NamesFile};
 
-    /// Opens these files as the disks 0, 1 and so on. The bytes of a file past its last whole sector are left alone.
+    /// Opens these files as the disks 0, 1 and so on, to be changed: for reading and writing, and locked for this program alone
+    /// until the shelf is dropped. The bytes of a file past its last whole sector are left alone.
     ///
     /// # Errors
     ///
-    /// `File` with the number of the first file that can't be opened for reading and writing, or that has fewer than 8 or
-    /// more than 2^40 whole sectors; `NoMemory` where memory is wanting.
+    /// `File` with the number of the first file that can't be opened so, and why: an error of the system, no regular file, the
+    /// same file as an earlier one, locked by another program, or fewer than 8 or more than 2^40 whole sectors. `NoMemory` where
+    /// memory is wanting.
     pub fn open<R: Files<File = F>>(
         rt: &R,
         alloc: Global,
@@ -68,60 +81,86 @@ impl<F: FileExt + OpenFile + Drop> FileShelf<F> {
         ensures ok { IfOk result (λ shelf. IsOpened (vec_len names.now) (⟦<FileShelf<F> as Shelf>⟧.state shelf)) }
         ensures file { IfErr result (NamesFile (vec_len names.now)) }
     {
-        let (files, sizes) = open_all(rt, alloc, names)?;
-        Ok(FileShelf::over(alloc, files, sizes)?)
+        let images = open_all(rt, alloc, Access::Change, names)?;
+        Ok(FileShelf::over(alloc, images)?)
     }
 
-    // These files, which have so many sectors. Only memory can be wanting.
-    fn over(alloc: Global, files: Vec<F>, sizes: Vec<u64>) -> Result<Self, AllocError>
-        requires few { vec_len sizes < 2 ^ 32 }
-        requires allowed { All IsSize sizes.items }
-        requires each { vec_len files ≡ vec_len sizes }
-        ensures { IfOk result (λ shelf. state_of shelf.row ≡ opened_state sizes.items) }
+    /// Opens these files as the disks 0, 1 and so on, to be read alone: a write to one of them fails. Others may read them
+    /// meanwhile, and none may change them.
+    ///
+    /// # Errors
+    ///
+    /// As `open`; a file that is locked to be read can be opened.
+    pub fn open_to_read<R: Files<File = F>>(
+        rt: &R,
+        alloc: Global,
+        names: &Vec<String>,
+    ) -> Result<Self, OpenFault>
+        ensures ok { IfOk result (λ shelf. IsOpened (vec_len names.now) (⟦<FileShelf<F> as Shelf>⟧.state shelf)) }
+        ensures file { IfErr result (NamesFile (vec_len names.now)) }
     {
-        let row = Row::new(alloc, sizes)?;
+        let images = open_all(rt, alloc, Access::Read, names)?;
+        Ok(FileShelf::over(alloc, images)?)
+    }
+}
+
+impl<F: FileExt + OpenFile + Drop> FileShelf<F> {
+    ghost use Rattle.op_queue.specs.Queue.{opened_state};
+
+    // A row of these files. Only memory can be wanting.
+    fn over(alloc: Global, images: Vec<Image<F>>) -> Result<Self, AllocError>
+        requires few { vec_len images < 2 ^ 32 }
+        requires sizes { All (λ image. IsSize image.sectors) images.items }
+        ensures { IfOk result (λ shelf. state_of shelf.queue ≡ opened_state (map (λ image. image.sectors) images.items)) }
+    {
+        let sizes = sizes_of(alloc, &images)?;
+        let queue = OpQueue::new(alloc, sizes)?;
         let bytes = vec![in alloc; 0; AT_ONCE]?;
-        Ok(FileShelf { files, row, bytes })
+        Ok(FileShelf {
+            images,
+            queue,
+            bytes,
+        })
     }
 }
 
 impl<F: FileExt + OpenFile> Shelf for FileShelf<F> {
-    ghost use Rattle.file_shelf.specs.RowInvariant.{lawful_of};
+    ghost use Rattle.op_queue.specs.QueueInvariant.{lawful_of};
 
-    ghost state = { λ shelf. state_of shelf.row };
+    ghost state = { λ shelf. state_of shelf.queue };
 
-    ghost lawful = { λ shelf. lawful_of shelf.row shelf.good };
+    ghost lawful = { λ shelf. lawful_of shelf.queue shelf.good };
 
     fn count(&self) -> u32 {
-        self.row.sizes.len() as u32
+        self.queue.count()
     }
 
     fn sectors(&self, pv: u32) -> u64 {
-        self.row.sizes[pv as usize]
+        self.queue.sectors(pv)
     }
 
     fn faults(&self, pv: u32) -> u64 {
-        self.row.faults[pv as usize]
+        self.queue.faults(pv)
     }
 
     fn steps(&self) -> u64 {
-        self.row.steps
+        self.queue.steps()
     }
 
     fn reserve(&mut self, ops: u64, sectors: u64) -> Result<(), AllocError> {
-        self.row.reserve(ops, sectors)
+        self.queue.reserve(ops, sectors)
     }
 
     fn submit(&mut self, op: Op) -> u64 {
-        self.row.submit(op)
+        self.queue.submit(op)
     }
 
     fn reap(&mut self) -> Option<Done> {
-        complete_oldest(&mut self.row, &self.files, &mut self.bytes)
+        complete_oldest(&mut self.queue, &self.images, &mut self.bytes)
     }
 
     fn settle(&mut self) -> Option<Done> {
-        complete_oldest(&mut self.row, &self.files, &mut self.bytes)
+        complete_oldest(&mut self.queue, &self.images, &mut self.bytes)
     }
 }
 

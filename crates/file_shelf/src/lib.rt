@@ -2,16 +2,21 @@
 //!
 //! `FileShelf` meets the contract of a shelf that tells no content: which operations are in flight, which tags they have,
 //! how many steps and faults there were. `StdSource` and `StdSink` meet those of streams that tell no bytes. What the
-//! operating system does with a read, a write or a sync is trusted, and tried by tests.
+//! operating system does with a call is trusted; what is made of its answer stands in small functions with clauses of
+//! their own (`answering.rt`, `sizes.rt`, `descriptors.rt`), and the rest is tried by files and streams that fail by plan.
 #![tactic(auto)]
 
+mod answering;
 mod copying;
+mod descriptors;
 mod file_shelf;
+mod image;
 mod opening;
-mod row;
+mod sizes;
 mod std_streams;
 mod transfer;
 
 pub use file_shelf::FileShelf;
+pub use image::{ImageFile, OpenCause};
 pub use opening::OpenFault;
 pub use std_streams::{StdSink, StdSource};

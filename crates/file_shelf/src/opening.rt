@@ -1,21 +1,22 @@
 //! Opening the files of a row.
-ghost use Rattle.std.specs.Prelude.{◌≡◌, ◌≤◌, ◌<◌, ◌^◌, ℕ, IfSome, IfOk, IfErr, All, vec_len};
+ghost use Rattle.std.specs.Prelude.{◌≡◌, ◌≤◌, ◌<◌, ◌^◌, ◌<ℤ◌, pos, ℕ, IfSome, IfOk, IfErr, All, AllPairs, ◌≢◌, vec_len};
 ghost use Rattle.file_shelf.specs.Opened.{NamesFile};
 ghost use Rattle.file_shelf.specs.Sizes.{IsSize};
 
+use crate::descriptors::hold_standard;
+use crate::image::{Access, Image, ImageFile, OpenCause, open_image};
 use std::alloc::{AllocError, AllocFailed, Global};
-use std::fs::{Files, OpenFile, OpenOptions};
+use std::fs::Files;
 use thiserror::Error;
 
 /// Why the files of a row were not opened.
-#[derive(Clone, Copy, Debug, PartialEq, Eq, Error)]
+#[derive(Clone, Copy, Debug, Error)]
 pub enum OpenFault {
     #[error("no memory")]
     NoMemory,
-    /// The number of the first file that can't be opened for reading and writing, or that has fewer than 8 or more than
-    /// 2^40 whole sectors.
-    #[error("file {0} can't be opened as a disk")]
-    File(u32),
+    /// The number of the first file that can't be opened as a disk, and why.
+    #[error("file {0} can't be opened as a disk: {1}")]
+    File(u32, OpenCause),
 }
 
 impl From<AllocError> for OpenFault {
@@ -38,49 +39,32 @@ impl<T: Drop> From<AllocFailed<T>> for OpenFault {
     }
 }
 
-const LEAST: u64 = 8;
-
-const MOST: u64 = 1 << 40;
-
-// The file, open for reading and writing, and how many whole sectors it has.
-fn open_file<R: Files>(rt: &R, name: &str) -> Option<(R::File, u64)>
-    ensures { IfSome result (λ opened. IsSize opened.1) }
-{
-    let file = OpenOptions::new()
-        .read(true)
-        .write(true)
-        .open(rt, name)
-        .ok()?;
-    let sectors = file.metadata().ok()?.len() / 512;
-    if sectors < LEAST || sectors > MOST {
-        return None;
-    }
-    Some((file, sectors))
-}
-
-/// The files and their sizes in sectors, in order.
+/// Opens the files of these names, in order. While they are opened the descriptors of closed standard streams are held.
 pub fn open_all<R: Files>(
     rt: &R,
     alloc: Global,
+    access: Access,
     names: &Vec<String>,
-) -> Result<(Vec<R::File>, Vec<u64>), OpenFault>
-    ensures files { IfOk result (λ opened. vec_len opened.0 ≡ vec_len names.now) }
-    ensures sizes { IfOk result (λ opened. vec_len opened.1 ≡ vec_len names.now) }
-    ensures few { IfOk result (λ opened. vec_len names.now < 2 ^ 32) }
-    ensures each { IfOk result (λ opened. All IsSize opened.1.items) }
+) -> Result<Vec<Image<R::File>>, OpenFault>
+where
+    R::File: ImageFile,
+    ensures count { IfOk result (λ images. vec_len images ≡ vec_len names.now) }
+    ensures few { IfOk result (λ images. vec_len images < 2 ^ 32) }
+    ensures sizes { IfOk result (λ images. All (λ image. IsSize image.sectors) images.items) }
+    ensures spared { IfOk result (λ images. All (λ image. IfSome (R.File.raw_fd image.file) (λ fd. pos 2 <ℤ fd)) images.items) }
+    ensures apart { IfOk result (λ images. AllPairs (λ image other. image.node ≢ other.node) images.items) }
     ensures file { IfErr result (NamesFile (vec_len names.now)) }
 {
     if names.len() > u32::MAX as usize {
         return Err(OpenFault::NoMemory);
     }
-    let mut files = Vec::new(alloc);
-    let mut sizes = Vec::new(alloc);
+    let _held = hold_standard(rt, alloc)?;
+    let mut images = Vec::new(alloc);
     for (number, name) in names.iter().enumerate() {
-        let Some((file, sectors)) = open_file(rt, name.as_str()) else {
-            return Err(OpenFault::File(number as u32));
-        };
-        files.push(file)?;
-        sizes.push(sectors)?;
+        match open_image(rt, access, name.as_str(), &images) {
+            Ok(image) => images.push(image)?,
+            Err(cause) => return Err(OpenFault::File(number as u32, cause)),
+        }
     }
-    Ok((files, sizes))
+    Ok(images)
 }

@@ -1,18 +1,12 @@
 //! Standard input and output as streams that tell no bytes.
 ghost use Rattle.std.specs.Prelude.{◌≡◌, ◌<◌, ◌^◌, None, ℕ, List};
-ghost use Rattle.lvm_script.specs.Streams.{counted_on};
 
+use crate::answering::{answer, read_some, write_some};
 use lvm_script::{Failed, Sink, Source};
 use std::io::{BufRead, Input, Print, Read};
 
-// One fault more. The count stands still at its end.
-fn count_fault(faults: &mut u64)
-    ensures { faults.new ≡ counted_on faults.old }
-{
-    *faults = faults.saturating_add(1);
-}
-
-/// What comes from a reader, such as standard input. Each error of the reader is a fault.
+/// What comes from a reader, such as standard input. Each error of the reader is a fault, but for an interrupted read, which
+/// is tried again.
 #[derive(Drop)]
 pub struct StdSource<I> {
     input: I,
@@ -21,7 +15,7 @@ pub struct StdSource<I> {
 }
 
 impl<I: BufRead + Drop> StdSource<I> {
-    /// Standard input.
+    /// Standard input. Where it is closed every read fails.
     pub fn new<R: Input<Reader = I>>(rt: &R) -> Self
         ensures { ⟦<StdSource<I> as Source>⟧.fault_count result ≡ 0 }
     {
@@ -40,13 +34,7 @@ impl<I: Read> Source for StdSource<I> {
     ghost counted = { λ source. source.counted };
 
     fn read(&mut self, into: &mut [u8]) -> Result<usize, Failed> {
-        match self.input.read(into) {
-            Ok(n) => Ok(n),
-            Err(_) => {
-                count_fault(&mut self.faults);
-                Err(Failed)
-            }
-        }
+        answer(read_some(&mut self.input, into), &mut self.faults)
     }
 
     fn faults(&self) -> u64 {
@@ -54,8 +42,9 @@ impl<I: Read> Source for StdSource<I> {
     }
 }
 
-/// What goes to standard output. Each error of a write is a fault, and so is a write that takes nothing of a piece that
-/// isn't empty. Nothing is buffered: what a write answers has been handed to the operating system.
+/// What goes to standard output. Each error of a write is a fault, but for an interrupted write, which is tried again; and so
+/// is a write that takes nothing of a piece that isn't empty. Nothing is buffered: what a write answers has been handed to the
+/// operating system.
 #[derive(Drop)]
 pub struct StdSink<R> {
     rt: R,
@@ -64,7 +53,7 @@ pub struct StdSink<R> {
 }
 
 impl<R: Print> StdSink<R> {
-    /// The standard output of this runtime.
+    /// The standard output of this runtime. Where it is closed every write of a piece that isn't empty fails.
     pub fn new(rt: R) -> Self
         ensures { ⟦<StdSink<R> as Sink>⟧.fault_count result ≡ 0 }
     {
@@ -80,13 +69,7 @@ impl<R: Print> Sink for StdSink<R> {
     ghost counted = { λ sink. sink.counted };
 
     fn write(&mut self, from: &[u8]) -> Result<usize, Failed> {
-        match self.rt.write_some(from) {
-            Ok(n) if n > 0 || from.is_empty() => Ok(n),
-            _ => {
-                count_fault(&mut self.faults);
-                Err(Failed)
-            }
-        }
+        answer(write_some(&self.rt, from), &mut self.faults)
     }
 
     fn faults(&self) -> u64 {

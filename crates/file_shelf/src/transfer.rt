@@ -1,10 +1,10 @@
 //! What a file does for an operation.
 ghost use Rattle.std.specs.Prelude.{◌≡◌, ◌≤◌, ◌+◌, ◌^◌, ℕ, List, length};
-ghost use Rattle.dev_shelf.specs.Operations.{Lies, work_of};
+ghost use Rattle.disk_model.specs.Operations.{Lies, work_of};
 ghost use Rattle.file_shelf.specs.Bytes.{IsInFile};
 
 use crate::copying::{SECTOR, gather, scatter};
-use dev_shelf::Op;
+use disk_model::Op;
 use sector_base::Sectors;
 use std::fs::OpenFile;
 use std::os::unix::fs::FileExt;

@@ -1,6 +1,7 @@
 //! Streams that fail, and those of the process, through their bounds.
 use super::{StdSink, StdSource};
-use lvm_script::{Failed, Sink, Source, write_all};
+use lvm_script::{Failed, Sink, Source, write_bytes};
+use std::cell::Cell;
 use std::fmt::Display;
 use std::io;
 use std::io::{ErrorKind, Print, Read};
@@ -19,18 +20,39 @@ fn failure() -> io::Error {
     io::Error::from(ErrorKind::Other)
 }
 
+// An input that a signal interrupts so many times, and that then fails or fills each piece.
 #[derive(Drop)]
-struct Broken;
+struct Planned {
+    interrupts: u32,
+    fails: bool,
+}
 
-impl Read for Broken {
-    fn read(&mut self, _buf: &mut [u8]) -> io::Result<usize> {
-        Err(failure())
+impl Read for Planned {
+    fn read(&mut self, buf: &mut [u8]) -> io::Result<usize> {
+        if self.interrupts > 0 {
+            self.interrupts -= 1;
+            Err(io::Error::from(ErrorKind::Interrupted))
+        } else if self.fails {
+            Err(failure())
+        } else {
+            Ok(buf.len())
+        }
     }
 }
 
-// An output that takes so many bytes of each write.
+// An output that a signal interrupts so many times, and that then takes so many bytes of each write, or fails.
 #[derive(Drop)]
-struct Takes(usize);
+struct Takes {
+    interrupts: Cell<u32>,
+    most: Option<usize>,
+}
+
+fn output_of(most: usize) -> Takes {
+    Takes {
+        interrupts: Cell::new(0),
+        most: Some(most),
+    }
+}
 
 impl Print for Takes {
     fn print<D: Display + Drop>(&self, _value: D) -> io::Result<()> {
@@ -46,7 +68,15 @@ impl Print for Takes {
     }
 
     fn write_some(&self, bytes: &[u8]) -> io::Result<usize> {
-        Ok(bytes.len().min(self.0))
+        let left = self.interrupts.get();
+        if left > 0 {
+            self.interrupts.set(left - 1);
+            return Err(io::Error::from(ErrorKind::Interrupted));
+        }
+        match self.most {
+            Some(most) => Ok(bytes.len().min(most)),
+            None => Err(failure()),
+        }
     }
 }
 
@@ -62,7 +92,10 @@ fn a_source_counts_its_faults(rt: HostRuntime) {
     assert_eq!(rt; read_from(&mut given, &mut piece), (Some(1), 0));
     assert_eq!(rt; read_from(&mut given, &mut piece), (Some(0), 0));
     let mut source = StdSource {
-        input: Broken,
+        input: Planned {
+            interrupts: 0,
+            fails: true,
+        },
         faults: u64::MAX - 1,
     };
     assert_eq!(rt; read_from(&mut source, &mut piece), (None, u64::MAX));
@@ -73,14 +106,45 @@ fn a_source_counts_its_faults(rt: HostRuntime) {
 
 #[test]
 fn a_sink_that_takes_nothing_is_at_fault(rt: HostRuntime) {
-    let mut some = StdSink::new(Takes(2));
+    let mut some = StdSink::new(output_of(2));
     assert_eq!(rt; write_to(&mut some, b"ok\n"), (Some(2), 0));
-    assert_eq!(rt; write_all(&mut some, b"data\nok\n"), Ok(()));
-    let mut none = StdSink::new(Takes(0));
+    assert_eq!(rt; write_bytes(&mut some, b"data\nok\n"), Ok(()));
+    let mut none = StdSink::new(output_of(0));
     assert_eq!(rt; write_to(&mut none, b""), (Some(0), 0));
     assert_eq!(rt; write_to(&mut none, b"ok\n"), (None, 1));
-    assert_eq!(rt; write_all(&mut none, b"ok\n"), Err(Failed));
+    assert_eq!(rt; write_bytes(&mut none, b"ok\n"), Err(Failed));
     assert_eq!(rt; none.faults(), 2);
     let mut output = StdSink::new(&rt);
     assert_eq!(rt; write_to(&mut output, b""), (Some(0), 0));
+}
+
+// An error of the system is a fault, and nothing was written.
+#[test]
+fn a_sink_that_fails_is_at_fault(rt: HostRuntime) {
+    let mut broken = StdSink::new(Takes {
+        interrupts: Cell::new(0),
+        most: None,
+    });
+    assert_eq!(rt; write_to(&mut broken, b"ok\n"), (None, 1));
+    assert_eq!(rt; write_bytes(&mut broken, b"ok\n"), Err(Failed));
+    assert_eq!(rt; broken.faults(), 2);
+}
+
+// What a signal interrupts is tried again, and is no fault.
+#[test]
+fn tries_again_after_an_interrupt(rt: HostRuntime) {
+    let mut source = StdSource {
+        input: Planned {
+            interrupts: 3,
+            fails: false,
+        },
+        faults: 0,
+    };
+    let mut piece = [0; 3];
+    assert_eq!(rt; read_from(&mut source, &mut piece), (Some(3), 0));
+    let mut sink = StdSink::new(Takes {
+        interrupts: Cell::new(3),
+        most: Some(2),
+    });
+    assert_eq!(rt; write_to(&mut sink, b"ok\n"), (Some(2), 0));
 }

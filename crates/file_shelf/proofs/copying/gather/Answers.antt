@@ -12,4 +12,4 @@ loop-k-preserved c =
     (λ j lt. sector_of-earlier c.loop-k.bytes c.copy_from_slice.new.self j k _ lt fits ∙ c.loop-k.invariant j lt)
     (sector_of-written c.loop-k.bytes c.copy_from_slice.new.self k _ fits
     (omega (arith, c.copy_from_slice.ensures.len, length-take {A = ℕ}, length-drop {A = ℕ}, c.loop-k.auto.bytes))
-    ∙ c.copy_from_slice.ensures.after ∙ c.as_bytes.ensures ∙ c.get-sector.ensures)
+    ∙ c.copy_from_slice.ensures.after ∙ c.as_bytes.ensures.value ∙ c.get-sector.ensures.value)
