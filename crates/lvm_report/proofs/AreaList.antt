@@ -1,14 +1,17 @@
 -- The metadata areas: they begin on the disk, and are looked at one after another.
-use Rattle.std.proofs.Common.{◌≡◌, ◌<◌, ◌≤◌, ℕ, ◌+◌, ◌*◌, ◌/◌, ◌++◌, false, List, [], ◌∷◌, All, get_or, length, map, take, sym, ap, subst, ◌∙◌, arith, lit<, length-append}
+use Rattle.std.proofs.Common.{◌≡◌, ◌<◌, ◌≤◌, ℕ, ◌+◌, ◌*◌, ◌/◌, ◌++◌, false, List, [], ◌∷◌, All, get_or, length, map, drop, take, sym, ap, subst, ◌∙◌, arith, lit<, length-append}
 use Rattle.std.proofs.lemmas.Bool.Decides.{nat_tests}
-use Rattle.std.proofs.lemmas.List.{get_or-append-add, map-append, take_more}
+use Rattle.std.proofs.lemmas.List.{get_or-append-add, map-append, take-append-drop, take_more}
 use Rattle.std.proofs.lemmas.List.Elements.{All-push}
 use Rattle.std.proofs.Math.Nat.{div-lt_iff_lt-mul}
+use Rattle.sector_base.specs.declared.spans.Span.{Span}
+use Rattle.disk_model.specs.Puts.{one_sector}
 use Rattle.pv_header.specs.declared.extent_list.Extent.{Extent}
 use Rattle.pv_header.specs.Areas.{CanLie, is_misshapen, is_outside}
 use Rattle.pv_header.proofs.Overlaps.{All-from_find}
-use Rattle.lvm_report.specs.declared.found.AreaFound.{AreaFound}
-use Rattle.lvm_report.specs.Found.{IsAreaFound, IsMdaFound}
+use Rattle.lvm_report.specs.declared.contents.AreaFound.{AreaFound}
+use Rattle.lvm_report.specs.Contents.{IsAreaFound, IsMdaFound}
+use Rattle.lvm_report.specs.Reads.{area_spans}
 
 begins_within : (disk : ℕ) (area : Extent) → is_outside (disk * 512) area ≡ false → is_misshapen area ≡ false → area.offset / 512 < disk
 begins_within disk area inside shaped =
@@ -47,3 +50,19 @@ areas_more areas i d all new found lt before is pushed =
 pub all_more : (sector_at : ℕ → List ℕ) (all new : List AreaFound) (found : AreaFound) → new ≡ all ++ found ∷ [] → All (IsAreaFound sector_at) all → IsAreaFound sector_at found
     → All (IsAreaFound sector_at) new
 all_more sector_at all new found pushed each is = subst (λ (l : List AreaFound). All (IsAreaFound sector_at) l) (sym pushed) (All-push (IsAreaFound sector_at) all found each is)
+
+abbrev span_of : ℕ → Extent → Span
+span_of pv area = one_sector pv (area.offset / 512)
+
+-- the span of one area more
+pub spans_more : (pv : ℕ) (areas : List Extent) (i : ℕ) (d : Extent) → i < length areas
+    → area_spans pv (take (i + 1) areas) ≡ area_spans pv (take i areas) ++ one_sector pv ((get_or areas i d).offset / 512) ∷ []
+spans_more pv areas i d lt = ap (map (span_of pv)) (take_more areas i d lt) ∙ map-append (span_of pv) (take i areas) (get_or areas i d ∷ [])
+
+-- the spans of the areas before one, of that one and of those after it
+pub spans_all : (pv : ℕ) (areas : List Extent) (i : ℕ) (d : Extent) → i < length areas
+    → (area_spans pv (take i areas) ++ one_sector pv ((get_or areas i d).offset / 512) ∷ []) ++ area_spans pv (drop (i + 1) areas) ≡ area_spans pv areas
+spans_all pv areas i d lt =
+    ap (λ (l : List Span). l ++ area_spans pv (drop (i + 1) areas)) (sym (spans_more pv areas i d lt))
+    ∙ sym (map-append (span_of pv) (take (i + 1) areas) (drop (i + 1) areas))
+    ∙ ap (map (span_of pv)) (take-append-drop (i + 1) areas)

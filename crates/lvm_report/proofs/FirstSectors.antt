@@ -1,7 +1,7 @@
 -- The first four sectors of a disk, and the label among them.
+use Rattle.pv_label.specs.LabelSectors.{first_four}
 use Rattle.std.proofs.Common.{◌≡◌, ◌<◌, ℕ, zero, suc, List, [], slice_index_or, refl, ap, subst, ◌∙◌, arith}
 use Rattle.pv_label.specs.Label.{IsFirstLabel}
-use Rattle.lvm_report.specs.Found.{first_four}
 
 nth_of_four : (sector_at : ℕ → List ℕ) (number : ℕ) → number < 4 → slice_index_or (first_four sector_at) number [] ≡ sector_at number
 nth_of_four sector_at zero lt = refl

@@ -1,7 +1,7 @@
 pub mod AreaList
 pub mod FirstSectors
-pub mod Going
+pub mod ReadingParts
 pub mod OneArea
 pub mod OneLabel
 pub mod OneReport
-pub mod ReadOnly
+pub mod ReadsAll

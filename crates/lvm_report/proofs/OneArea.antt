@@ -7,8 +7,8 @@ use Rattle.mda_header.specs.declared.refusal.MdaRefusal.TheVariants.{BadSum, Bad
 use Rattle.mda_header.specs.Header.{IsHeader, IsRefused}
 use Rattle.mda_header.proofs.Fields.{IsRefused-no_header, one_reading}
 use Rattle.pv_header.specs.declared.extent_list.Extent.{Extent}
-use Rattle.lvm_report.specs.declared.found.AreaFound.{AreaFound}
-use Rattle.lvm_report.specs.Found.{AreAreasFound, IsAreaFound, IsMdaFound}
+use Rattle.lvm_report.specs.declared.contents.AreaFound.{AreaFound}
+use Rattle.lvm_report.specs.Contents.{AreAreasFound, IsAreaFound, IsMdaFound}
 
 -- a header of the area isn't refused
 header_or_refusal : (sector : List ℕ) (start size : ℕ) (header : MdaHeader) (refusal : MdaRefusal) → IsHeader sector header → header.start ≡ start → header.size ≡ size

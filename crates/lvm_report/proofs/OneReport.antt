@@ -1,13 +1,14 @@
 -- A disk has one report.
+use Rattle.pv_label.specs.LabelSectors.{first_four}
 use Rattle.std.proofs.Common.{◌≡◌, ◌≢◌, ℕ, ◌*◌, List, Result, Ok, Err, inl, inr, sym, ap, subst, ◌∙◌}
 use Rattle.pv_header.specs.declared.header.PvHeader.{PvHeader}
 use Rattle.pv_header.specs.declared.refusal.PvRefusal.{PvRefusal}
 use Rattle.pv_header.specs.declared.refusal.PvRefusal.TheVariants.{NoMemory}
 use Rattle.pv_header.specs.PvRefusal.{Reads, Refuses}
 use Rattle.pv_header.proofs.OneAnswer.{one_answer}
-use Rattle.lvm_report.specs.declared.found.PvFound.{PvFound}
-use Rattle.lvm_report.specs.declared.found.PvFound.TheVariants.{NoLabel, NoHeader, Whole}
-use Rattle.lvm_report.specs.Found.{AreAreasFound, IsFound, first_four}
+use Rattle.lvm_report.specs.declared.contents.PvFound.{PvFound}
+use Rattle.lvm_report.specs.declared.contents.PvFound.TheVariants.{NoLabel, NoHeader, Whole}
+use Rattle.lvm_report.specs.Contents.{AreAreasFound, IsFound}
 use Rattle.lvm_report.specs.Report.{IsReport, report_of}
 use Rattle.lvm_report.proofs.OneArea.{one_areas}
 use Rattle.lvm_report.proofs.OneLabel.{label_or_refusal, one_label, one_label_refusal}

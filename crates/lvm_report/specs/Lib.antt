@@ -1,7 +1,6 @@
 pub mod Causes
-pub mod Found
+pub mod Contents
 pub mod Lines
 pub mod Parts
 pub mod Reads
-pub mod Refused
 pub mod Report

@@ -1,13 +1,9 @@
--- The lines of a report on what was found. Each ends with a line feed.
-use Rattle.std.specs.Prelude.{ℕ, ◌-◌, ◌^◌, false, List, [], ◌++◌, codes, decimal}
-use Rattle.std.specs.Fmt.{digits, format_spec, padded_integral}
-use Rattle.lvm_id.specs.LvmId.{hyphenated}
+-- The lines of a report on what was found and on what was refused. Each ends with a line feed.
+use Rattle.std.specs.Prelude.{ℕ, List, ◌++◌, codes, decimal}
+use Rattle.sector_base.specs.Shown.{Value, shown_text, sum_text}
+use Rattle.lvm_id.specs.LvmId.{hyphen_form}
 use Rattle.mda_header.specs.declared.header.Locn.{Locn}
 use Rattle.pv_header.specs.declared.extent_list.Extent.{Extent}
-
--- a checksum: eight lower-case hex digits, as `{:08x}` writes them
-abbrev pub sum_text : ℕ → List ℕ
-sum_text sum = padded_integral (format_spec 32 0 4 8 (2 ^ 64 - 1)) false [] (digits 16 false sum)
 
 -- in which sector the label is
 abbrev pub label_line : ℕ → List ℕ
@@ -15,7 +11,7 @@ label_line sector = codes "label " ++ decimal sector ++ codes "\n"
 
 -- the id of the physical volume, in groups with hyphens
 abbrev pub id_line : List ℕ → List ℕ
-id_line id = codes "id " ++ hyphenated id ++ codes "\n"
+id_line id = codes "id " ++ hyphen_form id ++ codes "\n"
 
 -- the device's size in bytes
 abbrev pub size_line : ℕ → List ℕ
@@ -40,3 +36,7 @@ precommitted_line locn = codes "precommitted " ++ decimal locn.offset ++ codes "
 -- the version and the flags of the header's extension
 abbrev pub extension_line : ℕ → ℕ → List ℕ
 extension_line version flags = codes "extension " ++ decimal version ++ codes " " ++ decimal flags ++ codes "\n"
+
+-- a refusal: its kind and its values
+abbrev pub refusal_line : List ℕ × List Value → List ℕ
+refusal_line shown = codes "refused " ++ shown_text shown ++ codes "\n"

@@ -1,24 +1,32 @@
 -- The parts of a call that only reads.
-use Rattle.std.specs.Prelude.{◌≡◌, ℕ, List, Option, None, IfSome}
-use Rattle.dev_shelf.specs.State.{State}
-use Rattle.dev_shelf.specs.Steps.{Told, now_after}
-use Rattle.lvm_report.specs.declared.refusal.PvckRefusal.{PvckRefusal}
-use Rattle.lvm_report.specs.Causes.{HasSameFaults, IsPvckCause}
-use Rattle.lvm_report.specs.Reads.{IsIdleAgain, ReadsTold}
+use Rattle.std.specs.Prelude.{◌≡◌, ℕ, List, ◌++◌, None}
+use Rattle.sector_base.specs.declared.spans.Span.{Span}
+use Rattle.disk_model.specs.Faults.{HasSameFaults}
+use Rattle.disk_model.specs.Idle.{IsIdleAgain}
+use Rattle.disk_model.specs.Since.{HoldsOfDisk, ReadsTold}
+use Rattle.disk_model.specs.State.{State}
+use Rattle.pv_header.specs.declared.extent_list.Extent.{Extent}
+use Rattle.lvm_report.specs.declared.pvck_refusal.PvckRefusal.{PvckRefusal}
+use Rattle.lvm_report.specs.Causes.{IsPvckCause}
+use Rattle.lvm_report.specs.Reads.{AreAreasOf}
 
--- a part of the call that went well; a shelf that doesn't tell its record goes on so
-pub record Went (old new : State) : Type 0 where
-  pub reads : ReadsTold old.told new.told
+-- these spans were read, and nothing failed; a shelf that doesn't tell its record goes on so
+pub record ReadsWell (old : State) (spans : List Span) (new : State) : Type 0 where
+  pub reads : ReadsTold old.told spans new.told
   pub silent : old.told ≡ None → new.told ≡ None
-  pub worked : IsIdleAgain old new
+  pub again : IsIdleAgain old new
   pub faults : HasSameFaults old new
 
--- a part of the call that ended it
-pub record Stopped (pv : ℕ) (old new : State) (refusal : PvckRefusal) : Type 0 where
-  pub reads : ReadsTold old.told new.told
-  pub worked : IsIdleAgain old new
+-- the first so many of these spans were read, and then there was no going on
+pub record ReadsUntil (pv : ℕ) (old : State) (spans : List Span) (new : State) (refusal : PvckRefusal) : Type 0 where
+  pub read : List Span
+  pub rest : List Span
+  pub front : read ++ rest ≡ spans
+  pub reads : ReadsTold old.told read new.told
+  pub again : IsIdleAgain old new
   pub cause : IsPvckCause pv old new refusal
 
--- what holds of the sectors of a disk, by what a read gives, where the shelf tells its record
-abbrev pub Stands : Option Told → ℕ → ((ℕ → List ℕ) → Type 0) → Type 0
-Stands told pv P = IfSome told (λ t. P (now_after t.opened t.steps pv))
+-- the same of the spans that the metadata areas of the disk give
+abbrev pub ReadsAreasUntil : (pv disk : ℕ) → State → (List Extent → List Span) → State → PvckRefusal → Type 0
+ReadsAreasUntil pv disk old spans new refusal =
+    (areas : List Extent) × HoldsOfDisk old.told pv (λ sector_at. AreAreasOf sector_at disk areas) × ReadsUntil pv old (spans areas) new refusal

@@ -1,26 +1,45 @@
--- What a call that only reads does to a shelf.
-use Rattle.std.specs.Prelude.{◌≡◌, List, [], ◌∷◌, ◌++◌, Option, Some}
-use Rattle.dev_shelf.specs.State.{State}
-use Rattle.dev_shelf.specs.Steps.{Reading, Step, Submitted, Completed, Told}
+-- Which sectors a report reads, each span once and in this order: those where the label may be, and then the header
+-- sector of each metadata area.
+use Rattle.std.specs.Prelude.{◌≡◌, ◌⊎◌, ℕ, ◌*◌, ◌/◌, List, [], ◌∷◌, ◌++◌, map}
+use Rattle.sector_base.specs.declared.spans.Span.{Span}
+use Rattle.disk_model.specs.Puts.{one_sector}
+use Rattle.disk_model.specs.Since.{HoldsOfDisk, ReadsTold}
+use Rattle.disk_model.specs.State.{State}
+use Rattle.pv_header.specs.declared.extent_list.Extent.{Extent}
+use Rattle.pv_header.specs.declared.header.PvHeader.{PvHeader}
+use Rattle.pv_header.specs.PvRefusal.{Reads}
+use Rattle.pv_label.specs.Label.{IsFirstLabel}
+use Rattle.lvm_report.specs.declared.contents.PvFound.{PvFound}
+use Rattle.lvm_report.specs.declared.contents.PvFound.TheVariants.{NoLabel, NoHeader, Whole}
+use Rattle.pv_label.specs.LabelSectors.{first_four, label_span}
+use Rattle.lvm_report.specs.Contents.{IsFound}
 
--- each of these steps is the submission or the completion of a read
-abbrev pub ReadsAlone : List Step → Type 0
-ReadsAlone [] = Unit {0}
-ReadsAlone (Submitted tag (Reading span) ∷ steps) = ReadsAlone steps
-ReadsAlone (Completed tag (Reading span) well fresh ∷ steps) = ReadsAlone steps
-ReadsAlone (_ ∷ steps) = ⊥
+-- the header sectors of these metadata areas
+abbrev pub area_spans : ℕ → List Extent → List Span
+area_spans pv areas = map (λ (area : Extent). one_sector pv (area.offset / 512)) areas
 
--- the newer record has steps of reads alone on top of the older one
-pub record OnlyReads (old new : Told) : Type 0 where
-  pub since : List Step
-  pub steps : new ≡ record { opened = old.opened; steps = since ++ old.steps }
-  pub reads : ReadsAlone since
+-- the metadata areas of what was found
+abbrev pub areas_found : PvFound → List Extent
+areas_found (NoLabel refusal) = []
+areas_found (NoHeader label refusal) = []
+areas_found (Whole label header areas) = header.areas
 
--- a call that submits reads alone, where the shelf tells its record
-abbrev pub ReadsTold : Option Told → Option Told → Type 0
-ReadsTold before after = (old : Told) → before ≡ Some old → (new : Told) × (after ≡ Some new) × OnlyReads old new
+-- these are the metadata areas that the header in the label sector names, or none
+abbrev pub AreAreasOf : (ℕ → List ℕ) → ℕ → List Extent → Type 0
+AreAreasOf sector_at disk areas =
+    (areas ≡ []) ⊎ ((label : ℕ) × (header : PvHeader) × IsFirstLabel (first_four sector_at) label × Reads (sector_at label) (disk * 512) header × (areas ≡ header.areas))
 
--- nothing is in flight, and the disks have their sizes
-pub record IsIdleAgain (old new : State) : Type 0 where
-  pub idle : new.in_flight ≡ []
-  pub sizes : new.sizes ≡ old.sizes
+-- all sectors were read that a report on this disk reads
+pub record ReadsAllOf (pv disk : ℕ) (old new : State) : Type 0 where
+  pub found : PvFound
+  pub is : HoldsOfDisk old.told pv (λ sector_at. IsFound sector_at disk found)
+  pub reads : ReadsTold old.told (label_span pv ∷ area_spans pv (areas_found found)) new.told
+
+-- the first so many of them were read, and nothing else
+pub record ReadsFirstOf (pv disk : ℕ) (old new : State) : Type 0 where
+  pub areas : List Extent
+  pub are : HoldsOfDisk old.told pv (λ sector_at. AreAreasOf sector_at disk areas)
+  pub read : List Span
+  pub rest : List Span
+  pub front : read ++ rest ≡ label_span pv ∷ area_spans pv areas
+  pub reads : ReadsTold old.told read new.told

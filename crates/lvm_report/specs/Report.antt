@@ -3,13 +3,15 @@ use Rattle.std.specs.Prelude.{◌≡◌, ℕ, Option, None, Some, Result, Ok, Er
 use Rattle.mda_header.specs.declared.header.Locn.{Locn}
 use Rattle.mda_header.specs.declared.header.MdaHeader.{MdaHeader}
 use Rattle.mda_header.specs.declared.refusal.MdaRefusal.{MdaRefusal}
+use Rattle.mda_header.specs.ShownMda.{shown_mda}
 use Rattle.pv_header.specs.declared.header.PvHeader.{PvHeader}
-use Rattle.lvm_report.specs.declared.found.AreaFound.{AreaFound}
-use Rattle.lvm_report.specs.declared.found.PvFound.{PvFound}
-use Rattle.lvm_report.specs.declared.found.PvFound.TheVariants.{NoLabel, NoHeader, Whole}
-use Rattle.lvm_report.specs.Found.{IsFound}
-use Rattle.lvm_report.specs.Lines.{area_line, committed_line, data_line, extension_line, id_line, label_line, precommitted_line, size_line}
-use Rattle.lvm_report.specs.Refused.{label_refused, mda_refused, pv_refused}
+use Rattle.pv_header.specs.ShownPv.{shown_pv}
+use Rattle.pv_label.specs.ShownLabel.{shown_label}
+use Rattle.lvm_report.specs.declared.contents.AreaFound.{AreaFound}
+use Rattle.lvm_report.specs.declared.contents.PvFound.{PvFound}
+use Rattle.lvm_report.specs.declared.contents.PvFound.TheVariants.{NoLabel, NoHeader, Whole}
+use Rattle.lvm_report.specs.Contents.{IsFound}
+use Rattle.lvm_report.specs.Lines.{area_line, committed_line, data_line, extension_line, id_line, label_line, precommitted_line, refusal_line, size_line}
 
 -- the line on a text where there is one
 abbrev pub locn_lines : (Locn → List ℕ) → Option Locn → List ℕ
@@ -23,7 +25,7 @@ mda_lines header = locn_lines committed_line header.committed ++ locn_lines prec
 -- what stands in a metadata area's header sector
 abbrev pub mda_found_lines : Result MdaHeader MdaRefusal → List ℕ
 mda_found_lines (Ok header) = mda_lines header
-mda_found_lines (Err refusal) = mda_refused refusal
+mda_found_lines (Err refusal) = refusal_line (shown_mda refusal)
 
 -- a metadata area, and under it what stands in its header sector
 abbrev pub area_lines : AreaFound → List ℕ
@@ -37,8 +39,8 @@ header_lines header areas =
 
 -- the text of what was found
 abbrev pub report_of : PvFound → List ℕ
-report_of (NoLabel refusal) = label_refused refusal
-report_of (NoHeader label refusal) = label_line label ++ pv_refused refusal
+report_of (NoLabel refusal) = refusal_line (shown_label refusal)
+report_of (NoHeader label refusal) = label_line label ++ refusal_line (shown_pv refusal)
 report_of (Whole label header areas) = label_line label ++ header_lines header areas
 
 -- the text is the report on a disk of so many sectors, with these contents

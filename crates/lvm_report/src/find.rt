@@ -1,16 +1,19 @@
 //! What stands on a disk.
-ghost use Rattle.std.specs.Prelude.{◌≡◌, ◌≤◌, ◌<◌, ◌*◌, ◌^◌, [], length, slice_index_or, MatchResult};
+ghost use Rattle.pv_label.specs.LabelSectors.{first_four, label_span};
+ghost use Rattle.std.specs.Prelude.{◌≡◌, ◌≤◌, ◌<◌, ◌*◌, ◌^◌, [], ◌∷◌, length, slice_index_or, MatchResult};
 ghost use Rattle.pv_header.specs.Areas.{CanLie};
 ghost use Rattle.pv_header.specs.PvRefusal.{Reads};
 ghost use Rattle.pv_label.specs.Label.{IsFirstLabel};
-ghost use Rattle.lvm_report.specs.Found.{IsFound, first_four};
-ghost use Rattle.lvm_report.specs.Parts.{Stands, Stopped, Went};
+ghost use Rattle.lvm_report.specs.Contents.{IsFound};
+ghost use Rattle.disk_model.specs.Since.{HoldsOfDisk};
+ghost use Rattle.lvm_report.specs.Parts.{ReadsAreasUntil, ReadsWell};
+ghost use Rattle.lvm_report.specs.Reads.{area_spans, areas_found};
 
 use crate::PvckRefusal;
-use crate::areas::read_areas;
-use crate::found::PvFound;
+use crate::area_headers::read_areas;
+use crate::contents::PvFound;
 use crate::reading::read_first;
-use dev_shelf::Shelf;
+use disk_model::Shelf;
 use pv_header::{PvHeader, PvRefusal, read_pv};
 use pv_label::read_label;
 use sector_base::Bytes512;
@@ -23,9 +26,9 @@ pub fn find_pv<S: Shelf>(alloc: Global, shelf: &mut S, pv: u32) -> Result<PvFoun
     requires least { 8 ≤ slice_index_or (S.state shelf.old).sizes pv 0 }
     requires most { slice_index_or (S.state shelf.old).sizes pv 0 ≤ 2 ^ 40 }
     ensures { MatchResult result
-        (λ found. Went (S.state shelf.old) (S.state shelf.new)
-        × Stands (S.state shelf.old).told pv (λ sector_at. IsFound sector_at (slice_index_or (S.state shelf.old).sizes pv 0) found))
-        (Stopped pv (S.state shelf.old) (S.state shelf.new)) }
+        (λ found. ReadsWell (S.state shelf.old) (label_span pv ∷ area_spans pv (areas_found found)) (S.state shelf.new)
+        × HoldsOfDisk (S.state shelf.old).told pv (λ sector_at. IsFound sector_at (slice_index_or (S.state shelf.old).sizes pv 0) found))
+        (ReadsAreasUntil pv (slice_index_or (S.state shelf.old).sizes pv 0) (S.state shelf.old) (λ areas. label_span pv ∷ area_spans pv areas) (S.state shelf.new)) }
 {
     let first = read_first(alloc, shelf, pv)?;
     match read_label(&first) {
@@ -56,12 +59,12 @@ fn find_header<S: Shelf>(
     requires idle { (S.state shelf.old).in_flight ≡ [] }
     requires disk { pv < length (S.state shelf.old).sizes }
     requires most { slice_index_or (S.state shelf.old).sizes pv 0 ≤ 2 ^ 40 }
-    requires label { Stands (S.state shelf.old).told pv (λ sector_at. IsFirstLabel (first_four sector_at) label) }
-    requires sector { Stands (S.state shelf.old).told pv (λ sector_at. sector.now ≡ sector_at label) }
+    requires label { HoldsOfDisk (S.state shelf.old).told pv (λ sector_at. IsFirstLabel (first_four sector_at) label) }
+    requires sector { HoldsOfDisk (S.state shelf.old).told pv (λ sector_at. sector.now ≡ sector_at label) }
     ensures { MatchResult result
-        (λ found. Went (S.state shelf.old) (S.state shelf.new)
-        × Stands (S.state shelf.old).told pv (λ sector_at. IsFound sector_at (slice_index_or (S.state shelf.old).sizes pv 0) found))
-        (Stopped pv (S.state shelf.old) (S.state shelf.new)) }
+        (λ found. ReadsWell (S.state shelf.old) (area_spans pv (areas_found found)) (S.state shelf.new)
+        × HoldsOfDisk (S.state shelf.old).told pv (λ sector_at. IsFound sector_at (slice_index_or (S.state shelf.old).sizes pv 0) found))
+        (ReadsAreasUntil pv (slice_index_or (S.state shelf.old).sizes pv 0) (S.state shelf.old) (area_spans pv) (S.state shelf.new)) }
 {
     let disk = shelf.sectors(pv);
     match read_pv(alloc, sector, disk) {
@@ -82,12 +85,12 @@ fn find_areas<S: Shelf>(
     requires idle { (S.state shelf.old).in_flight ≡ [] }
     requires disk { pv < length (S.state shelf.old).sizes }
     requires lie { CanLie header.data_areas header.areas (slice_index_or (S.state shelf.old).sizes pv 0 * 512) }
-    requires label { Stands (S.state shelf.old).told pv (λ sector_at. IsFirstLabel (first_four sector_at) label) }
-    requires header { Stands (S.state shelf.old).told pv (λ sector_at. Reads (sector_at label) (slice_index_or (S.state shelf.old).sizes pv 0 * 512) header) }
+    requires label { HoldsOfDisk (S.state shelf.old).told pv (λ sector_at. IsFirstLabel (first_four sector_at) label) }
+    requires header { HoldsOfDisk (S.state shelf.old).told pv (λ sector_at. Reads (sector_at label) (slice_index_or (S.state shelf.old).sizes pv 0 * 512) header) }
     ensures { MatchResult result
-        (λ found. Went (S.state shelf.old) (S.state shelf.new)
-        × Stands (S.state shelf.old).told pv (λ sector_at. IsFound sector_at (slice_index_or (S.state shelf.old).sizes pv 0) found))
-        (Stopped pv (S.state shelf.old) (S.state shelf.new)) }
+        (λ found. ReadsWell (S.state shelf.old) (area_spans pv (areas_found found)) (S.state shelf.new)
+        × HoldsOfDisk (S.state shelf.old).told pv (λ sector_at. IsFound sector_at (slice_index_or (S.state shelf.old).sizes pv 0) found))
+        (ReadsAreasUntil pv (slice_index_or (S.state shelf.old).sizes pv 0) (S.state shelf.old) (area_spans pv) (S.state shelf.new)) }
 {
     let areas = read_areas(alloc, shelf, pv, header.areas.as_slice())?;
     Ok(PvFound::Whole {

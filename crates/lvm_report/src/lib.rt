@@ -5,17 +5,16 @@
 //! `pv_header` and `mda_header`.
 #![tactic(auto)]
 
-mod areas;
+mod area_headers;
+mod contents;
 mod find;
-mod found;
 mod lines;
+mod pvck_refusal;
 mod pvck_report;
 mod reading;
-mod refusal;
-mod refused;
 mod report;
 #[cfg(test)]
 mod tests;
 
+pub use pvck_refusal::PvckRefusal;
 pub use pvck_report::pvck;
-pub use refusal::PvckRefusal;

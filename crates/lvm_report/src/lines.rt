@@ -1,11 +1,12 @@
-//! The lines of a report on what was found.
-ghost use Rattle.std.specs.Prelude.{◌≡◌, ◌++◌, IfOk, flat_map, string_bytes};
+//! The lines of a report on what was found and on what was refused.
+ghost use Rattle.std.specs.Prelude.{◌≡◌, ◌++◌, IfOk, IfSome, codes, flat_map, string_bytes};
 ghost use Rattle.lvm_report.specs.Lines.{area_line, committed_line, data_line, extension_line, id_line, label_line, precommitted_line, size_line};
 
 use lvm_id::LvmId;
 use mda_header::Locn;
 use pv_header::Extent;
 use std::alloc::AllocError;
+use std::fmt;
 
 /// Appends in which sector the label is.
 pub fn put_label(text: &mut String, sector: u32) -> Result<(), AllocError>
@@ -79,4 +80,11 @@ pub fn put_extension(text: &mut String, version: u32, flags: u32) -> Result<(), 
     ensures { IfOk result (λ _. string_bytes text.new ≡ string_bytes text.old ++ extension_line version flags) }
 {
     writeln!(text, "extension {version} {flags}")
+}
+
+/// Appends a refusal: its kind and its values.
+pub fn put_refusal<R: fmt::Display>(text: &mut String, refusal: &R) -> Result<(), AllocError>
+    ensures { IfSome (R.output refusal.now) (λ shown. IfOk result (λ _. string_bytes text.new ≡ string_bytes text.old ++ codes "refused " ++ shown ++ codes "\n")) }
+{
+    writeln!(text, "refused {refusal}")
 }

@@ -1,14 +1,16 @@
 //! The report of pvck.
 ghost use Rattle.std.specs.Prelude.{◌≡◌, ◌≤◌, ◌<◌, ◌^◌, ℕ, List, [], length, slice_index_or, IfOk, IfSome, MatchResult};
-ghost use Rattle.dev_shelf.specs.Steps.{now_after};
-ghost use Rattle.lvm_report.specs.Causes.{HasSameFaults, IsPvckCause};
-ghost use Rattle.lvm_report.specs.Reads.{IsIdleAgain, ReadsTold};
+ghost use Rattle.disk_model.specs.Steps.{now_after};
+ghost use Rattle.disk_model.specs.Faults.{HasSameFaults};
+ghost use Rattle.disk_model.specs.Idle.{IsIdleAgain};
+ghost use Rattle.lvm_report.specs.Causes.{IsPvckCause};
+ghost use Rattle.lvm_report.specs.Reads.{ReadsAllOf, ReadsFirstOf};
 ghost use Rattle.lvm_report.specs.Report.{IsReport};
 
 use crate::PvckRefusal;
 use crate::find::find_pv;
 use crate::report::report;
-use dev_shelf::Shelf;
+use disk_model::Shelf;
 use sector_base::Text;
 use std::alloc::Global;
 
@@ -31,11 +33,13 @@ pub fn pvck<S: Shelf>(alloc: Global, shelf: &mut S, pv: u32) -> Result<Text, Pvc
     ensures one { IfOk result (λ text. IfSome (S.state shelf.old).told (λ told.
         (other : List ℕ) → IsReport (now_after told.opened told.steps pv) (slice_index_or (S.state shelf.old).sizes pv 0) other → other ≡ text)) }
 
-    // It submits reads alone.
-    ensures reads { ReadsTold (S.state shelf.old).told (S.state shelf.new).told }
-    ensures worked { IsIdleAgain (S.state shelf.old) (S.state shelf.new) }
+    // It submits reads alone: of the label's sectors, and then of the header sector of each metadata area, each once.
+    ensures reads { MatchResult result
+        (λ _. ReadsAllOf pv (slice_index_or (S.state shelf.old).sizes pv 0) (S.state shelf.old) (S.state shelf.new))
+        (λ _. ReadsFirstOf pv (slice_index_or (S.state shelf.old).sizes pv 0) (S.state shelf.old) (S.state shelf.new)) }
+    ensures again { IsIdleAgain (S.state shelf.old) (S.state shelf.new) }
 
-    // A fault is counted where the read failed, and nowhere else.
+    // A read that failed was the last step, and nothing else failed.
     ensures cause { MatchResult result (λ _. HasSameFaults (S.state shelf.old) (S.state shelf.new)) (IsPvckCause pv (S.state shelf.old) (S.state shelf.new)) }
 {
     let found = find_pv(alloc, shelf, pv)?;

@@ -1,10 +1,13 @@
 //! Reads of one disk, where nothing else is in flight.
-ghost use Rattle.std.specs.Prelude.{◌≡◌, ◌≤◌, ◌<◌, ◌+◌, ℕ, [], length, slice_index_or, MatchResult};
-ghost use Rattle.lvm_report.specs.Found.{first_four};
-ghost use Rattle.lvm_report.specs.Parts.{Stands, Stopped, Went};
+ghost use Rattle.pv_label.specs.LabelSectors.{first_four, label_span};
+ghost use Rattle.std.specs.Prelude.{◌≡◌, ◌≤◌, ◌<◌, ◌+◌, ℕ, [], ◌∷◌, length, slice_index_or, MatchResult};
+ghost use Rattle.disk_model.specs.Puts.{one_sector};
+ghost use Rattle.disk_model.specs.Since.{HoldsOfDisk};
+ghost use Rattle.lvm_report.specs.Parts.{ReadsUntil, ReadsWell};
 
 use crate::PvckRefusal;
-use dev_shelf::{Shelf, read_span};
+use disk_model::{Shelf, read_span};
+use pv_label::LABEL_SECTORS;
 use sector_base::{Bytes512, Sectors, Span};
 use std::alloc::Global;
 
@@ -18,13 +21,13 @@ pub fn read_first<S: Shelf>(
     requires disk { pv < length (S.state shelf.old).sizes }
     requires least { 4 ≤ slice_index_or (S.state shelf.old).sizes pv 0 }
     ensures { MatchResult result
-        (λ four. Went (S.state shelf.old) (S.state shelf.new) × Stands (S.state shelf.old).told pv (λ sector_at. four ≡ first_four sector_at))
-        (Stopped pv (S.state shelf.old) (S.state shelf.new)) }
+        (λ four. ReadsWell (S.state shelf.old) (label_span pv ∷ []) (S.state shelf.new) × HoldsOfDisk (S.state shelf.old).told pv (λ sector_at. four ≡ first_four sector_at))
+        (ReadsUntil pv (S.state shelf.old) (label_span pv ∷ []) (S.state shelf.new)) }
 {
     let span = Span {
         pv,
         first: 0,
-        count: 4,
+        count: LABEL_SECTORS,
     };
     let sectors = read_sectors(alloc, shelf, span)?;
     Ok([
@@ -46,8 +49,8 @@ pub fn read_sector<S: Shelf>(
     requires disk { pv < length (S.state shelf.old).sizes }
     requires within { sector < slice_index_or (S.state shelf.old).sizes pv 0 }
     ensures { MatchResult result
-        (λ contents. Went (S.state shelf.old) (S.state shelf.new) × Stands (S.state shelf.old).told pv (λ sector_at. contents ≡ sector_at sector))
-        (Stopped pv (S.state shelf.old) (S.state shelf.new)) }
+        (λ contents. ReadsWell (S.state shelf.old) (one_sector pv sector ∷ []) (S.state shelf.new) × HoldsOfDisk (S.state shelf.old).told pv (λ sector_at. contents ≡ sector_at sector))
+        (ReadsUntil pv (S.state shelf.old) (one_sector pv sector ∷ []) (S.state shelf.new)) }
 {
     let span = Span {
         pv,
@@ -64,14 +67,11 @@ fn read_sectors<S: Shelf>(alloc: Global, shelf: &mut S, span: Span) -> Result<Se
     requires disk { span.pv < length (S.state shelf.old).sizes }
     requires within { span.first + span.count ≤ slice_index_or (S.state shelf.old).sizes span.pv 0 }
     ensures { MatchResult result
-        (λ sectors. Went (S.state shelf.old) (S.state shelf.new) × (length sectors ≡ span.count)
-        × Stands (S.state shelf.old).told span.pv (λ sector_at. (k : ℕ) → k < span.count → slice_index_or sectors k [] ≡ sector_at (span.first + k)))
-        (Stopped span.pv (S.state shelf.old) (S.state shelf.new)) }
+        (λ sectors. ReadsWell (S.state shelf.old) (span ∷ []) (S.state shelf.new) × (length sectors ≡ span.count)
+        × HoldsOfDisk (S.state shelf.old).told span.pv (λ sector_at. (k : ℕ) → k < span.count → slice_index_or sectors k [] ≡ sector_at (span.first + k)))
+        (ReadsUntil span.pv (S.state shelf.old) (span ∷ []) (S.state shelf.new)) }
 {
     let buffer = Sectors::zeroed(alloc, span.count)?;
     shelf.reserve(1, u64::from(span.count))?;
-    match read_span(shelf, span, buffer) {
-        Some(sectors) => Ok(sectors),
-        None => Err(PvckRefusal::ReadFailed(span.pv)),
-    }
+    Ok(read_span(shelf, span, buffer)?)
 }

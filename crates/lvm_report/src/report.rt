@@ -2,12 +2,11 @@
 ghost use Rattle.std.specs.Prelude.{◌≡◌, ◌++◌, IfOk, flat_map, string_bytes};
 ghost use Rattle.lvm_report.specs.Report.{area_lines, header_lines, locn_lines, mda_lines, report_of};
 
-use crate::found::{AreaFound, PvFound};
+use crate::contents::{AreaFound, PvFound};
 use crate::lines::{
     put_area, put_committed, put_data_areas, put_extension, put_id, put_label, put_precommitted,
-    put_size,
+    put_refusal, put_size,
 };
-use crate::refused::{put_label_refusal, put_mda_refusal, put_pv_refusal};
 use mda_header::MdaHeader;
 use pv_header::PvHeader;
 use sector_base::Text;
@@ -27,10 +26,10 @@ fn put_found(text: &mut String, found: &PvFound) -> Result<(), AllocError>
     ensures { IfOk result (λ _. string_bytes text.new ≡ string_bytes text.old ++ report_of found.now) }
 {
     match found {
-        PvFound::NoLabel(refusal) => put_label_refusal(text, *refusal),
+        PvFound::NoLabel(refusal) => put_refusal(text, refusal),
         PvFound::NoHeader { label, refusal } => {
             put_label(text, *label)?;
-            put_pv_refusal(text, *refusal)
+            put_refusal(text, refusal)
         }
         PvFound::Whole {
             label,
@@ -71,7 +70,7 @@ fn put_area_found(text: &mut String, found: &AreaFound) -> Result<(), AllocError
     put_area(text, found.area)?;
     match &found.header {
         Ok(header) => put_texts(text, header),
-        Err(refusal) => put_mda_refusal(text, *refusal),
+        Err(refusal) => put_refusal(text, refusal),
     }
 }
 

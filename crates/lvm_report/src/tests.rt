@@ -2,9 +2,10 @@
 ghost use Rattle.std.specs.Prelude.{◌≡◌, ◌≤◌, ◌<◌, ◌^◌, [], ◌∷◌, length, IfOk};
 ghost use Rattle.dev_shelf.specs.DiskRow.{new_state};
 
-use crate::refused::{put_label_refusal, put_mda_refusal, put_pv_refusal};
+use crate::lines::put_refusal;
 use crate::{PvckRefusal, pvck};
 use dev_shelf::{Fail as Failure, Images, MemShelf, Shelf, ShelfPlan};
+use disk_model::DiskFault;
 use lvm_id::parse_plain;
 use mda_header::{Locn, MdaHeader, MdaRefusal, write_mda};
 use pv_header::{Extent, Extents, PvHeader, PvRefusal, write_pv};
@@ -235,7 +236,10 @@ fn a_failed_read_is_answered(rt: HostRuntime) -> Result<(), Fail> {
         fails.push(Failure { tag, fresh: 0 })?;
         let mut shelf = shelf_of(alloc, disk, fails)?;
         let answer = pvck(alloc, &mut shelf, 0);
-        assert_eq!(rt; answer.err(), Some(PvckRefusal::ReadFailed(0)));
+        assert_eq!(rt;
+            answer.err(),
+            Some(PvckRefusal::ReadFailed(DiskFault { pv: 0 }))
+        );
         assert_eq!(rt; (shelf.steps(), shelf.faults(0)), (2 * tag + 2, 1));
     }
     Ok(())
@@ -252,7 +256,7 @@ fn each_refusal_prints_its_values(rt: HostRuntime) -> Result<(), Fail> {
         LabelRefusal::BadOffset(33),
         LabelRefusal::BadType,
     ] {
-        put_label_refusal(&mut text, refusal)?;
+        put_refusal(&mut text, &refusal)?;
     }
     for refusal in [
         PvRefusal::BadId(31),
@@ -269,7 +273,7 @@ fn each_refusal_prints_its_values(rt: HostRuntime) -> Result<(), Fail> {
         },
         PvRefusal::Bootloader(512),
     ] {
-        put_pv_refusal(&mut text, refusal)?;
+        put_refusal(&mut text, &refusal)?;
     }
     for refusal in [
         MdaRefusal::BadSum(0xBEEF, u32::MAX),
@@ -282,7 +286,7 @@ fn each_refusal_prints_its_values(rt: HostRuntime) -> Result<(), Fail> {
             size: 13,
         },
     ] {
-        put_mda_refusal(&mut text, refusal)?;
+        put_refusal(&mut text, &refusal)?;
     }
     assert_eq!(rt; text.as_str(), REFUSALS);
     Ok(())
@@ -311,7 +315,10 @@ fn says_why(rt: HostRuntime) -> Result<(), Fail> {
     let alloc = rt.alloc();
     let rows = [
         (PvckRefusal::NoMemory, "no memory"),
-        (PvckRefusal::ReadFailed(3), "a read of disk 3 failed"),
+        (
+            PvckRefusal::ReadFailed(DiskFault { pv: 3 }),
+            "an operation of disk 3 failed",
+        ),
     ];
     for (refusal, text) in rows {
         let said = format!(in alloc; "{refusal}")?;

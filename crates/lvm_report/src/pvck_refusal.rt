@@ -1,7 +1,8 @@
 //! Why there is no report.
 ghost use Rattle.std.specs.Prelude.{◌≡◌};
-ghost use Rattle.lvm_report.specs.declared.refusal.PvckRefusal.TheVariants.{NoMemory};
+ghost use Rattle.lvm_report.specs.declared.pvck_refusal.PvckRefusal.TheVariants.{NoMemory, ReadFailed};
 
+use disk_model::DiskFault;
 use std::alloc::{AllocError, AllocFailed};
 use thiserror::Error;
 
@@ -11,9 +12,9 @@ pub enum PvckRefusal {
     /// Memory is wanting.
     #[error("no memory")]
     NoMemory,
-    /// A read of the disk of this number failed.
-    #[error("a read of disk {0} failed")]
-    ReadFailed(u32),
+    /// A read of the disk failed.
+    #[error("{0}")]
+    ReadFailed(DiskFault),
 }
 
 impl From<AllocError> for PvckRefusal {
@@ -29,5 +30,13 @@ impl<T: Drop> From<AllocFailed<T>> for PvckRefusal {
 
     fn from(_e: AllocFailed<T>) -> PvckRefusal {
         PvckRefusal::NoMemory
+    }
+}
+
+impl From<DiskFault> for PvckRefusal {
+    ghost from_gives = { λ fault e. e ≡ ReadFailed fault };
+
+    fn from(fault: DiskFault) -> PvckRefusal {
+        PvckRefusal::ReadFailed(fault)
     }
 }

@@ -1,12 +1,15 @@
 //! What stands in the header sectors of the metadata areas.
-ghost use Rattle.std.specs.Prelude.{◌≡◌, ◌<◌, ◌/◌, [], length, slice_index_or, All, MatchResult};
-ghost use Rattle.lvm_report.specs.Found.{AreAreasFound, IsAreaFound, IsMdaFound};
-ghost use Rattle.lvm_report.specs.Parts.{Stands, Stopped, Went};
+ghost use Rattle.std.specs.Prelude.{◌≡◌, ◌<◌, ◌/◌, [], ◌∷◌, length, slice_index_or, All, MatchResult};
+ghost use Rattle.lvm_report.specs.Contents.{AreAreasFound, IsAreaFound, IsMdaFound};
+ghost use Rattle.disk_model.specs.Puts.{one_sector};
+ghost use Rattle.disk_model.specs.Since.{HoldsOfDisk};
+ghost use Rattle.lvm_report.specs.Parts.{ReadsUntil, ReadsWell};
+ghost use Rattle.lvm_report.specs.Reads.{area_spans};
 
 use crate::PvckRefusal;
-use crate::found::{AreaFound, AreasFound};
+use crate::contents::{AreaFound, AreasFound};
 use crate::reading::read_sector;
-use dev_shelf::Shelf;
+use disk_model::Shelf;
 use mda_header::read_mda;
 use pv_header::Extent;
 use sector_base::Bytes512;
@@ -23,8 +26,8 @@ pub fn read_areas<S: Shelf>(
     requires disk { pv < length (S.state shelf.old).sizes }
     requires within { All (λ area. area.offset / 512 < slice_index_or (S.state shelf.old).sizes pv 0) areas.now }
     ensures { MatchResult result
-        (λ all. Went (S.state shelf.old) (S.state shelf.new) × Stands (S.state shelf.old).told pv (λ sector_at. AreAreasFound sector_at areas.now all))
-        (Stopped pv (S.state shelf.old) (S.state shelf.new)) }
+        (λ all. ReadsWell (S.state shelf.old) (area_spans pv areas.now) (S.state shelf.new) × HoldsOfDisk (S.state shelf.old).told pv (λ sector_at. AreAreasFound sector_at areas.now all))
+        (ReadsUntil pv (S.state shelf.old) (area_spans pv areas.now) (S.state shelf.new)) }
 {
     let mut list = Vec::new(alloc);
     for area in areas {
@@ -45,8 +48,8 @@ fn read_area<S: Shelf>(
     requires disk { pv < length (S.state shelf.old).sizes }
     requires within { area.offset / 512 < slice_index_or (S.state shelf.old).sizes pv 0 }
     ensures { MatchResult result
-        (λ found. Went (S.state shelf.old) (S.state shelf.new) × (found.area ≡ area) × Stands (S.state shelf.old).told pv (λ sector_at. IsAreaFound sector_at found))
-        (Stopped pv (S.state shelf.old) (S.state shelf.new)) }
+        (λ found. ReadsWell (S.state shelf.old) (one_sector pv (area.offset / 512) ∷ []) (S.state shelf.new) × (found.area ≡ area) × HoldsOfDisk (S.state shelf.old).told pv (λ sector_at. IsAreaFound sector_at found))
+        (ReadsUntil pv (S.state shelf.old) (one_sector pv (area.offset / 512) ∷ []) (S.state shelf.new)) }
 {
     let sector = read_sector(alloc, shelf, pv, area.offset / 512)?;
     Ok(look(&sector, area))

@@ -1,11 +1,8 @@
 //! What stands on a disk.
-ghost use Rattle.std.specs.Prelude.{◌≡◌, List};
-ghost use Rattle.lvm_report.specs.declared.found.AreaFound.{AreaFound};
-
 use mda_header::{MdaHeader, MdaRefusal};
 use pv_header::{Extent, PvHeader, PvRefusal};
 use pv_label::LabelRefusal;
-use std::marker::Model;
+use sector_base::ItemList;
 
 /// A metadata area, and what stands in its header sector.
 #[derive(Clone, Copy, Debug, Drop)]
@@ -14,34 +11,9 @@ pub struct AreaFound {
     pub header: Result<MdaHeader, MdaRefusal>,
 }
 
-/// The metadata areas of a physical volume, with what stands in their header sectors. Contracts see it as the list of
-/// these.
-#[derive(Debug, Drop)]
-pub struct AreasFound {
-    list: Vec<AreaFound>,
-}
-
-impl Model for AreasFound {
-    ghost Value = { List AreaFound };
-
-    ghost view = { λ a. a.list.items };
-}
-
-impl AreasFound {
-    /// These areas.
-    pub fn from_vec(list: Vec<AreaFound>) -> Self
-        ensures { result ≡ list.items }
-    {
-        AreasFound { list }
-    }
-
-    /// All of them.
-    pub fn as_slice(&self) -> &[AreaFound]
-        ensures { result.now ≡ self.now }
-    {
-        &self.list
-    }
-}
+/// The metadata areas of a physical volume, in the order of its header, with what stands in their header sectors.
+/// Contracts see it as the list of these.
+pub type AreasFound = ItemList<AreaFound>;
 
 /// What stands in lvm2's sectors of a disk.
 #[derive(Debug, Drop)]

@@ -1,6 +1,6 @@
 -- What stands in lvm2's sectors of a disk: the label, the physical volume header and the metadata area headers of lvm2's
 -- on-disk format.
-use Rattle.std.specs.Prelude.{◌≡◌, ◌≢◌, ℕ, ◌*◌, ◌/◌, Result, MatchResult, List, [], ◌∷◌, map, All}
+use Rattle.std.specs.Prelude.{◌≡◌, ◌≢◌, ℕ, ◌*◌, ◌/◌, Result, MatchResult, List, map, All}
 use Rattle.mda_header.specs.declared.header.MdaHeader.{MdaHeader}
 use Rattle.mda_header.specs.declared.refusal.MdaRefusal.{MdaRefusal}
 use Rattle.mda_header.specs.Header.{IsHeader, IsRefused}
@@ -8,13 +8,10 @@ use Rattle.pv_header.specs.declared.extent_list.Extent.{Extent}
 use Rattle.pv_header.specs.declared.refusal.PvRefusal.TheVariants.{NoMemory}
 use Rattle.pv_header.specs.PvRefusal.{Reads, Refuses}
 use Rattle.pv_label.specs.Label.{IsFirstLabel, IsLabelRefusal}
-use Rattle.lvm_report.specs.declared.found.AreaFound.{AreaFound}
-use Rattle.lvm_report.specs.declared.found.PvFound.{PvFound}
-use Rattle.lvm_report.specs.declared.found.PvFound.TheVariants.{NoLabel, NoHeader, Whole}
-
--- the first four sectors of a disk, one of which may be its label
-abbrev pub first_four : (ℕ → List ℕ) → List (List ℕ)
-first_four sector_at = sector_at 0 ∷ sector_at 1 ∷ sector_at 2 ∷ sector_at 3 ∷ []
+use Rattle.pv_label.specs.LabelSectors.{first_four}
+use Rattle.lvm_report.specs.declared.contents.AreaFound.{AreaFound}
+use Rattle.lvm_report.specs.declared.contents.PvFound.{PvFound}
+use Rattle.lvm_report.specs.declared.contents.PvFound.TheVariants.{NoLabel, NoHeader, Whole}
 
 -- what stands in the sector where the area begins: the header of an area that begins and ends there, or why it is none
 abbrev pub IsMdaFound : List ℕ → Extent → Result MdaHeader MdaRefusal → Type 0
