@@ -1,108 +1,136 @@
--- A look at the disk, and then the puts or none.
-use Rattle.std.proofs.Common.{◌≡◌, ◌<◌, ◌≤◌, ℕ, Bool, true, List, ◌++◌, length, Option, refl, sym, ap, subst, ◌∙◌, arith, append_assoc, length-append}
-use Rattle.dev_shelf.specs.Steps.{Image, Step, Told, now_after}
-use Rattle.dev_shelf.specs.Moments.{EveryImageSince}
-use Rattle.dev_shelf.specs.Durability.{IsBase}
-use Rattle.dev_shelf.specs.Order.{HasFlushed, WritesNothing}
-use Rattle.dev_shelf.proofs.Bringing.{every_moment, only_leaves}
-use Rattle.dev_shelf.proofs.EveryMoment.{since_join, since_weaken}
-use Rattle.dev_shelf.proofs.Ordered.{flushes_first_later, writes_nothing_first, writes_nothing_brings}
-use Rattle.lvm_cli.specs.declared.answer.Answer.{Answer}
-use Rattle.lvm_cli.specs.declared.answer.Answer.TheVariants.{Created}
-use Rattle.lvm_cli.specs.OneDisk.{Looks, LooksTold}
+-- pvcreate: a look at the disk, and then the puts or none.
+use Rattle.std.proofs.Common.{◌≡◌, ◌≤◌, ℕ, Bool, true, false, nat_lt, List, [], length, Option, Some, None, IfSome, refl, sym, ap, subst, ◌∙◌, inl, inr, ◌⊎◌}
+use Rattle.std.proofs.lemmas.Bool.{cases_Bool, ltb-false}
+use Rattle.std.specs.Prelude.{is_none}
+use Rattle.disk_model.specs.Calls.{Reserves}
+use Rattle.disk_model.specs.Faults.{HasSameFaults}
+use Rattle.disk_model.specs.Idle.{IsIdleAgain, SpendsAtMost}
+use Rattle.disk_model.specs.Puts.{Put, PutsAllTold, with_puts}
+use Rattle.disk_model.specs.Since.{BetweenTold}
+use Rattle.disk_model.specs.State.{State}
+use Rattle.disk_model.specs.Steps.{IsSame, Told, now_after}
+use Rattle.disk_model.proofs.LastFault.{last_fault_after, same_faults_both}
+use Rattle.disk_model.proofs.StepsSince.{between_both, between_same, between_weaker}
 use Rattle.mda_header.specs.Header.{IsHeader}
-use Rattle.lvm_script.specs.declared.line.Line.TheVariants.{Pvcreate}
-use Rattle.lvm_cli.specs.Creates.{Creates, CreatesTold, FindsTold, IsUnwritten}
+use Rattle.pv_label.specs.LabelSectors.{label_span}
+use Rattle.lvm_script.specs.Options.{Word, number_named}
+use Rattle.lvm_script.specs.declared.answer.Answer.TheVariants.{Fine, Refused, PvFailed}
+use Rattle.lvm_script.specs.declared.op_refusal.OpRefusal.{OpRefusal}
+use Rattle.lvm_cli.specs.declared.ending.Ending.{Ending}
+use Rattle.lvm_cli.specs.declared.ending.Ending.TheVariants.{WordsRefused, NoMemory, OpenFailed, ScanReadFailed, ScanRefused}
+use Rattle.lvm_cli.specs.declared.ending.ScanRefusal.TheVariants.{NotYet}
+use Rattle.lvm_cli.specs.declared.outcome.Outcome.TheVariants.{Ended, Answered}
+use Rattle.lvm_cli.specs.CommandSpec.{Context, number_in, refusal_of, size_in}
+use Rattle.lvm_cli.specs.Commands.Pvcreate.{pvcreate}
+use Rattle.lvm_cli.specs.Meets.{ChangesDisks, IsCause, IsFaultOf, Meets}
 use Rattle.lvm_cli.specs.NewPv.{IsFoundWherePut, IsNewLabel, IsNewPv, empty_area, new_puts}
-use Rattle.lvm_cli.specs.Puts.{HasFirst, IsSame, Put, PutsAll, PutsAllTold, patched}
-use Rattle.lvm_cli.proofs.Patching.{first_none, patched_same}
+use Rattle.lvm_cli.specs.Scan.{HasLabel, HasNoLabels, IsOpenCause, OpensDisks}
+use Rattle.lvm_cli.proofs.Changing.{changes_nothing, changes_puts, unopened}
+use Rattle.lvm_cli.proofs.Faults.{put_fault_after}
 
--- steps that write nothing leave each sector its one value
-module _ (old new : Told) (since : List Step) (steps : new ≡ record { opened = old.opened; steps = since ++ old.steps }) (nothing : WritesNothing since) (base : Image) (is : IsBase old base) where
-  abbrev Stays : ℕ → ℕ → List ℕ → Type 0
-  Stays pv sector value = value ≡ base pv sector
+-- where no row holds the disk is large enough
+pub large_enough : (context : Context) (pv : List ℕ) (copies : ℕ) → refusal_of ((pvcreate pv copies).rows context) ≡ None → 2056 ≤ size_in context pv
+large_enough context pv copies none = go (cases_Bool (is_none (number_named context.names pv))) (cases_Bool (nat_lt (size_in context pv) 2056))
+  where
+    go : (is_none (number_named context.names pv) ≡ true) ⊎ (is_none (number_named context.names pv) ≡ false)
+        → (nat_lt (size_in context pv) 2056 ≡ true) ⊎ (nat_lt (size_in context pv) 2056 ≡ false) → 2056 ≤ size_in context pv
+    go (inl e) _ = let no = rw e at none in cc
+    go (inr e) (inl f) = let no = rw (e, f) at none in cc
+    go (inr e) (inr f) = ltb-false (size_in context pv) 2056 f
 
-  nothing_moves : EveryImageSince (length old.steps) new (λ image. IsSame image base)
-  nothing_moves =
-      subst (λ (t : Told). EveryImageSince (length old.steps) t (λ image. IsSame image base)) (sym steps)
-      (every_moment Stays old.opened old.steps is since (writes_nothing_brings Stays since nothing))
+module _ (names : List Word) (id pv : List ℕ) (copies : ℕ) (s0 s1 : State) where
+  abbrev context : Context
+  context = record { names = names; sizes = s0.sizes; id = Some id }
 
-  still_base : IsBase new base
-  still_base = subst (λ (t : Told). IsBase t base) (sym steps) (only_leaves Stays old.opened old.steps is since (writes_nothing_brings Stays since nothing))
-
--- the run was refused
-refused : (old : Told) (puts : List Put) (passes : Bool) (answer : Answer) (new : Told) → IsUnwritten answer → Looks old passes new → Creates old puts answer new
-refused old puts passes answer new unwritten l = record {
-  since = l.since;
-  steps = l.steps;
-  every_image = λ base is moment from upto image im. first_none puts base image (nothing_moves old new l.since l.steps l.nothing base is moment from upto image im);
-  acknowledged = λ created. absurd (subst IsUnwritten created unwritten);
-  flushes_first = writes_nothing_first 1 l.since l.nothing;
-  unwritten = λ u. l.nothing;
-  now = λ created. absurd (subst IsUnwritten created unwritten);
-  same = λ u. l.same;
-}
-
-module _ (old mid new : Told) (puts : List Put) (well : Bool) (l : Looks old true mid) (p : PutsAll mid puts well new) where
-  joined : new ≡ record { opened = old.opened; steps = (p.since ++ l.since) ++ old.steps }
-  joined =
-      p.steps
-      ∙ ap (λ (t : Told). record { opened = t.opened; steps = p.since ++ t.steps }) l.steps
-      ∙ ap (λ (s : List Step). record { opened = old.opened; steps = s }) (sym (append_assoc p.since l.since old.steps))
-
-  flushed : (pv : ℕ) → pv < 1 → HasFlushed pv l.since
-  flushed pv lt = let first : 0 ≡ pv = omega arith in subst (λ (n : ℕ). HasFlushed n l.since) first (l.flushed refl)
-
-  sooner : length old.steps ≤ length mid.steps
-  sooner = let e = ap (λ (t : Told). length t.steps) l.steps in omega (arith, e, length-append l.since old.steps)
-
-  images : (base : Image) → IsBase old base → EveryImageSince (length old.steps) new (HasFirst puts base)
-  images base is =
-      let early : EveryImageSince (length old.steps) mid (HasFirst puts base) =
-      since_weaken mid (length old.steps) (length old.steps) (λ image. IsSame image base) (HasFirst puts base) (omega arith) (first_none puts base)
-      (nothing_moves old mid l.since l.steps l.nothing base is) in
-      let late = subst (λ (t : Told). EveryImageSince (length mid.steps) t (HasFirst puts base)) p.steps (p.every_image base (still_base old mid l.since l.steps l.nothing base is)) in
-      subst (λ (t : Told). EveryImageSince (length old.steps) t (HasFirst puts base)) (sym p.steps)
-      (since_join mid.opened mid.steps p.since (length old.steps) (HasFirst puts base) sooner early late)
-
-  written : (answer : Answer) → (IsUnwritten answer → ⊥) → (answer ≡ Created → well ≡ true) → Creates old puts answer new
-  written answer writes acknowledges = record {
-    since = p.since ++ l.since;
-    steps = joined;
-    every_image = images;
-    acknowledged = λ created base is. p.lasting (acknowledges created) base (still_base old mid l.since l.steps l.nothing base is);
-    flushes_first = flushes_first_later 1 p.since l.since flushed (writes_nothing_first 1 l.since l.nothing);
-    unwritten = λ u. absurd (writes u);
-    now = λ created pv sector.
-        p.now (acknowledges created) pv sector
-        ∙ patched_same puts (now_after mid.opened mid.steps) (now_after old.opened old.steps) l.same pv sector;
-    same = λ u. absurd (writes u);
+  -- memory was wanting before anything was done
+  pub meets_without_memory : s0.in_flight ≡ [] → s1 ≡ s0 → Meets (pvcreate pv copies) context s0 (Ended NoMemory) s1
+  meets_without_memory idle same = record {
+    cause = (λ disk. ap (λ (s : State). s.faults disk) same, λ flushes. same);
+    told = between_same (ChangesDisks (pvcreate pv copies) context (Ended NoMemory)) s0.told s1.told (ap (λ (s : State). s.told) same)
+        (λ t. changes_nothing (pvcreate pv copies) context refl (λ image spans e. e) (Ended NoMemory) tt false t t (unopened (length s0.sizes) t));
+    again = record { idle = ap (λ (s : State). s.in_flight) same ∙ idle; sizes = ap (λ (s : State). s.sizes) same };
   }
 
--- the run was refused
-pub creates_refused : (s0 s1 : Option Told) (puts : List Put) (passes : Bool) (answer : Answer) → IsUnwritten answer → LooksTold s0 passes s1 → CreatesTold s0 puts answer s1
-creates_refused s0 s1 puts passes answer unwritten looks old e =
-    let l = looks old e in
-    (l.0, l.1, refused old puts passes answer l.0 unwritten l.2)
+  module _ (s2 : State) (one : length s0.sizes ≡ 1) (room : Reserves s0 6 6 s1) (spent : SpendsAtMost s1 2 4 s2) where
+    same_before : HasSameFaults s0 s1
+    same_before disk = ap (λ (s : State). s.faults disk) room.same
 
--- the sectors were put, well or not
-pub creates_written : (s0 s1 s2 : Option Told) (puts : List Put) (well : Bool) (answer : Answer) → (IsUnwritten answer → ⊥) → (answer ≡ Created → well ≡ true)
-    → LooksTold s0 true s1 → PutsAllTold s1 puts well s2 → CreatesTold s0 puts answer s2
-creates_written s0 s1 s2 puts well answer writes acknowledges looks put old e =
-    let l = looks old e in
-    let p = put l.0 l.1 in
-    (p.0, p.1, written old l.0 p.0 puts well l.2 p.2 answer writes acknowledges)
+    same_told : s1.told ≡ s0.told
+    same_told = ap (λ (s : State). s.told) room.same
 
--- once the creation is acknowledged, a read finds it
-pub finds_created : (s0 s1 : Option Told) (number : ℕ) (id pv : List ℕ) (sectors areas : ℕ) (answer : Answer) → CreatesTold s0 (new_puts id sectors areas) answer s1
-    → answer ≡ Created → IsFoundWherePut id sectors areas → FindsTold s0 (Pvcreate number id pv areas) sectors s1
-finds_created s0 s1 number id pv sectors areas answer creates created found old e =
-    let n = creates old e in
-    let there : IsNewPv id sectors areas (patched (new_puts id sectors areas) (now_after old.opened old.steps) 0) = found (now_after old.opened old.steps) in (
-      n.0,
-      n.1,
-      record {
-        label = subst (IsNewLabel id sectors areas) (sym (n.2.now created 0 1)) there.label;
-        area = λ one. subst (λ (s : List ℕ). IsHeader s empty_area) (sym (n.2.now created 0 8)) (there.area one);
-      },
-    )
+    again : IsIdleAgain s0 s2
+    again = record { idle = spent.idle; sizes = spent.sizes ∙ ap (λ (s : State). s.sizes) room.same }
+
+    opens : (passes : Bool) → BetweenTold (λ old new. OpensDisks 1 old passes new) s1.told s2.told → BetweenTold (λ old new. OpensDisks (length s0.sizes) old passes new) s0.told s2.told
+    opens passes told = subst (λ (n : ℕ). BetweenTold (λ old new. OpensDisks n old passes new) s0.told s2.told) (sym one)
+        (subst (λ (o : Option Told). BetweenTold (λ old new. OpensDisks 1 old passes new) o s2.told) same_told told)
+
+    scanned : IfSome s1.told (HasNoLabels 1) → IfSome s0.told (HasNoLabels (length s0.sizes))
+    scanned none = subst (λ (n : ℕ). IfSome s0.told (HasNoLabels n)) (sym one) (subst (λ (o : Option Told). IfSome o (HasNoLabels 1)) same_told none)
+
+    ended_cause : (ending : Ending) → IsOpenCause s1 s2 ending → IsCause (pvcreate pv copies) context s0 s2 (Ended ending)
+    ended_cause (OpenFailed disk) fault = (refl, last_fault_after s0 s1 s2 disk _ same_before fault)
+    ended_cause (ScanReadFailed disk) fault = (λ e. absurd (cc), (label_span disk, last_fault_after s0 s1 s2 disk _ same_before fault))
+    ended_cause (ScanRefused (NotYet disk)) cause =
+        (refl, same_faults_both s0 s1 s2 same_before cause.0, subst (λ (o : Option Told). IfSome o (HasLabel disk)) same_told cause.1)
+    ended_cause WordsRefused cause = absurd cause
+    ended_cause NoMemory cause = absurd cause
+
+    -- the disk wasn't opened
+    pub meets_ended : (ending : Ending) → IsOpenCause s1 s2 ending → BetweenTold (λ old new. OpensDisks 1 old false new) s1.told s2.told → Meets (pvcreate pv copies) context s0 (Ended ending) s2
+    meets_ended ending cause told = record {
+      cause = ended_cause ending cause;
+      told = between_weaker (λ old new. OpensDisks (length s0.sizes) old false new) (ChangesDisks (pvcreate pv copies) context (Ended ending)) s0.told s2.told
+          (λ old new o. changes_nothing (pvcreate pv copies) context refl (λ image spans e. e) (Ended ending) tt false old new o) (opens false told);
+      again = again;
+    }
+
+    module _ (same_scan : HasSameFaults s1 s2) (unlabelled : IfSome s1.told (HasNoLabels 1)) (told : BetweenTold (λ old new. OpensDisks 1 old true new) s1.told s2.told) where
+      same_so_far : HasSameFaults s0 s2
+      same_so_far = same_faults_both s0 s1 s2 same_before same_scan
+
+      -- the line is refused
+      pub meets_refused : (refusal : OpRefusal) → refusal_of ((pvcreate pv copies).rows context) ≡ Some refusal → Meets (pvcreate pv copies) context s0 (Answered 1 (Refused refusal)) s2
+      meets_refused refusal row = record {
+        cause = (refl, same_so_far, λ scans. scanned unlabelled, row);
+        told = between_weaker (λ old new. OpensDisks (length s0.sizes) old true new) (ChangesDisks (pvcreate pv copies) context (Answered 1 (Refused refusal))) s0.told s2.told
+            (λ old new o. changes_nothing (pvcreate pv copies) context refl (λ image spans e. e) (Answered 1 (Refused refusal)) tt true old new o) (opens true told);
+        again = again;
+      }
+
+      module _ (s3 : State) (puts : List Put) (change : (pvcreate pv copies).change context puts) (none : refusal_of ((pvcreate pv copies).rows context) ≡ None) (after : IsIdleAgain s2 s3) where
+        again_after : IsIdleAgain s0 s3
+        again_after = record { idle = after.idle; sizes = after.sizes ∙ again.sizes }
+
+        found_after : IsFoundWherePut (number_in context pv) id (size_in context pv) copies → (old new : Told) → IsSame (now_after new.opened new.steps) (with_puts puts (now_after old.opened old.steps))
+            → IsNewPv id (size_in context pv) copies (now_after new.opened new.steps (number_in context pv))
+        found_after found old new same =
+            let disk = number_in context pv in
+            let there = found (now_after old.opened old.steps) in
+            let is : IsSame (now_after new.opened new.steps) (with_puts (new_puts disk id (size_in context pv) copies) (now_after old.opened old.steps)) =
+            subst (λ (l : List Put). IsSame (now_after new.opened new.steps) (with_puts l (now_after old.opened old.steps))) change same in
+            record {
+              label = subst (IsNewLabel id (size_in context pv) copies) (sym (is disk 1)) there.label;
+              area = λ copy. subst (λ (l : List ℕ). IsHeader l empty_area) (sym (is disk 8)) (there.area copy);
+            }
+
+        -- the sectors were put
+        pub meets_fine : HasSameFaults s2 s3 → PutsAllTold s2.told puts true s3.told → IsFoundWherePut (number_in context pv) id (size_in context pv) copies
+            → Meets (pvcreate pv copies) context s0 (Answered 1 Fine) s3
+        meets_fine same put found = record {
+          cause = (refl, refl, same_faults_both s0 s2 s3 same_so_far same, λ scans. scanned unlabelled, none);
+          told = between_both (λ old new. OpensDisks (length s0.sizes) old true new) _ (ChangesDisks (pvcreate pv copies) context (Answered 1 Fine)) s0.told s2.told s3.told
+              (λ old mid new o p. changes_puts (pvcreate pv copies) context refl (λ image spans e. e) (Answered 1 Fine) old mid new puts true o p
+              (λ u. u) (λ done. refl) change (λ done is. found_after found old new is)) (opens true told) put;
+          again = again_after;
+        }
+
+        -- one of them failed
+        pub meets_pv_failed : (disk : ℕ) → IsFaultOf puts s2 s3 disk → PutsAllTold s2.told puts false s3.told → Meets (pvcreate pv copies) context s0 (Answered 1 (PvFailed disk)) s3
+        meets_pv_failed disk fault put = record {
+          cause = (refl, λ scans. scanned unlabelled, none, (puts, change, (fault.0, fault.1, put_fault_after s0 s2 s3 fault.0 disk same_so_far fault.2)));
+          told = between_both (λ old new. OpensDisks (length s0.sizes) old true new) _ (ChangesDisks (pvcreate pv copies) context (Answered 1 (PvFailed disk))) s0.told s2.told s3.told
+              (λ old mid new o p. changes_puts (pvcreate pv copies) context refl (λ image spans e. e) (Answered 1 (PvFailed disk)) old mid new puts false o p
+              (λ u. u) (λ done. absurd done) change (λ done is. absurd done)) (opens true told) put;
+          again = again_after;
+        }

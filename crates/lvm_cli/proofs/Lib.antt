@@ -1,9 +1,8 @@
-pub mod Asked
-pub mod Causing
+pub mod Changing
+pub mod Checking
 pub mod Creating
-pub mod Looking
+pub mod Faults
 pub mod NewPvs
+pub mod OpenedDisks
 pub mod Opening
-pub mod Patching
-pub mod Printing
-pub mod Putting
+pub mod Undone

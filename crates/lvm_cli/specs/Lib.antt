@@ -1,7 +1,11 @@
-pub mod Answers
-pub mod Causes
-pub mod Creates
+pub mod CommandSpec
+pub mod Commands
+pub mod Disks
+pub mod Endings
+pub mod Meets
 pub mod NewPv
-pub mod OneDisk
-pub mod Puts
-pub mod Words
+pub mod Outcomes
+pub mod Runs
+pub mod Scan
+pub mod Seed
+pub mod Startup

@@ -1,32 +1,32 @@
 //! All that the program does, over any row of disks, streams and sources of ids.
-ghost use Rattle.std.specs.Prelude.{◌≡◌, ◌<◌, ◌^◌, ℕ, List, []};
-ghost use Rattle.lvm_script.specs.declared.line.Line.{Line as LineRecord};
-ghost use Rattle.lvm_script.specs.Lines.{pv_of_line, words_of};
-ghost use Rattle.lvm_report.specs.Reads.{IsIdleAgain};
-ghost use Rattle.lvm_cli.specs.Answers.{Ends};
-ghost use Rattle.lvm_cli.specs.Causes.{HasDisks, IsCaused};
-ghost use Rattle.lvm_cli.specs.Creates.{CreatesTold, FindsTold, puts_of};
-ghost use Rattle.lvm_cli.specs.OneDisk.{IsOneDisk, size_of};
-ghost use Rattle.lvm_cli.specs.Words.{Asks, AsksNothing};
+ghost use Rattle.std.specs.Prelude.{◌≡◌, ◌<◌, ◌^◌, [], length};
+ghost use Rattle.std.specs.Option.{is_some};
+ghost use Rattle.lvm_script.specs.Lines.{draws};
+ghost use Rattle.lvm_script.specs.Options.{words_of};
+ghost use Rattle.lvm_cli.specs.declared.outcome.Outcome.{Outcome as OutcomeRecord};
+ghost use Rattle.lvm_cli.specs.Commands.{spec_of};
+ghost use Rattle.lvm_cli.specs.Disks.{AreDisks, HasDisks};
+ghost use Rattle.lvm_cli.specs.Meets.{Meets};
+ghost use Rattle.lvm_cli.specs.Outcomes.{Ends, output_of};
+ghost use Rattle.lvm_cli.specs.Runs.{RunsWords, names_of};
 
-use crate::answer::Answer;
+use crate::commands::pvck::run_pvck;
+use crate::commands::pvcreate::run_pvcreate;
+use crate::ending::Ending;
 use crate::gate::Gate;
-use crate::print::print_answer;
-use crate::pvck::run_pvck;
-use crate::pvcreate::run_pvcreate;
-use crate::words::named_disk;
-use dev_shelf::Shelf;
+use crate::outcome::Outcome;
+use disk_model::Shelf;
 use lvm_id::Words64;
-use lvm_script::{Line, LineRefusal, Sink, Source, line_of};
+use lvm_script::{Command, DiskNames, Line, Sink, Source};
+use lvm_words::{Asked, WordsRefusal, read_words};
 use std::alloc::Global;
 use std::sync::Wait;
 use std::thread::Threads;
 
-/// How a run ended: its exit status, what it answered, and the disks.
+/// How a run ended: its exit status, and the disks.
 #[derive(Drop)]
 pub struct Ended<S> {
     pub status: u8,
-    pub answer: Answer,
     pub shelf: S,
 }
 
@@ -44,7 +44,7 @@ pub fn lvm_run<
     _rt: &T,
     alloc: Global,
     words: &Vec<String>,
-    _script: &mut R,
+    script: &mut R,
     out: &mut W,
     shelf: S,
     ids: &mut N,
@@ -54,79 +54,68 @@ pub fn lvm_run<
     requires disks { HasDisks (words_of words.now.items) (S.state shelf) }
     requires time { now < 2 ^ 48 }
 
-    // Words that ask for nothing are refused, and nothing is done.
-    ensures refused { AsksNothing (words_of words.now.items) → (result.answer ≡ Answer.WordsRefused) × (S.state result.shelf ≡ S.state shelf)
-        × Ends Answer.WordsRefused [] [] result.status (W.written out.old) (W.fault_count out.old) (W.written out.new) (W.fault_count out.new) }
+    // The run comes to an outcome by what is said of its words, and the output and the status are the outcome's, unless the
+    // sink failed.
+    ensures run { (outcome : OutcomeRecord)
+        × RunsWords (words_of words.now.items) (N.upcoming ids.old) (S.state shelf) outcome (N.upcoming ids.new) (S.state result.shelf)
+        × Ends (names_of (words_of words.now.items)) outcome result.status (W.written out.old) (W.fault_count out.old) (W.written out.new) (W.fault_count out.new) }
 
-    // Each answer to a line has its cause, and the output and the status are the answer's, unless the sink failed.
-    ensures caused { (name : List ℕ) (line : LineRecord) → Asks (words_of words.now.items) (N.upcoming ids.old) name line
-        → IsCaused name line (S.state shelf) (S.state result.shelf) result.answer }
-    ensures ends { (name : List ℕ) (line : LineRecord) → Asks (words_of words.now.items) (N.upcoming ids.old) name line
-        → Ends result.answer name (pv_of_line line) result.status (W.written out.old) (W.fault_count out.old) (W.written out.new) (W.fault_count out.new) }
-
-    // Nothing is in flight afterwards.
-    ensures worked { (name : List ℕ) (line : LineRecord) → Asks (words_of words.now.items) (N.upcoming ids.old) name line
-        → IsIdleAgain (S.state shelf) (S.state result.shelf) }
-
-    // What the line puts on the disk is put in order: a crash at any moment leaves the first so many of its sectors, whole, and
-    // all of them once they are acknowledged. A read gives them then, and of each other sector what it gave before.
-    ensures creates { (name : List ℕ) (line : LineRecord) → Asks (words_of words.now.items) (N.upcoming ids.old) name line
-        → CreatesTold (S.state shelf).told (puts_of line (size_of (S.state shelf))) result.answer (S.state result.shelf).told }
-
-    // A physical volume that is created is found by the definitions of its label and its headers.
-    ensures found { (name : List ℕ) (line : LineRecord) → Asks (words_of words.now.items) (N.upcoming ids.old) name line
-        → result.answer ≡ Answer.Created → FindsTold (S.state shelf).told line (size_of (S.state shelf)) (S.state result.shelf).told }
+    // The source is left as it was.
+    ensures script { R.left script.new ≡ R.left script.old }
+    ensures unread { R.fault_count script.new ≡ R.fault_count script.old }
 {
+    let _ = script;
     let mut shelf = shelf;
-    let Some((name, rest)) = named_disk(words) else {
-        return refuse(out, shelf);
-    };
-    match line_of(alloc, rest, ids) {
-        Ok(line) => {
-            let answer = run_line(alloc, &mut shelf, &line, name.as_bytes());
-            let status = print_answer(out, &answer, name.as_bytes(), line.pv());
-            Ended {
-                status,
-                answer,
-                shelf,
-            }
-        }
-        Err(LineRefusal::NoMeaning) => refuse(out, shelf),
-        Err(LineRefusal::NoMemory) => Ended {
-            status: Answer::NoMemory.status(),
-            answer: Answer::NoMemory,
-            shelf,
+    let (outcome, names) = run_words(alloc, words, &mut shelf, ids);
+    let status = outcome.print(out, &names);
+    Ended { status, shelf }
+}
+
+// Runs the words, and gives the names of the disks as far as the outcome prints them.
+fn run_words<S: Shelf, N: Words64>(
+    alloc: Global,
+    words: &[String],
+    shelf: &mut S,
+    ids: &mut N,
+) -> (Outcome, DiskNames)
+    requires { HasDisks (words_of words.now) (S.state shelf.old) }
+    ensures run { RunsWords (words_of words.now) (N.upcoming ids.old) (S.state shelf.old) result.0 (N.upcoming ids.new) (S.state shelf.new) }
+    ensures output { output_of result.1 result.0 ≡ output_of (names_of (words_of words.now)) result.0 }
+{
+    match read_words(alloc, words, ids) {
+        Ok(Asked { names, line }) => (run_line(alloc, shelf, &names, line), names),
+        Err(WordsRefusal::NoMeaning) => (Outcome::Ended(Ending::WordsRefused), no_names(alloc)),
+        Err(WordsRefusal::NoMemory) => (Outcome::Ended(Ending::NoMemory), no_names(alloc)),
+    }
+}
+
+fn no_names(alloc: Global) -> DiskNames
+    ensures { result ≡ [] }
+{
+    DiskNames::from_vec(Vec::new(alloc))
+}
+
+// Does what the line asks for on the one disk.
+fn run_line<S: Shelf>(alloc: Global, shelf: &mut S, names: &DiskNames, line: Line) -> Outcome
+    requires disks { AreDisks 1 (S.state shelf.old) }
+    requires names { length names.now ≡ 1 }
+    requires drawn { is_some line.id ≡ draws line.command }
+    ensures { Meets (spec_of line.command) (record { names = names.now; sizes = (S.state shelf.old).sizes; id = line.id })
+        (S.state shelf.old) result (S.state shelf.new) }
+{
+    let Line {
+        number: _,
+        id,
+        command,
+    } = line;
+    match command {
+        Command::Pvcreate {
+            pv,
+            metadata_copies,
+        } => match id {
+            Some(id) => run_pvcreate(alloc, shelf, names, id, pv, metadata_copies),
+            None => unreachable!(),
         },
-    }
-}
-
-// Prints that the words have no meaning.
-fn refuse<S: Shelf, W: Sink>(out: &mut W, shelf: S) -> Ended<S>
-    ensures answer { result.answer ≡ Answer.WordsRefused }
-    ensures shelf { result.shelf ≡ shelf }
-    ensures ends { Ends Answer.WordsRefused [] [] result.status (W.written out.old) (W.fault_count out.old) (W.written out.new) (W.fault_count out.new) }
-{
-    let answer = Answer::WordsRefused;
-    let status = print_answer(out, &answer, b"", b"");
-    Ended {
-        status,
-        answer,
-        shelf,
-    }
-}
-
-// Does what the line asks for on the disk of this name.
-fn run_line<S: Shelf>(alloc: Global, shelf: &mut S, line: &Line, name: &[u8]) -> Answer
-    requires { IsOneDisk (S.state shelf.old) }
-    ensures worked { IsIdleAgain (S.state shelf.old) (S.state shelf.new) }
-    ensures cause { IsCaused name.now line.now (S.state shelf.old) (S.state shelf.new) result }
-    ensures creates { CreatesTold (S.state shelf.old).told (puts_of line.now (size_of (S.state shelf.old))) result (S.state shelf.new).told }
-    ensures found { result ≡ Answer.Created → FindsTold (S.state shelf.old).told line.now (size_of (S.state shelf.old)) (S.state shelf.new).told }
-{
-    match line {
-        Line::Pvcreate { id, pv, areas, .. } => {
-            run_pvcreate(alloc, shelf, *id, *areas, pv.as_bytes(), name)
-        }
-        Line::Pvck { pv, .. } => run_pvck(alloc, shelf, pv.as_bytes(), name),
+        Command::Pvck { pv } => run_pvck(alloc, shelf, names, pv),
     }
 }

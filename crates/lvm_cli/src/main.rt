@@ -4,58 +4,53 @@
 //! makes the real files, clock and streams, and calls it.
 #![tactic(auto)]
 
-ghost use Rattle.std.specs.Prelude.{◌<◌, ◌^◌};
+ghost use Rattle.std.specs.Prelude.{◌≡◌, List, Some, IfOk};
+ghost use Rattle.lvm_script.specs.Options.{Word, words_of};
+ghost use Rattle.lvm_words.specs.Disks.{disks_named};
 
-mod answer;
-mod disk;
+mod arguments;
+mod commands;
+mod ending;
 mod gate;
 mod lvm_run;
 mod new_pv;
-mod print;
-mod pvck;
-mod pvcreate;
+mod open_disk;
+mod outcome;
+mod seed;
+mod startup;
 #[cfg(test)]
 mod tests;
-mod words;
 
-use file_shelf::{FileShelf, OpenFault, StdSink, StdSource};
+use arguments::arguments;
+use file_shelf::{StdSink, StdSource};
 use gate::OpenGate;
-use lvm_id::MixWords;
 use lvm_run::lvm_run;
+use lvm_script::DiskNames;
+use lvm_words::{WordsRefusal, disk_names};
+use seed::{ids_of_system, seconds, since_1970};
+use startup::{NO_MEMORY, NOT_TO_BE_HAD, open_disks, say_fault};
+use std::alloc::{AllocError, Global};
 use std::process::ExitCode;
-use std::rt::{Clock, Env};
-use std::time::{SystemTime, UNIX_EPOCH};
-use std::{env, io};
-use words::disk_names;
-
-/// The latest time that a run is given, in seconds.
-const LAST_SECOND: u64 = (1 << 48) - 1;
-
-/// The exit status for want of memory.
-const NO_MEMORY: u8 = 2;
-
-/// The exit status where a disk's file can't be opened.
-const CANNOT_OPEN: u8 = 6;
 
 fn main(rt: HostRuntime) -> ExitCode {
+    let since = since_1970(&rt);
+    let Some(mut ids) = ids_of_system(&rt, since) else {
+        let _ = eprintln!(rt; "neither random numbers nor a clock to draw ids from");
+        return ExitCode::from(NOT_TO_BE_HAD);
+    };
     let Ok(words) = arguments(&rt) else {
         return ExitCode::from(NO_MEMORY);
     };
-    let Ok(names) = disk_names(rt.alloc(), &words) else {
+    let Ok(names) = named_disks(rt.alloc(), &words) else {
         return ExitCode::from(NO_MEMORY);
     };
-    let shelf = match FileShelf::open(&rt, rt.alloc(), &names) {
+    let names = names.as_vec();
+    let shelf = match open_disks(&rt, rt.alloc(), &words, names) {
         Ok(shelf) => shelf,
-        Err(OpenFault::File(number)) => {
-            let _ = eprintln!(rt; "cannot open {}", names[number as usize]);
-            return ExitCode::from(CANNOT_OPEN);
-        }
-        Err(OpenFault::NoMemory) => return ExitCode::from(NO_MEMORY),
+        Err(fault) => return ExitCode::from(say_fault(&rt, names, fault)),
     };
-    let (now, seed) = time(&rt);
     let mut script = StdSource::new(&rt);
-    let mut out = StdSink::new(rt);
-    let mut ids = MixWords::new(seed);
+    let mut out = StdSink::new(&rt);
     let ended = lvm_run(
         &rt,
         rt.alloc(),
@@ -64,34 +59,19 @@ fn main(rt: HostRuntime) -> ExitCode {
         &mut out,
         shelf,
         &mut ids,
-        now,
+        seconds(since),
         &OpenGate,
     );
     ExitCode::from(ended.status)
 }
 
-// The words after the program's name.
-fn arguments(rt: &(impl Env + AllocGlobal)) -> io::Result<Vec<String>> {
-    let mut words = Vec::new(rt.alloc());
-    for word in env::args(rt)?.skip(1) {
-        words.push(word)?;
-    }
-    Ok(words)
-}
-
-// The time in seconds, and a number that differs from one nanosecond to the next.
-fn time(rt: &impl Clock) -> (u64, u64)
-    ensures { result.0 < 2 ^ 48 }
+// The disks that the words name, none where they name none.
+fn named_disks(alloc: Global, words: &[String]) -> Result<DiskNames, AllocError>
+    ensures { IfOk result (λ names. (named : List Word) → disks_named (words_of words.now) ≡ Some named → named ≡ names) }
 {
-    match SystemTime::now(rt) {
-        Ok(now) => match now.duration_since(UNIX_EPOCH) {
-            Ok(since) => {
-                let seed = since.as_secs().wrapping_mul(1_000_000_000);
-                let seed = seed.wrapping_add(u64::from(since.subsec_nanos()));
-                (since.as_secs().min(LAST_SECOND), seed)
-            }
-            Err(_) => (0, 0),
-        },
-        Err(_) => (0, 0),
+    match disk_names(alloc, words) {
+        Ok(names) => Ok(names),
+        Err(WordsRefusal::NoMeaning) => Ok(DiskNames::from_vec(Vec::new(alloc))),
+        Err(WordsRefusal::NoMemory) => Err(AllocError),
     }
 }

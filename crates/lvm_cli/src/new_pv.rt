@@ -1,7 +1,7 @@
 //! What a new physical volume has on its disk.
-ghost use Rattle.std.specs.Prelude.{◌≡◌, ◌≤◌, ◌^◌, [], ◌∷◌, IfOk, OnOk};
+ghost use Rattle.std.specs.Prelude.{◌≡◌, ◌≤◌, ◌^◌, ℕ, [], ◌∷◌, IfOk, OnOk};
 ghost use Rattle.mda_header.specs.Header.{IsHeader};
-ghost use Rattle.mda_header.specs.Written.{header_bytes as mda_bytes};
+ghost use Rattle.mda_header.specs.HeaderBytes.{header_bytes as mda_bytes};
 ghost use Rattle.lvm_cli.specs.NewPv.{HasOneEach, IsFoundWherePut, IsNewLabel, area_sectors, empty_area as empty_area_of, new_areas as areas_of, new_header as header_of, new_label as label_of, new_puts, puts_with};
 
 use lvm_id::LvmId;
@@ -26,17 +26,22 @@ pub struct NewPv {
 }
 
 impl NewPv {
-    /// Those of a physical volume with this id and so many metadata areas, 0 or 1, on a disk of so many sectors. Only
+    /// Those of a physical volume with this id and so many copies of the metadata, 0 or 1, on a disk of so many sectors. Only
     /// memory can be wanting.
-    pub fn new(alloc: Global, id: LvmId, sectors: u64, areas: u32) -> Result<NewPv, AllocError>
+    pub fn new(
+        alloc: Global,
+        id: LvmId,
+        sectors: u64,
+        metadata_copies: u64,
+    ) -> Result<NewPv, AllocError>
         requires { sectors ≤ 2 ^ 40 }
         ensures one { IfOk result HasOneEach }
-        ensures puts { IfOk result (λ new. puts_with new.area new.label ≡ new_puts id sectors areas) }
-        ensures found { OnOk result (IsFoundWherePut id sectors areas) }
+        ensures puts { IfOk result (λ new. (disk : ℕ) → puts_with disk new.area new.label ≡ new_puts disk id sectors metadata_copies) }
+        ensures found { OnOk result ((disk : ℕ) → IsFoundWherePut disk id sectors metadata_copies) }
     {
-        let label = new_label(alloc, id, sectors, areas)?;
+        let label = new_label(alloc, id, sectors, metadata_copies)?;
         Ok(NewPv {
-            area: new_area(alloc, areas)?,
+            area: new_area(alloc, metadata_copies)?,
             label: one_sector(alloc, label)?,
         })
     }
@@ -44,12 +49,17 @@ impl NewPv {
 
 // The label sector of a physical volume with this id and so many metadata areas, on a disk of so many sectors. It is
 // the one for sector 1. Only memory can be wanting.
-fn new_label(alloc: Global, id: LvmId, sectors: u64, areas: u32) -> Result<Bytes512, AllocError>
+fn new_label(
+    alloc: Global,
+    id: LvmId,
+    sectors: u64,
+    metadata_copies: u64,
+) -> Result<Bytes512, AllocError>
     requires { sectors ≤ 2 ^ 40 }
-    ensures bytes { IfOk result (λ sector. sector ≡ label_of id sectors areas) }
-    ensures readable { IfOk result (IsNewLabel id sectors areas) }
+    ensures bytes { IfOk result (λ sector. sector ≡ label_of id sectors metadata_copies) }
+    ensures readable { IfOk result (IsNewLabel id sectors metadata_copies) }
 {
-    let header = new_header(alloc, id, sectors, areas)?;
+    let header = new_header(alloc, id, sectors, metadata_copies)?;
     let mut sector = Bytes512::zeroed();
     write_pv(&header, &mut sector);
     seal_label(&mut sector, 1);
@@ -58,11 +68,11 @@ fn new_label(alloc: Global, id: LvmId, sectors: u64, areas: u32) -> Result<Bytes
 }
 
 // The header of the metadata area, where there is one.
-fn new_area(alloc: Global, areas: u32) -> Result<Option<Sectors>, AllocError>
-    ensures bytes { IfOk result (λ area. area ≡ area_sectors areas) }
-    ensures readable { OnOk result (areas ≡ 1 → IsHeader (mda_bytes empty_area_of) empty_area_of) }
+fn new_area(alloc: Global, metadata_copies: u64) -> Result<Option<Sectors>, AllocError>
+    ensures bytes { IfOk result (λ area. area ≡ area_sectors metadata_copies) }
+    ensures readable { OnOk result (metadata_copies ≡ 1 → IsHeader (mda_bytes empty_area_of) empty_area_of) }
 {
-    if areas == 0 {
+    if metadata_copies == 0 {
         return Ok(None);
     }
     Ok(Some(one_sector(alloc, empty_area())?))
@@ -85,9 +95,14 @@ fn empty_area() -> Bytes512
     sector
 }
 
-fn new_header(alloc: Global, id: LvmId, sectors: u64, areas: u32) -> Result<PvHeader, AllocError>
+fn new_header(
+    alloc: Global,
+    id: LvmId,
+    sectors: u64,
+    metadata_copies: u64,
+) -> Result<PvHeader, AllocError>
     requires { sectors ≤ 2 ^ 40 }
-    ensures { IfOk result (λ header. header ≡ header_of id sectors areas) }
+    ensures { IfOk result (λ header. header ≡ header_of id sectors metadata_copies) }
 {
     let mut data_areas = Vec::with_capacity(alloc, 1)?;
     data_areas.push(Extent {
@@ -98,18 +113,18 @@ fn new_header(alloc: Global, id: LvmId, sectors: u64, areas: u32) -> Result<PvHe
         id,
         device_bytes: sectors * 512,
         data_areas: Extents::from_vec(data_areas),
-        areas: new_areas(alloc, areas)?,
+        areas: new_areas(alloc, metadata_copies)?,
         version: 2,
         flags: 0,
     })
 }
 
 // The metadata areas: one, or none.
-fn new_areas(alloc: Global, areas: u32) -> Result<Extents, AllocError>
-    ensures { IfOk result (λ list. list ≡ areas_of areas) }
+fn new_areas(alloc: Global, metadata_copies: u64) -> Result<Extents, AllocError>
+    ensures { IfOk result (λ list. list ≡ areas_of metadata_copies) }
 {
     let mut list = Vec::new(alloc);
-    if areas > 0 {
+    if metadata_copies > 0 {
         list.push(Extent {
             offset: AREA_START,
             size: DATA_START - AREA_START,

@@ -1,14 +1,15 @@
 //! Runs over disks in memory: the worked rows of the command.
-ghost use Rattle.std.specs.Prelude.{◌≡◌, ◌≤◌, ◌<◌, ◌∷◌, ◌^◌, [], length, replicate, IfOk};
-ghost use Rattle.dev_shelf.specs.DiskRow.{new_state};
-ghost use Rattle.lvm_cli.specs.OneDisk.{IsOneDisk};
+ghost use Rattle.std.specs.Prelude.{◌≡◌, ◌≤◌, ◌^◌, List, Some, length, IfOk, IsTrue};
+ghost use Rattle.lvm_script.specs.Options.{Word, words_of};
+ghost use Rattle.lvm_words.specs.Disks.{disks_named};
+ghost use Rattle.lvm_cli.specs.Disks.{AreDisks};
 
-use crate::answer::Answer;
 use crate::gate::{Gate, OpenGate};
 use crate::lvm_run::{Ended, lvm_run};
 use dev_shelf::{Fail as Failure, Images, MemShelf, Shelf, ShelfPlan};
 use lvm_id::MemWords;
 use lvm_script::{MemSink, MemSource};
+use lvm_words::{WordsRefusal, disk_names};
 use sector_base::{Bytes512, Sectors};
 use std::alloc::{AllocError, Global};
 use std::process::Abort;
@@ -40,13 +41,14 @@ const LABEL_WITH_AREA: [u8; 152] = *b"LABELONE\x01\0\0\0\0\0\0\0\xAB\x08\xEA\x3B
 const AREA: [u8; 40] =
     *b"\x16\xD6\x8E\xDB LVM2 x[5A%r0N*>\x01\0\0\0\0\x10\0\0\0\0\0\0\0\xF0\x0F\0\0\0\0\0";
 
-// A disk of so many sectors of zeros, of which these are to fail.
-fn blank(alloc: Global, sectors: u32, fails: Vec<Failure>) -> Result<MemShelf, AllocError>
-    requires few { sectors ≤ 2 ^ 30 }
-    ensures { IfOk result (λ shelf. ⟦<MemShelf as Shelf>⟧.state shelf ≡ new_state (replicate sectors (replicate 512 0) ∷ [])) }
+// A shelf of this disk, of which these operations are to fail.
+fn shelf_of(alloc: Global, disk: Sectors, fails: Vec<Failure>) -> Result<MemShelf, AllocError>
+    requires least { 8 ≤ length disk }
+    requires few { length disk ≤ 2 ^ 30 }
+    ensures { IfOk result (λ shelf. AreDisks 1 (⟦<MemShelf as Shelf>⟧.state shelf)) }
 {
     let mut disks = Vec::new(alloc);
-    disks.push(Sectors::zeroed(alloc, sectors)?)?;
+    disks.push(disk)?;
     let plan = ShelfPlan {
         picks: Vec::new(alloc),
         fails,
@@ -56,20 +58,42 @@ fn blank(alloc: Global, sectors: u32, fails: Vec<Failure>) -> Result<MemShelf, A
     MemShelf::new(alloc, Images::from_vec(disks), plan)
 }
 
-// A run of these words over the disk, and what it wrote.
-fn run<T: Threads + Wait + Sync>(
+// A disk of so many sectors of zeros, of which these operations are to fail.
+fn blank(alloc: Global, sectors: u32, fails: Vec<Failure>) -> Result<MemShelf, AllocError>
+    requires least { 8 ≤ sectors }
+    requires few { sectors ≤ 2 ^ 30 }
+    ensures { IfOk result (λ shelf. AreDisks 1 (⟦<MemShelf as Shelf>⟧.state shelf)) }
+{
+    shelf_of(alloc, Sectors::zeroed(alloc, sectors)?, fails)
+}
+
+// Whether the words name so many disks, or none.
+fn has_disks(alloc: Global, words: &[String], count: u32) -> Result<bool, AllocError>
+    ensures { IfOk result (λ has. IsTrue has → (names : List Word) → disks_named (words_of words.now) ≡ Some names → length names ≡ count) }
+{
+    match disk_names(alloc, words) {
+        Ok(names) => Ok(names.len() == count as usize),
+        Err(WordsRefusal::NoMeaning) => Ok(true),
+        Err(WordsRefusal::NoMemory) => Err(AllocError),
+    }
+}
+
+// A run of these words over so many disks, and what it wrote.
+fn run<T: Threads + Wait + Sync + Abort>(
     rt: &T,
     alloc: Global,
     words: &[&str],
+    count: u32,
     shelf: MemShelf,
     out: &mut MemSink,
 ) -> Result<Ended<MemShelf>, AllocError>
-    requires { IsOneDisk (⟦<MemShelf as Shelf>⟧.state shelf) }
+    requires { AreDisks count (⟦<MemShelf as Shelf>⟧.state shelf) }
 {
     let mut list = Vec::new(alloc);
     for word in words {
         list.push(String::from_str(alloc, word)?)?;
     }
+    assert!(rt; has_disks(alloc, &list, count)?);
     let mut numbers = Vec::new(alloc);
     numbers.extend_from_slice(&[0, 1, 62, 3])?;
     let mut ids = MemWords::new(numbers);
@@ -90,13 +114,14 @@ fn run<T: Threads + Wait + Sync>(
 #[test]
 fn words_without_a_meaning_are_refused(rt: HostRuntime) -> Result<(), Fail> {
     let alloc = rt.alloc();
-    let refused: [&[&str]; 6] = [
+    let refused: [&[&str]; 7] = [
         &["-d", "a", "lvcreate", "vg0"],
         &["-d", "a", "lvs", "--help"],
         &[],
         &["-d", "a", "pvcreate", "--metadatacopies", "2", "a"],
         &["-d", "-a", "pvcreate", "--metadatacopies", "0", "-a"],
-        &["-d", "a", "-d", "b", "pvck", "a"],
+        &["-d", "a"],
+        &["-d", "a", "-d", "a", "pvck", "a"],
     ];
     for words in refused {
         let mut out = MemSink::new(alloc, 100, Vec::new(alloc))?;
@@ -104,6 +129,7 @@ fn words_without_a_meaning_are_refused(rt: HostRuntime) -> Result<(), Fail> {
             &rt,
             alloc,
             words,
+            1,
             blank(alloc, 8, Vec::new(alloc))?,
             &mut out,
         )?;
@@ -148,8 +174,7 @@ fn the_new_sectors_are_written_and_nothing_else(rt: HostRuntime) -> Result<(), F
     for (words, label, area, steps) in rows {
         let mut out = MemSink::new(alloc, 100, Vec::new(alloc))?;
         let shelf = blank(alloc, 8192, Vec::new(alloc))?;
-        let ended = run(&rt, alloc, words, shelf, &mut out)?;
-        assert!(rt; matches!(ended.answer, Answer::Created));
+        let ended = run(&rt, alloc, words, 1, shelf, &mut out)?;
         assert_eq!(rt; ended.status, 0);
         assert_eq!(rt; out.bytes(), b"1: ok\n".as_slice());
 
@@ -187,7 +212,7 @@ fn every_crash_leaves_the_first_of_the_new_sectors(rt: HostRuntime) -> Result<()
     for (words, area_steps, label_steps, steps) in rows {
         let mut out = MemSink::new(alloc, 100, Vec::new(alloc))?;
         let shelf = blank(alloc, 2056, Vec::new(alloc))?;
-        let shelf = run(&rt, alloc, words, shelf, &mut out)?.shelf;
+        let shelf = run(&rt, alloc, words, 1, shelf, &mut out)?.shelf;
         assert_eq!(rt; shelf.moments(), steps);
         for moment in 0..=steps {
             for choice in 0..3u64 {
@@ -218,19 +243,13 @@ fn every_crash_leaves_the_first_of_the_new_sectors(rt: HostRuntime) -> Result<()
 
 // The disk as the run left it, handed in anew.
 fn reopened(rt: &impl Abort, alloc: Global, shelf: &MemShelf) -> Result<MemShelf, Fail>
-    ensures { IfOk result (λ shelf. IsOneDisk (⟦<MemShelf as Shelf>⟧.state shelf)) }
+    ensures { IfOk result (λ shelf. AreDisks 1 (⟦<MemShelf as Shelf>⟧.state shelf)) }
 {
     let images = shelf.images_at(shelf.moments(), &Vec::new(alloc))?;
     assert!(rt; images.len() == 1);
-    let sectors = images.get(0).len();
-    assert!(rt; (8..1 << 30).contains(&sectors));
-    let plan = ShelfPlan {
-        picks: Vec::new(alloc),
-        fails: Vec::new(alloc),
-        holds: Vec::new(alloc),
-        limit: 0,
-    };
-    Ok(MemShelf::new(alloc, images, plan)?)
+    let disk = images.get(0).try_copy(alloc)?;
+    assert!(rt; (8..1 << 30).contains(&disk.len()));
+    Ok(shelf_of(alloc, disk, Vec::new(alloc))?)
 }
 
 #[test]
@@ -249,10 +268,10 @@ extension 2 0\n";
     for (words, text, steps) in rows {
         let mut first = MemSink::new(alloc, 100, Vec::new(alloc))?;
         let shelf = blank(alloc, 8192, Vec::new(alloc))?;
-        let shelf = run(&rt, alloc, words, shelf, &mut first)?.shelf;
+        let shelf = run(&rt, alloc, words, 1, shelf, &mut first)?.shelf;
         let mut out = MemSink::new(alloc, 300, Vec::new(alloc))?;
         let shelf = reopened(&rt, alloc, &shelf)?;
-        let ended = run(&rt, alloc, &PVCK, shelf, &mut out)?;
+        let ended = run(&rt, alloc, &PVCK, 1, shelf, &mut out)?;
         assert_eq!(rt; (ended.status, ended.shelf.steps()), (0, steps));
         assert_eq!(rt; out.bytes(), text.as_bytes());
     }
@@ -270,7 +289,7 @@ fn another_name_is_unknown(rt: HostRuntime) -> Result<(), Fail> {
     for (words, sectors, steps) in rows {
         let mut out = MemSink::new(alloc, 100, Vec::new(alloc))?;
         let shelf = blank(alloc, sectors, Vec::new(alloc))?;
-        let ended = run(&rt, alloc, words, shelf, &mut out)?;
+        let ended = run(&rt, alloc, words, 1, shelf, &mut out)?;
         assert_eq!(rt; (ended.status, ended.shelf.steps()), (5, steps));
         assert_eq!(rt; out.bytes(), b"1: refused UnknownPv b\n".as_slice());
     }
@@ -287,7 +306,7 @@ fn a_small_disk_is_refused(rt: HostRuntime) -> Result<(), Fail> {
     for (sectors, status, text, steps) in rows {
         let mut out = MemSink::new(alloc, 100, Vec::new(alloc))?;
         let shelf = blank(alloc, sectors, Vec::new(alloc))?;
-        let ended = run(&rt, alloc, &PVCREATE, shelf, &mut out)?;
+        let ended = run(&rt, alloc, &PVCREATE, 1, shelf, &mut out)?;
         assert_eq!(rt; (ended.status, ended.shelf.steps()), (status, steps));
         assert_eq!(rt; out.bytes(), text.as_bytes());
     }
@@ -311,7 +330,7 @@ fn a_failed_operation_is_answered(rt: HostRuntime) -> Result<(), Fail> {
         let mut out = MemSink::new(alloc, 100, Vec::new(alloc))?;
         let mut fails = Vec::new(alloc);
         fails.push(Failure { tag, fresh: 0 })?;
-        let ended = run(&rt, alloc, words, blank(alloc, 2056, fails)?, &mut out)?;
+        let ended = run(&rt, alloc, words, 1, blank(alloc, 2056, fails)?, &mut out)?;
         assert_eq!(rt; (ended.status, ended.shelf.steps()), (6, steps));
         assert_eq!(rt; out.bytes(), text.as_bytes());
     }
@@ -327,17 +346,9 @@ fn a_disk_with_a_label_is_left_alone(rt: HostRuntime) -> Result<(), Fail> {
         let mut sector = Bytes512::zeroed();
         sector.put(0, b"LABELONE");
         disk.set(at, sector);
-        let mut disks = Vec::new(alloc);
-        disks.push(disk)?;
-        let plan = ShelfPlan {
-            picks: Vec::new(alloc),
-            fails: Vec::new(alloc),
-            holds: Vec::new(alloc),
-            limit: 0,
-        };
-        let shelf = MemShelf::new(alloc, Images::from_vec(disks), plan)?;
+        let shelf = shelf_of(alloc, disk, Vec::new(alloc))?;
         let mut out = MemSink::new(alloc, 100, Vec::new(alloc))?;
-        let ended = run(&rt, alloc, &PVCREATE, shelf, &mut out)?;
+        let ended = run(&rt, alloc, &PVCREATE, 1, shelf, &mut out)?;
         assert_eq!(rt; (ended.status, ended.shelf.steps()), (5, 4));
         assert_eq!(rt; out.bytes(), b"scan refused NotYet a\n".as_slice());
     }
@@ -350,7 +361,7 @@ fn a_failed_sink_gives_its_status(rt: HostRuntime) -> Result<(), Fail> {
     let rows: [(&[&str], u32, u64, u8, &[u8]); 4] = [
         (&PVCREATE, 2056, 0, 7, b""),
         (&PVCREATE, 2048, 0, 7, b""),
-        (&PVCREATE, 2048, 1, 7, b"1: refused TooSmall "),
+        (&PVCREATE, 2048, 5, 7, b"1: refused TooSmall "),
         (&["-d", "a"], 2048, 0, 3, b""),
     ];
     for (words, sectors, call, status, text) in rows {
@@ -358,7 +369,7 @@ fn a_failed_sink_gives_its_status(rt: HostRuntime) -> Result<(), Fail> {
         fails.push(call)?;
         let mut out = MemSink::new(alloc, 100, fails)?;
         let shelf = blank(alloc, sectors, Vec::new(alloc))?;
-        let ended = run(&rt, alloc, words, shelf, &mut out)?;
+        let ended = run(&rt, alloc, words, 1, shelf, &mut out)?;
         assert_eq!(rt; ended.status, status);
         assert_eq!(rt; out.bytes(), text);
     }

@@ -1,16 +1,18 @@
-use Rattle.std.proofs.Common.{◌≡◌, ℕ, List, length, sym, ap, subst, arith}
+use Rattle.std.proofs.Common.{◌≡◌, List, Some, length, sym, ap, subst, ◌∙◌, arith}
 use Rattle.std.proofs.lemmas.List.{length-map}
 use Rattle.std.specs.declared.string.String.{String}
 use Rattle.std.specs.Vec.{vec_len}
-use Rattle.lvm_script.specs.Lines.{words_of}
-use Rattle.lvm_cli.specs.Words.{Means}
-use Rattle.lvm_cli.proofs.Opening.{one_disk}
+use Rattle.lvm_script.specs.Options.{Word, words_of}
+use Rattle.lvm_words.specs.Disks.{disks_named}
+use Rattle.lvm_cli.proofs.OpenedDisks.{opened_disks_as}
 use Rattle.lvm_cli.proofs.main.Goals as goal
 
 pub lvm_run-ended-requires-clause-disks : goal.lvm_run-ended-requires-clause-disks
-lvm_run-ended-requires-clause-disks g c κs = λ name line means.
-    let again = subst (λ (w : List (String _)). Means (words_of w) name line) (sym c.deref.ensures.value) means in
-    let one : length (words_of c.in-Ok-disk_names.names.items) ≡ 1 = ap (λ (l : List (List ℕ)). length l) (c.in-Ok-disk_names.ensures name line again) in
-    let len : length c.in-Ok-disk_names.names.items ≡ 1 = rw length-map at one in
-    let count : vec_len c.in-Ok-disk_names.names ≡ 1 = omega (arith, len, c.in-Ok-disk_names.names.ok.0) in
-    one_disk (vec_len c.in-Ok-disk_names.names) _ c.in-Ok-open.ensures.ok count
+lvm_run-ended-requires-clause-disks g c κs = λ names named.
+    let list = c.as_vec-names.result.now in
+    let again = subst (λ (w : List (String _)). disks_named (words_of w) ≡ Some names) (sym c.deref.ensures.value) named in
+    let are : names ≡ words_of list.items = c.in-Ok-named_disks.ensures names again ∙ sym c.as_vec-names.ensures in
+    let bytes = ap (λ (l : List Word). length l) are in
+    let long : length names ≡ length list.items = rw length-map at bytes in
+    let count : vec_len list ≡ length names = omega (arith, long, list.ok.0) in
+    opened_disks_as (vec_len list) (length names) _ count c.in-Ok-open_disks.ensures.ok

@@ -1,0 +1,112 @@
+-- pvck: judged, and then a report or none.
+use Rattle.std.proofs.Common.{◌≡◌, ℕ, List, [], ◌∷◌, ◌++◌, slice_index_or, Option, Some, None, IfSome, refl, sym, ap, subst, inl, inr, append-nil}
+use Rattle.std.specs.Prelude.{unwrap_or}
+use Rattle.sector_base.specs.declared.spans.Span.{Span}
+use Rattle.disk_model.specs.Faults.{HasSameFaults, IsLastFault}
+use Rattle.disk_model.specs.Idle.{IsIdleAgain}
+use Rattle.disk_model.specs.Since.{BetweenTold}
+use Rattle.disk_model.specs.State.{State}
+use Rattle.disk_model.specs.Steps.{Image, Reading, now_after}
+use Rattle.pv_header.specs.declared.extent_list.Extent.{Extent}
+use Rattle.lvm_report.specs.declared.contents.PvFound.{PvFound}
+use Rattle.lvm_report.specs.declared.contents.PvFound.TheVariants.{NoLabel, NoHeader, Whole}
+use Rattle.lvm_report.specs.Contents.{IsFound}
+use Rattle.pv_label.specs.LabelSectors.{label_span}
+use Rattle.lvm_report.specs.Reads.{AreAreasOf, ReadsAllOf, ReadsFirstOf, area_spans, areas_found}
+use Rattle.lvm_report.specs.Report.{IsReport}
+use Rattle.lvm_script.specs.Options.{Word, number_named}
+use Rattle.lvm_script.specs.declared.answer.Answer.TheVariants.{Refused}
+use Rattle.lvm_script.specs.declared.op_refusal.OpRefusal.TheVariants.{UnknownPv}
+use Rattle.lvm_cli.specs.declared.ending.Ending.TheVariants.{NoMemory, ScanReadFailed}
+use Rattle.lvm_cli.specs.declared.outcome.Outcome.{Outcome}
+use Rattle.lvm_cli.specs.declared.outcome.Outcome.TheVariants.{Ended, Answered, Reported}
+use Rattle.lvm_cli.specs.CommandSpec.{Context, number_in, refusal_of}
+use Rattle.lvm_cli.specs.Commands.Pvck.{pvck}
+use Rattle.lvm_cli.specs.Meets.{ChangesDisks, IsUnwritten, Meets}
+use Rattle.lvm_cli.proofs.Changing.{between_reading, changes_by_reading}
+
+-- the metadata areas of what was found are those that the header names
+areas_of_found : (sector_at : ℕ → List ℕ) (disk : ℕ) (found : PvFound) → IsFound sector_at disk found → AreAreasOf sector_at disk (areas_found found)
+areas_of_found sector_at disk (NoLabel refusal) is = inl refl
+areas_of_found sector_at disk (NoHeader label refusal) is = inl refl
+areas_of_found sector_at disk (Whole label header areas) is = inr (label, header, is.0, is.1, refl)
+
+module _ (names : List Word) (id : Option (List ℕ)) (pv : List ℕ) (old new : State) where
+  abbrev context : Context
+  context = record { names = names; sizes = old.sizes; id = id }
+
+  -- no disk has the name
+  pub meets_unknown : number_named names pv ≡ None → old.in_flight ≡ [] → Meets (pvck pv) context old (Answered 1 (Refused (UnknownPv pv))) old
+  meets_unknown unknown idle = record {
+    cause = (refl, λ disk. refl, λ scans. absurd (cc), rw unknown refl);
+    told = λ told e. (
+      told,
+      e,
+      changes_by_reading (pvck pv) context refl (Answered 1 (Refused (UnknownPv pv))) tt told told [] (label_span (number_in context pv) ∷ [])
+          (record { since = []; steps = refl; reads = tt; spans_are = refl }) ([], inl refl, refl),
+    );
+    again = record { idle = idle; sizes = refl };
+  }
+
+  -- memory was wanting before anything was done
+  pub meets_undone : old.in_flight ≡ [] → Meets (pvck pv) context old (Ended NoMemory) old
+  meets_undone idle = record {
+    cause = (λ disk. refl, λ flushes. refl);
+    told = λ told e. (
+      told,
+      e,
+      changes_by_reading (pvck pv) context refl (Ended NoMemory) tt told told [] (label_span (number_in context pv) ∷ [])
+          (record { since = []; steps = refl; reads = tt; spans_are = refl }) ([], inl refl, refl),
+    );
+    again = record { idle = idle; sizes = refl };
+  }
+
+  module _ (disk : ℕ) (known : number_named names pv ≡ Some disk) where
+    number_is : number_in context pv ≡ disk
+    number_is = ap (λ (o : Option ℕ). unwrap_or o 0) known
+
+    passes : refusal_of ((pvck pv).rows context) ≡ None
+    passes = rw known refl
+
+    abbrev ReadsOn : ℕ → Image → List Span → Type 0
+    ReadsOn n image spans = (areas : List Extent) × AreAreasOf (image n) (slice_index_or old.sizes n 0) areas × (spans ≡ label_span n ∷ area_spans n areas)
+
+    reads_named : (image : Image) (spans : List Span) → ReadsOn disk image spans → (pvck pv).reads context image spans
+    reads_named image spans reads = subst (λ (n : ℕ). ReadsOn n image spans) (sym number_is) reads
+
+    told_all : (outcome : Outcome) → IsUnwritten outcome → ReadsAllOf disk (slice_index_or old.sizes disk 0) old new → BetweenTold (ChangesDisks (pvck pv) context outcome) old.told new.told
+    told_all outcome unwritten r =
+        let spans = label_span disk ∷ area_spans disk (areas_found r.found) in
+        between_reading (ChangesDisks (pvck pv) context outcome) old.told new.told spans disk (λ sector_at. IsFound sector_at (slice_index_or old.sizes disk 0) r.found) r.reads r.is
+        (λ before after reads is. changes_by_reading (pvck pv) context refl outcome unwritten before after spans [] reads
+        (reads_named (now_after before.opened before.steps) (spans ++ [])
+        (areas_found r.found, areas_of_found (now_after before.opened before.steps disk) (slice_index_or old.sizes disk 0) r.found is, append-nil spans)))
+
+    told_first : (outcome : Outcome) → IsUnwritten outcome → ReadsFirstOf disk (slice_index_or old.sizes disk 0) old new → BetweenTold (ChangesDisks (pvck pv) context outcome) old.told new.told
+    told_first outcome unwritten r =
+        between_reading (ChangesDisks (pvck pv) context outcome) old.told new.told r.read disk (λ sector_at. AreAreasOf sector_at (slice_index_or old.sizes disk 0) r.areas) r.reads r.are
+        (λ before after reads are. changes_by_reading (pvck pv) context refl outcome unwritten before after r.read r.rest reads
+        (reads_named (now_after before.opened before.steps) (r.read ++ r.rest) (r.areas, are, r.front)))
+
+    pub meets_reported : (text : List ℕ) → HasSameFaults old new → IsIdleAgain old new → ReadsAllOf disk (slice_index_or old.sizes disk 0) old new
+        → IfSome old.told (λ told. IsReport (now_after told.opened told.steps disk) (slice_index_or old.sizes disk 0) text) → Meets (pvck pv) context old (Reported text) new
+    meets_reported text same again reads report = record {
+      cause = (refl, same, passes, subst (λ (n : ℕ). IfSome old.told (λ told. IsReport (now_after told.opened told.steps n) (slice_index_or old.sizes n 0) text)) (sym number_is) report);
+      told = told_all (Reported text) tt reads;
+      again = again;
+    }
+
+    pub meets_read_failed : (pv' : ℕ) (span : Span) → pv' ≡ disk → IsLastFault old new disk (Reading span) → IsIdleAgain old new → ReadsFirstOf disk (slice_index_or old.sizes disk 0) old new
+        → Meets (pvck pv) context old (Ended (ScanReadFailed pv')) new
+    meets_read_failed pv' span is fault again reads = record {
+      cause = (λ e. passes, (span, subst (λ (n : ℕ). IsLastFault old new n (Reading span)) (sym is) fault));
+      told = told_first (Ended (ScanReadFailed pv')) tt reads;
+      again = again;
+    }
+
+    pub meets_without_memory : HasSameFaults old new → IsIdleAgain old new → ReadsFirstOf disk (slice_index_or old.sizes disk 0) old new → Meets (pvck pv) context old (Ended NoMemory) new
+    meets_without_memory same again reads = record {
+      cause = (same, λ flushes. absurd (cc));
+      told = told_first (Ended NoMemory) tt reads;
+      again = again;
+    }

@@ -1,0 +1,54 @@
+-- All that is said of a command.
+use Rattle.std.specs.Prelude.{ℕ, Bool, if◌then◌else◌, List, [], ◌∷◌, Option, Some, None, is_none, slice_index_or, unwrap_or}
+use Rattle.sector_base.specs.declared.spans.Span.{Span}
+use Rattle.disk_model.specs.Puts.{Put}
+use Rattle.disk_model.specs.Steps.{Image}
+use Rattle.lvm_script.specs.Options.{Word, number_named}
+use Rattle.lvm_script.specs.declared.op_refusal.OpRefusal.{OpRefusal}
+use Rattle.lvm_script.specs.declared.op_refusal.OpRefusal.TheVariants.{UnknownPv}
+
+-- what a line is judged against
+pub record Context : Type 0 where
+  -- the names of the disks, and how many sectors each of them has
+  pub names : List Word
+  pub sizes : List ℕ
+  -- the id that the line drew
+  pub id : Option (List ℕ)
+
+-- all that a reader has to believe of a command
+pub record CommandSpec : Type 1 where
+  -- it changes something: the disks are flushed before anything else is done
+  pub flushes : Bool
+  -- the disks are scanned before it is judged; another command is judged first, and reads for itself
+  pub scans : Bool
+  -- its refusals in the order of their tests, each with its test
+  pub rows : Context → List (Bool × OpRefusal)
+  -- the sectors that it may put, in their order, where no row holds
+  pub change : Context → List Put → Type 0
+  -- the spans that it may read, in their order, by what stands on the disks
+  pub reads : Context → Image → List Span → Type 0
+  -- what a reader finds on the disks once it was answered as done
+  pub finds : Context → Image → Type 0
+  -- its report, by what stands on the disks
+  pub reports : Context → Image → List ℕ → Type 0
+
+-- the first refusal whose test holds
+abbrev pub refusal_of : List (Bool × OpRefusal) → Option OpRefusal
+refusal_of [] = None
+refusal_of (row ∷ rows) = if row.0 then Some row.1 else refusal_of rows
+
+-- the number of the disk of this name
+abbrev pub number_in : Context → Word → ℕ
+number_in context pv = unwrap_or (number_named context.names pv) 0
+
+-- how many sectors it has
+abbrev pub size_in : Context → Word → ℕ
+size_in context pv = slice_index_or context.sizes (number_in context pv) 0
+
+-- the id of what the line creates
+abbrev pub id_in : Context → List ℕ
+id_in context = unwrap_or context.id []
+
+-- no disk has the name
+abbrev pub unknown_pv : Context → Word → Bool × OpRefusal
+unknown_pv context pv = (is_none (number_named context.names pv), UnknownPv pv)

@@ -1,0 +1,21 @@
+-- pvck(8) of one disk: its report.
+use Rattle.std.specs.Prelude.{◌≡◌, false, List, [], ◌∷◌}
+use Rattle.pv_header.specs.declared.extent_list.Extent.{Extent}
+use Rattle.pv_label.specs.LabelSectors.{label_span}
+use Rattle.lvm_report.specs.Reads.{AreAreasOf, area_spans}
+use Rattle.lvm_report.specs.Report.{IsReport}
+use Rattle.lvm_script.specs.Options.{Word}
+use Rattle.lvm_cli.specs.CommandSpec.{CommandSpec, number_in, size_in, unknown_pv}
+
+-- it reads the sectors where the label may be, and then the header sector of each metadata area
+abbrev pub pvck : Word → CommandSpec
+pvck pv = record {
+  flushes = false;
+  scans = false;
+  rows = λ context. unknown_pv context pv ∷ [];
+  change = λ context puts. puts ≡ [];
+  reads = λ context image spans. (areas : List Extent) × AreAreasOf (image (number_in context pv)) (size_in context pv) areas
+      × (spans ≡ label_span (number_in context pv) ∷ area_spans (number_in context pv) areas);
+  finds = λ context image. ⊥;
+  reports = λ context image text. IsReport (image (number_in context pv)) (size_in context pv) text;
+}

@@ -1,0 +1,92 @@
+-- What a line does, by all that is said of its command.
+use Rattle.std.specs.Prelude.{◌≡◌, ◌≤◌, ℕ, false, IsTrue, List, [], ◌++◌, length, map, take, Contains, Some, None, IfSome}
+use Rattle.sector_base.specs.declared.spans.Span.{Span}
+use Rattle.disk_model.specs.Durability.{IsBase}
+use Rattle.disk_model.specs.Faults.{HasSameFaults, IsLastFault}
+use Rattle.disk_model.specs.Idle.{IsIdleAgain}
+use Rattle.disk_model.specs.Moments.{EveryImageSince}
+use Rattle.disk_model.specs.Order.{FlushesFirst}
+use Rattle.disk_model.specs.Puts.{HasFirst, IsPutFault, Put, with_puts, write_of_put}
+use Rattle.disk_model.specs.Since.{BetweenTold, ReadsAlone, spans_read, writes_submitted}
+use Rattle.disk_model.specs.State.{State}
+use Rattle.disk_model.specs.Steps.{Image, IsSame, Reading, Flushing, Step, Told, now_after, steps_on}
+use Rattle.lvm_script.specs.declared.answer.Answer.TheVariants.{Fine, Refused, PvFailed}
+use Rattle.lvm_cli.specs.declared.ending.Ending.TheVariants.{WordsRefused, NoMemory, OpenFailed, ScanReadFailed, ScanRefused}
+use Rattle.lvm_cli.specs.declared.ending.ScanRefusal.TheVariants.{NotYet}
+use Rattle.lvm_cli.specs.declared.outcome.Outcome.{Outcome}
+use Rattle.lvm_cli.specs.declared.outcome.Outcome.TheVariants.{Ended, Answered, Reported}
+use Rattle.lvm_cli.specs.CommandSpec.{CommandSpec, Context, refusal_of}
+use Rattle.lvm_cli.specs.Scan.{FlushesBeforeReads, HasLabel, HasNoLabels}
+
+-- the scan passed, where the command has one
+abbrev pub PassesScan : CommandSpec → Context → State → Type 0
+PassesScan spec context old = IsTrue spec.scans → IfSome old.told (HasNoLabels (length context.sizes))
+
+-- no refusal comes before a read, where the command reads for itself
+abbrev pub IsJudgedFirst : CommandSpec → Context → Type 0
+IsJudgedFirst spec context = spec.scans ≡ false → refusal_of (spec.rows context) ≡ None
+
+-- a write of one of these puts failed, or the flush after it
+abbrev pub IsFaultOf : List Put → State → State → ℕ → Type 0
+IsFaultOf puts old new pv = (put : Put) × Contains puts put × IsPutFault old new put pv
+
+-- the cause of each outcome of line 1
+abbrev pub IsCause : CommandSpec → Context → State → State → Outcome → Type 0
+IsCause spec context old new (Ended WordsRefused) = ⊥
+IsCause spec context old new (Ended NoMemory) = HasSameFaults old new × (IsTrue spec.flushes → new ≡ old)
+IsCause spec context old new (Ended (OpenFailed pv)) = IsTrue spec.flushes × IsLastFault old new pv (Flushing pv)
+IsCause spec context old new (Ended (ScanReadFailed pv)) = IsJudgedFirst spec context × ((span : Span) × IsLastFault old new pv (Reading span))
+IsCause spec context old new (Ended (ScanRefused (NotYet pv))) = IsTrue spec.scans × HasSameFaults old new × IfSome old.told (HasLabel pv)
+IsCause spec context old new (Answered line Fine) =
+    (line ≡ 1) × IsTrue spec.flushes × HasSameFaults old new × PassesScan spec context old × (refusal_of (spec.rows context) ≡ None)
+IsCause spec context old new (Answered line (Refused refusal)) =
+    (line ≡ 1) × HasSameFaults old new × PassesScan spec context old × (refusal_of (spec.rows context) ≡ Some refusal)
+IsCause spec context old new (Answered line (PvFailed pv)) =
+    (line ≡ 1) × PassesScan spec context old × (refusal_of (spec.rows context) ≡ None) × ((puts : List Put) × spec.change context puts × IsFaultOf puts old new pv)
+IsCause spec context old new (Reported text) =
+    (spec.flushes ≡ false) × HasSameFaults old new × (refusal_of (spec.rows context) ≡ None) × IfSome old.told (λ told. spec.reports context (now_after told.opened told.steps) text)
+
+-- an outcome that comes before anything is written
+abbrev pub IsUnwritten : Outcome → Type 0
+IsUnwritten (Answered line Fine) = ⊥
+IsUnwritten (Answered line (PvFailed pv)) = ⊥
+IsUnwritten _ = Unit {0}
+
+-- the line was done, and has answered so
+abbrev pub IsDone : Outcome → Type 0
+IsDone (Answered line Fine) = Unit {0}
+IsDone _ = ⊥
+
+-- What a line does to the disks, where they tell their record.
+pub record ChangesDisks (spec : CommandSpec) (context : Context) (outcome : Outcome) (old new : Told) : Type 0 where
+  pub since : List Step
+  pub steps : new ≡ steps_on since old
+  -- the sectors that it puts: those of a change that it may make, or none
+  pub puts : List Put
+  pub planned : (IsUnwritten outcome → ⊥) → spec.change context puts
+  pub unwritten : IsUnwritten outcome → puts ≡ []
+  -- each write is one of them, in their order, each once; all of them where it is done
+  pub submitted : ℕ
+  pub among : submitted ≤ length puts
+  pub writes : writes_submitted since ≡ map write_of_put (take submitted puts)
+  pub whole : IsDone outcome → submitted ≡ length puts
+  -- nothing is written, and where it changes something nothing is read, before each disk was flushed
+  pub flushes_first : FlushesFirst (length context.sizes) since
+  pub flushes_before_reads : IsTrue spec.flushes → FlushesBeforeReads (length context.sizes) since
+  -- where it changes nothing it submits reads alone; where nothing is written, only reads of its spans, each once
+  pub reads_alone : spec.flushes ≡ false → ReadsAlone since
+  pub reads : IsUnwritten outcome → (unread : List Span) × spec.reads context (now_after old.opened old.steps) (spans_read since ++ unread)
+  -- at every moment since the call began a crash leaves the first so many of the puts, whole, and each other sector as it
+  -- was; once they are acknowledged it leaves all of them
+  pub every_image : (base : Image) → IsBase old base → EveryImageSince (length old.steps) new (HasFirst puts base)
+  pub acknowledged : IsDone outcome → (base : Image) → IsBase old base → IsBase new (with_puts puts base)
+  -- what a read gives afterwards, and what a reader finds
+  pub now : IsDone outcome → IsSame (now_after new.opened new.steps) (with_puts puts (now_after old.opened old.steps))
+  pub same : IsUnwritten outcome → IsSame (now_after new.opened new.steps) (now_after old.opened old.steps)
+  pub found : IsDone outcome → spec.finds context (now_after new.opened new.steps)
+
+-- a line of this command, judged against this context, came to this outcome
+pub record Meets (spec : CommandSpec) (context : Context) (old : State) (outcome : Outcome) (new : State) : Type 0 where
+  pub cause : IsCause spec context old new outcome
+  pub told : BetweenTold (ChangesDisks spec context outcome) old.told new.told
+  pub again : IsIdleAgain old new

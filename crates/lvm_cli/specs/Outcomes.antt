@@ -1,0 +1,45 @@
+-- What a run comes to: its output and its exit status.
+use Rattle.std.specs.Prelude.{◌≡◌, ℕ, Bool, true, false, List, ◌++◌, codes, decimal, Option}
+use Rattle.lvm_script.specs.Answers.{answer_text}
+use Rattle.lvm_script.specs.Options.{Word}
+use Rattle.lvm_script.specs.Streams.{WritesText}
+use Rattle.lvm_script.specs.declared.answer.Answer.{Answer}
+use Rattle.lvm_script.specs.declared.answer.Answer.TheVariants.{Fine, Refused, PvFailed}
+use Rattle.lvm_cli.specs.declared.ending.Ending.TheVariants.{WordsRefused}
+use Rattle.lvm_cli.specs.declared.outcome.Outcome.{Outcome}
+use Rattle.lvm_cli.specs.declared.outcome.Outcome.TheVariants.{Ended, Answered, Reported}
+use Rattle.lvm_cli.specs.Endings.{ending_text, status_of_ending}
+
+-- what a run prints, whose disks have these names
+abbrev pub output_of : List Word → Outcome → List ℕ
+output_of names (Ended ending) = ending_text names ending
+output_of names (Answered line answer) = decimal line ++ codes ": " ++ answer_text names answer ++ codes "\n"
+output_of names (Reported text) = text
+
+-- the exit status of a line that answered, where the output was printed whole
+abbrev pub status_of_answer : Answer → ℕ
+status_of_answer Fine = 0
+status_of_answer (Refused refusal) = 5
+status_of_answer (PvFailed pv) = 6
+
+-- the exit status where the output was printed whole
+abbrev pub status_of : Outcome → ℕ
+status_of (Ended ending) = status_of_ending ending
+status_of (Answered line answer) = status_of_answer answer
+status_of (Reported text) = 0
+
+-- the exit status where the sink failed: words without a meaning come first
+abbrev pub status_unprinted : Outcome → ℕ
+status_unprinted (Ended WordsRefused) = 3
+status_unprinted _ = 7
+
+-- the exit status, by whether the output was printed
+abbrev pub status_printed : Outcome → Bool → ℕ
+status_printed outcome true = status_of outcome
+status_printed outcome false = status_unprinted outcome
+
+-- The output is written whole, without a fault of the sink, and the status is the outcome's; or the sink failed after a
+-- front of it.
+abbrev pub Ends : List Word → Outcome → ℕ → Option (List ℕ) → ℕ → Option (List ℕ) → ℕ → Type 0
+Ends names outcome status before faults_before after faults_after =
+    (printed : Bool) × (status ≡ status_printed outcome printed) × WritesText before faults_before (output_of names outcome) printed after faults_after

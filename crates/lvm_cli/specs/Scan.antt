@@ -1,0 +1,50 @@
+-- The disks are flushed, for a command that changes something, and looked at.
+use Rattle.std.specs.Prelude.{◌≡◌, ◌<◌, ℕ, Bool, IsTrue, List, [], ◌∷◌, ◌++◌, map, IfSome}
+use Rattle.std.specs.List.{range_with_len}
+use Rattle.sector_base.specs.declared.spans.Span.{Span}
+use Rattle.disk_model.specs.Faults.{HasSameFaults, IsLastFault}
+use Rattle.disk_model.specs.Order.{HasFlushed, WritesNothing}
+use Rattle.disk_model.specs.Since.{spans_read}
+use Rattle.disk_model.specs.State.{State}
+use Rattle.disk_model.specs.Steps.{IsSame, Reading, Flushing, Step, Submitted, Told, now_after, steps_on}
+use Rattle.pv_label.specs.Label.{BeginsLikeLabel}
+use Rattle.pv_label.specs.LabelSectors.{label_span}
+use Rattle.lvm_cli.specs.declared.ending.Ending.{Ending}
+use Rattle.lvm_cli.specs.declared.ending.Ending.TheVariants.{OpenFailed, ScanReadFailed, ScanRefused}
+use Rattle.lvm_cli.specs.declared.ending.ScanRefusal.TheVariants.{NotYet}
+
+-- one of the first four sectors of the disk begins like a label
+abbrev pub HasLabel : ℕ → Told → Type 0
+HasLabel pv told = (sector : ℕ) × (sector < 4) × BeginsLikeLabel (now_after told.opened told.steps pv sector)
+
+-- none of them does, on each of so many disks
+abbrev pub HasNoLabels : ℕ → Told → Type 0
+HasNoLabels disks told = (pv : ℕ) → pv < disks → ¬ HasLabel pv told
+
+-- the sectors where a label may be, of each of so many disks
+abbrev pub label_spans : ℕ → List Span
+label_spans disks = map label_span (range_with_len 0 disks)
+
+-- before each submission of a read in these steps, a flush of each of so many disks had completed well in them
+abbrev pub FlushesBeforeReads : ℕ → List Step → Type 0
+FlushesBeforeReads disks [] = Unit {0}
+FlushesBeforeReads disks (Submitted tag (Reading span) ∷ steps) = ((pv : ℕ) → pv < disks → HasFlushed pv steps) × FlushesBeforeReads disks steps
+FlushesBeforeReads disks (_ ∷ steps) = FlushesBeforeReads disks steps
+
+-- so many disks were flushed, and then their labels' sectors were read, each once; where it doesn't pass, as far as it came
+pub record OpensDisks (disks : ℕ) (old : Told) (passes : Bool) (new : Told) : Type 0 where
+  pub since : List Step
+  pub steps : new ≡ steps_on since old
+  pub nothing : WritesNothing since
+  pub same : IsSame (now_after new.opened new.steps) (now_after old.opened old.steps)
+  pub flushed : IsTrue passes → (pv : ℕ) → pv < disks → HasFlushed pv since
+  pub ordered : FlushesBeforeReads disks since
+  pub unread : List Span
+  pub reads : spans_read since ++ unread ≡ label_spans disks
+
+-- why the disks were not opened: a flush or a read failed, or a label stands on a disk
+abbrev pub IsOpenCause : State → State → Ending → Type 0
+IsOpenCause old new (OpenFailed pv) = IsLastFault old new pv (Flushing pv)
+IsOpenCause old new (ScanReadFailed pv) = IsLastFault old new pv (Reading (label_span pv))
+IsOpenCause old new (ScanRefused (NotYet pv)) = HasSameFaults old new × IfSome old.told (HasLabel pv)
+IsOpenCause old new _ = ⊥

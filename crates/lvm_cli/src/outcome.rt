@@ -1,0 +1,93 @@
+//! What a run comes to.
+ghost use Rattle.std.specs.Prelude.{◌≡◌, ◌++◌, codes, decimal, is_ok};
+ghost use Rattle.lvm_script.specs.Answers.{answer_text};
+ghost use Rattle.lvm_script.specs.Streams.{WritesText};
+ghost use Rattle.lvm_cli.specs.Outcomes.{Ends, output_of, status_of, status_of_answer, status_unprinted};
+
+use crate::ending::Ending;
+use lvm_script::{Answer, DiskNames, Failed, Sink, write_all, write_bytes, write_number};
+use sector_base::Text;
+
+/// What a run comes to.
+#[derive(Debug, Drop)]
+pub enum Outcome {
+    /// It ended before its lines.
+    Ended(Ending),
+    /// The line with this number answered.
+    Answered(u64, Answer),
+    /// The command's report.
+    Reported(Text),
+}
+
+impl Outcome {
+    /// Prints the outcome of a run whose disks have these names, and gives the exit status: 7 where the sink failed, but 3
+    /// all the same for words without a meaning. It takes no memory.
+    pub fn print<W: Sink>(&self, out: &mut W, names: &DiskNames) -> u8
+        ensures { Ends names.now self.now result (W.written out.old) (W.fault_count out.old) (W.written out.new) (W.fault_count out.new) }
+    {
+        match self.write(out, names) {
+            Ok(()) => self.status(),
+            Err(Failed) => self.status_unprinted(),
+        }
+    }
+
+    // The exit status where the output was printed whole.
+    fn status(&self) -> u8
+        ensures { result ≡ status_of self.now }
+    {
+        match self {
+            Outcome::Ended(ending) => ending.status(),
+            Outcome::Answered(_, answer) => status_of(answer),
+            Outcome::Reported(_) => 0,
+        }
+    }
+
+    // The exit status where the sink failed: words without a meaning come first.
+    fn status_unprinted(&self) -> u8
+        ensures { result ≡ status_unprinted self.now }
+    {
+        match self {
+            Outcome::Ended(Ending::WordsRefused) => 3,
+            _ => 7,
+        }
+    }
+
+    // Writes the output.
+    fn write<W: Sink>(&self, out: &mut W, names: &DiskNames) -> Result<(), Failed>
+        ensures { WritesText (W.written out.old) (W.fault_count out.old) (output_of names.now self.now)
+            (is_ok result) (W.written out.new) (W.fault_count out.new) }
+    {
+        match self {
+            Outcome::Ended(ending) => ending.write(out, names),
+            Outcome::Answered(line, answer) => write_answered(out, *line, answer, names),
+            Outcome::Reported(text) => write_all(out, text),
+        }
+    }
+}
+
+// The exit status of an answer.
+fn status_of(answer: &Answer) -> u8
+    ensures { result ≡ status_of_answer answer.now }
+{
+    match answer {
+        Answer::Fine => 0,
+        Answer::Refused(_) => 5,
+        Answer::PvFailed(_) => 6,
+    }
+}
+
+// Writes the answer of a line, with the line's number.
+fn write_answered<W: Sink>(
+    out: &mut W,
+    line: u64,
+    answer: &Answer,
+    names: &DiskNames,
+) -> Result<(), Failed>
+    ensures { WritesText (W.written out.old) (W.fault_count out.old) (decimal line ++ codes ": " ++ answer_text names.now answer.now ++ codes "\n")
+        (is_ok result) (W.written out.new) (W.fault_count out.new) }
+{
+    write_number(out, line)?;
+    write_bytes(out, b": ")?;
+    answer.write(out, names)?;
+    write_bytes(out, b"\n")
+}
