@@ -1,0 +1,16 @@
+pub mod Entries
+pub mod Bytes
+pub mod Grammar
+pub mod Printed
+pub mod Items
+pub mod Views
+pub mod Sections
+pub mod Sinks
+pub mod Lists
+pub mod Tokens
+pub mod Scan
+pub mod Outline
+pub mod Reader
+pub mod ReaderViews
+pub mod Refusals
+pub mod ShownConf
