@@ -1,0 +1,6 @@
+pub mod Keys
+pub mod PassedOver
+pub mod Runs
+pub mod ShownGroup
+pub mod Standing
+pub mod Tables

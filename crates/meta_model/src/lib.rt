@@ -1,0 +1,27 @@
+//! A volume group as plain data, and which tree of a metadata text stands for which group.
+#![tactic(auto)]
+
+mod copies;
+mod group;
+mod lv;
+mod printable;
+mod pv;
+mod refusal;
+mod run;
+mod segment;
+mod status;
+mod table;
+mod tables;
+
+pub use group::Group;
+pub use lv::Lv;
+pub use pv::Pv;
+pub use refusal::GroupRefusal;
+pub use run::Run;
+pub use segment::{Leg, Legs, On, SegKind, Segment, Segments};
+pub use status::{LvStatus, VgStatus};
+pub use table::{PushRefusal, Table};
+pub use tables::{LvRows, LvTable, PvTable};
+
+#[cfg(test)]
+mod tests;
