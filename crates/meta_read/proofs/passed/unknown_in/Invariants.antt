@@ -1,0 +1,13 @@
+-- What is unknown so far, and then that of what is left.
+use Rattle.std.proofs.Common.{◌≡◌, ◌+◌, ◌++◌, length}
+use Rattle.std.specs.Option.{option_map_or}
+use Rattle.conf_text.specs.Items.{items}
+use Rattle.meta_read.specs.Unknowns.{unknown_of}
+use Rattle.meta_read.proofs.Left.{items_left}
+use Rattle.meta_read.proofs.passed.unknown_in.Given as goal
+
+abbrev pub invariant-loop-next : goal.invariant-loop-next
+invariant-loop-next l = unknown_of (items l.top) ≡ l.unknown.items ++ unknown_of (items_left l.next)
+
+abbrev pub decreases-loop-next : goal.decreases-loop-next
+decreases-loop-next l = option_map_or (λ first. length first.2 + 1) l.next 0
