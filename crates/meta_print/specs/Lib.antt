@@ -1,0 +1,4 @@
+pub mod Layout
+pub mod ReadAgain
+pub mod WordsSet
+pub mod Parts
