@@ -17,7 +17,7 @@ pub record Context : Type 0 where
 
 -- all that a reader has to believe of a command
 pub record CommandSpec : Type 1 where
-  -- it changes something: the disks are flushed before anything else is done
+  -- it changes something: the disks are opened for that, and flushed before anything else is done
   pub flushes : Bool
   -- the disks are scanned before it is judged; another command is judged first, and reads for itself
   pub scans : Bool

@@ -1,6 +1,6 @@
 //! The clock, and the source of the ids.
 ghost use Rattle.std.specs.Prelude.{◌≡◌, ◌<◌, ◌^◌};
-ghost use Rattle.lvm_cli.specs.Seed.{mixed_seed};
+ghost use Rattle.lvm_cli.specs.Seed.{mixed_seed, seconds_since};
 
 use lvm_id::MixWords;
 use std::random::RandomSource;
@@ -17,7 +17,8 @@ pub fn since_1970<R: Clock>(rt: &R) -> Option<Duration> {
 
 /// The time of a run in seconds: 0 where there is none, and never after the last second that a run can be given.
 pub fn seconds(since: Option<Duration>) -> u64
-    ensures { result < 2 ^ 48 }
+    ensures time { result ≡ seconds_since since }
+    ensures limit { result < 2 ^ 48 }
 {
     since.map_or(0, |since| since.as_secs()).min(LAST_SECOND)
 }

@@ -4,13 +4,15 @@ use Rattle.pv_header.specs.declared.extent_list.Extent.{Extent}
 use Rattle.pv_label.specs.LabelSectors.{label_span}
 use Rattle.lvm_report.specs.Reads.{AreAreasOf, area_spans}
 use Rattle.lvm_report.specs.Report.{IsReport}
+use Rattle.lvm_script.specs.Lines.{changes}
 use Rattle.lvm_script.specs.Options.{Word}
+use Rattle.lvm_script.specs.declared.command.Command.TheVariants as command
 use Rattle.lvm_cli.specs.CommandSpec.{CommandSpec, number_in, size_in, unknown_pv}
 
 -- it reads the sectors where the label may be, and then the header sector of each metadata area
 abbrev pub pvck : Word → CommandSpec
 pvck pv = record {
-  flushes = false;
+  flushes = changes (command.Pvck pv);
   scans = false;
   rows = λ context. unknown_pv context pv ∷ [];
   change = λ context puts. puts ≡ [];

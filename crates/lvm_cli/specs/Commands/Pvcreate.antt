@@ -1,6 +1,8 @@
 -- pvcreate(8) of one disk.
 use Rattle.std.specs.Prelude.{◌≡◌, ℕ, Bool, true, nat_lt, [], ◌∷◌, length}
+use Rattle.lvm_script.specs.Lines.{changes}
 use Rattle.lvm_script.specs.Options.{Word}
+use Rattle.lvm_script.specs.declared.command.Command.TheVariants as command
 use Rattle.lvm_script.specs.declared.op_refusal.OpRefusal.{OpRefusal}
 use Rattle.lvm_script.specs.declared.op_refusal.OpRefusal.TheVariants.{TooSmall}
 use Rattle.lvm_cli.specs.CommandSpec.{CommandSpec, Context, id_in, number_in, size_in, unknown_pv}
@@ -14,7 +16,7 @@ too_small context pv = (nat_lt (size_in context pv) 2056, TooSmall (size_in cont
 -- it reads the sectors where a label may be, and puts the new physical volume, with so many copies of the metadata, on the disk of this name
 abbrev pub pvcreate : Word → ℕ → CommandSpec
 pvcreate pv metadata_copies = record {
-  flushes = true;
+  flushes = changes (command.Pvcreate pv metadata_copies);
   scans = true;
   rows = λ context. unknown_pv context pv ∷ too_small context pv ∷ [];
   change = λ context puts. puts ≡ new_puts (number_in context pv) (id_in context) (size_in context pv) metadata_copies;
