@@ -1,14 +1,14 @@
 -- What the keys of a section of lvm2's metadata give, by their kinds.
-use Rattle.std.specs.Prelude.{◌≡◌, ℕ, Bool, true, false, not, ◌==◌, ◌&&◌, nat_eq, if◌then◌else◌, List, [], ◌∷◌, length, map, filter, find, Option, Some, None, option_map, Result, Ok, Err}
+use Rattle.std.specs.Prelude.{ℕ, Bool, true, false, not, ◌==◌, ◌&&◌, nat_eq, if◌then◌else◌, List, [], ◌∷◌, length, filter, find, Option, Some, None, option_map, Result, Ok, Err}
 use Rattle.std.specs.Option.{option_map_or}
 use Rattle.std.specs.List.{list_all}
 use Rattle.std.specs.Cmp.Lexicographic.{pointwise}
 use Rattle.lvm_id.specs.LvmId.{is_id_char, hyphen_form}
 use Rattle.lvm_name.specs.Names.{is_among}
-use Rattle.conf_text.specs.Entries.{Scalar, Number, Text, Value, One, Many, Entry}
+use Rattle.conf_text.specs.Entries.{Scalar, Number, Text, One, Many, Entry}
 use Rattle.conf_text.specs.Items.{Node, Leaf, Body, lookup}
 use Rattle.meta_model.specs.declared.refusal.GroupRefusal.{GroupRefusal}
-use Rattle.meta_model.specs.declared.refusal.GroupRefusal.TheVariants.{Missing, WrongKind, UnknownStatus, Foreign, CountDiffers, BadId}
+use Rattle.meta_model.specs.declared.refusal.GroupRefusal.TheVariants.{Missing, WrongKind, UnknownStatus, CountDiffers, BadId}
 
 -- the names of a section with what they have
 abbrev pub Items : Type 0

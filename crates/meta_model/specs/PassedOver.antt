@@ -1,9 +1,9 @@
 -- The keys of lvm2's metadata that nothing here stands for: they are passed over, and the next commit drops them.
-use Rattle.std.specs.Prelude.{ℕ, Bool, true, false, nat_eq, if◌then◌else◌, List, [], ◌∷◌, ◌++◌, flat_map, codes, Option}
+use Rattle.std.specs.Prelude.{ℕ, false, nat_eq, if◌then◌else◌, List, [], ◌∷◌, ◌++◌, flat_map, codes}
 use Rattle.std.specs.Option.{option_map_or, option_and_then}
 use Rattle.std.specs.Cmp.Lexicographic.{pointwise}
 use Rattle.lvm_name.specs.Names.{is_among, is_top_key}
-use Rattle.conf_text.specs.Entries.{Conf, Value, Entry}
+use Rattle.conf_text.specs.Entries.{Conf}
 use Rattle.conf_text.specs.Items.{Node, Leaf, Body, items, lookup}
 use Rattle.meta_model.specs.Keys.{Items, text}
 use Rattle.meta_model.specs.Standing.{is_segment_name}

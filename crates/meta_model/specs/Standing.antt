@@ -1,15 +1,14 @@
 -- Which tree stands for which group, key by key, in the order in which lvm2's metadata is examined here.
-use Rattle.std.specs.Prelude.{◌≡◌, ℕ, Bool, true, false, not, ◌==◌, ◌&&◌, ◌||◌, nat_eq, nat_lt, if◌then◌else◌, List, [], ◌∷◌, ◌++◌, length, map, take, drop, Option, Some, None, option_map, Result, Ok, Err, codes, is_none, filter_map}
-use Rattle.std.specs.Option.{option_map_or, option_or}
+use Rattle.std.specs.Prelude.{◌≡◌, ℕ, Bool, false, not, ◌==◌, ◌&&◌, nat_eq, nat_lt, if◌then◌else◌, List, [], ◌∷◌, ◌++◌, map, take, drop, Option, Some, None, option_map, Ok, Err, codes, is_none, filter_map}
+use Rattle.std.specs.Option.{option_or}
 use Rattle.std.specs.Char.{is_ascii_digit}
 use Rattle.std.specs.List.{list_all, position}
 use Rattle.std.specs.Cmp.Lexicographic.{pointwise}
 use Rattle.lvm_name.specs.Names.{is_among, group_name_refusal, any_name_refusal}
 use Rattle.conf_text.specs.Entries.{Conf, Entry}
 use Rattle.conf_text.specs.Grammar.{IsTextOf}
-use Rattle.conf_text.specs.Items.{Node, Leaf, Body, items, lookup}
+use Rattle.conf_text.specs.Items.{items}
 use Rattle.meta_model.specs.Keys.{Items, Read, ◌>>=◌, each, or_refused, number, text, words, pairs, section, required, optional, only, only_text, only_number, id, status, counted}
-use Rattle.meta_model.specs.declared.refusal.GroupRefusal.{GroupRefusal}
 use Rattle.meta_model.specs.declared.refusal.GroupRefusal.TheVariants.{Missing, WrongKind, UnknownSegment, Foreign, UnknownName, BadName}
 use Rattle.meta_model.specs.declared.group.Group.{Group}
 use Rattle.meta_model.specs.declared.pv.Pv.{Pv}

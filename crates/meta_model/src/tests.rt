@@ -1,11 +1,11 @@
 //! Tables that are filled, a group that is copied, and refusals as they print.
 use crate::{
-    Group, GroupRefusal, Leg, Lv, LvStatus, LvTable, On, PushRefusal, Pv, PvTable, Run, SegKind,
-    Segment, VgStatus,
+    Group, GroupRefusal, Leg, Legs, Lv, LvStatus, LvTable, On, PushRefusal, Pv, PvTable, Run,
+    SegKind, Segment, Segments, VgStatus,
 };
 use lvm_id::{LvmId, parse_plain};
 use lvm_name::{GroupName, VolumeName};
-use sector_base::{ItemList, Text};
+use sector_base::Text;
 use std::alloc::{AllocError, Global};
 use std::process::Abort;
 use std::test::Fail;
@@ -18,10 +18,14 @@ fn name(rt: &impl Abort, alloc: Global, text: &[u8]) -> VolumeName {
     VolumeName::any(alloc, text).expect(rt, "a name")
 }
 
+fn text(alloc: Global, bytes: &[u8]) -> Result<Text, AllocError> {
+    Ok(Text::from_vec(Vec::from_slice(alloc, bytes)?))
+}
+
 fn pv(rt: &impl Abort, alloc: Global, pe_count: u64) -> Result<Pv, AllocError> {
     Ok(Pv {
         id: id(rt),
-        device: Text::from_vec(Vec::from_slice(alloc, b"/dev/sda")?),
+        device: text(alloc, b"/dev/sda")?,
         allocatable: true,
         missing: false,
         dev_size: 131_072,
@@ -30,33 +34,47 @@ fn pv(rt: &impl Abort, alloc: Global, pe_count: u64) -> Result<Pv, AllocError> {
     })
 }
 
-// A volume of a mirror with two legs, and a segment with one.
-fn lv(rt: &impl Abort, alloc: Global) -> Result<Lv, AllocError> {
-    let on_pv = Leg {
-        on: On::Pv(0),
-        first: 4,
-    };
-    let on_lv = Leg {
-        on: On::Lv(1),
-        first: 0,
-    };
-    let mirror = Segment {
+const ON_PV: Leg = Leg {
+    on: On::Pv(0),
+    first: 4,
+};
+
+const ON_LV: Leg = Leg {
+    on: On::Lv(1),
+    first: 0,
+};
+
+// A segment of a mirror with two legs.
+fn mirrored(alloc: Global) -> Result<Segment, AllocError> {
+    Ok(Segment {
         start: 0,
         count: 4,
         kind: SegKind::Mirror {
             region: 1_024,
             moved: Some(2),
-            legs: ItemList::from_vec(Vec::from_slice(alloc, &[on_pv, on_lv])?),
+            legs: Legs::from_vec(Vec::from_slice(alloc, &[ON_PV, ON_LV])?),
         },
-    };
-    let striped = Segment {
+    })
+}
+
+// A segment with one leg.
+fn striped(alloc: Global) -> Result<Segment, AllocError> {
+    Ok(Segment {
         start: 4,
         count: 2,
         kind: SegKind::Striped {
             stripe: 0,
-            legs: ItemList::from_vec(Vec::from_slice(alloc, &[on_lv])?),
+            legs: Legs::from_vec(Vec::from_slice(alloc, &[ON_LV])?),
         },
-    };
+    })
+}
+
+fn segments(alloc: Global) -> Result<Segments, AllocError> {
+    let segments = vec![in alloc; mirrored(alloc)?, striped(alloc)?]?;
+    Ok(Segments::from_vec(segments))
+}
+
+fn lv(rt: &impl Abort, alloc: Global) -> Result<Lv, AllocError> {
     Ok(Lv {
         id: id(rt),
         status: LvStatus {
@@ -69,8 +87,8 @@ fn lv(rt: &impl Abort, alloc: Global) -> Result<Lv, AllocError> {
             notsynced: true,
         },
         created: 5,
-        host: Text::from_vec(Vec::from_slice(alloc, b"h")?),
-        segments: ItemList::from_vec(vec![in alloc; mirror, striped]?),
+        host: text(alloc, b"h")?,
+        segments: segments(alloc)?,
     })
 }
 
@@ -193,53 +211,52 @@ fn groups_are_copied(rt: HostRuntime) -> Result<(), Fail> {
     Ok(())
 }
 
+// Stops unless the refusal prints so.
+fn assert_shown(
+    rt: &impl Abort,
+    alloc: Global,
+    refusal: &GroupRefusal,
+    want: &str,
+) -> Result<(), AllocError> {
+    let shown = format!(in alloc; "{refusal}")?;
+    assert_eq!(rt; shown.as_str(), want);
+    assert!(rt; want.starts_with(refusal.kind()));
+    Ok(())
+}
+
 #[test]
 fn refusals_print_their_kind_and_values(rt: HostRuntime) -> Result<(), AllocError> {
     let alloc = rt.alloc();
-    let text = |bytes: &[u8]| Vec::from_slice(alloc, bytes);
-    let rows = [
-        (GroupRefusal::NoMemory, "NoMemory"),
-        (
-            GroupRefusal::Missing(Text::from_vec(text(b"seqno")?)),
-            "Missing seqno",
-        ),
-        (
-            GroupRefusal::WrongKind(Text::from_vec(text(b"flags")?)),
-            "WrongKind flags",
-        ),
-        (
-            GroupRefusal::UnknownStatus(Text::from_vec(text(b"A B~")?)),
-            "UnknownStatus A B~",
-        ),
-        (
-            GroupRefusal::UnknownSegment(Text::from_vec(text(b"raid1")?)),
-            "UnknownSegment raid1",
-        ),
-        (
-            GroupRefusal::Foreign(Text::from_vec(text(b"format")?)),
-            "Foreign format",
-        ),
-        (
-            GroupRefusal::CountDiffers(1_000_000, 1),
-            "CountDiffers 1000000 1",
-        ),
-        (
-            GroupRefusal::UnknownName(Text::from_vec(text(b"\x1B[2J\xC3\xA9")?)),
-            "UnknownName ?[2J??",
-        ),
-        (
-            GroupRefusal::BadName(Text::from_vec(text(b"")?)),
-            "BadName ",
-        ),
-        (
-            GroupRefusal::BadId(Text::from_vec(text(b"id")?)),
-            "BadId id",
-        ),
-    ];
-    for (refusal, want) in rows {
-        let shown = format!(in alloc; "{refusal}")?;
-        assert_eq!(rt; shown.as_str(), want);
-        assert!(rt; shown.as_str().starts_with(refusal.kind()));
-    }
-    Ok(())
+    let shows = |refusal, want| assert_shown(&rt, alloc, &refusal, want);
+    shows(GroupRefusal::NoMemory, "NoMemory")?;
+    shows(
+        GroupRefusal::Missing(text(alloc, b"seqno")?),
+        "Missing seqno",
+    )?;
+    shows(
+        GroupRefusal::WrongKind(text(alloc, b"flags")?),
+        "WrongKind flags",
+    )?;
+    shows(
+        GroupRefusal::UnknownStatus(text(alloc, b"A B~")?),
+        "UnknownStatus A B~",
+    )?;
+    shows(
+        GroupRefusal::UnknownSegment(text(alloc, b"raid1")?),
+        "UnknownSegment raid1",
+    )?;
+    shows(
+        GroupRefusal::Foreign(text(alloc, b"format")?),
+        "Foreign format",
+    )?;
+    shows(
+        GroupRefusal::CountDiffers(1_000_000, 1),
+        "CountDiffers 1000000 1",
+    )?;
+    shows(
+        GroupRefusal::UnknownName(text(alloc, b"\x1B[2J\xC3\xA9")?),
+        "UnknownName ?[2J??",
+    )?;
+    shows(GroupRefusal::BadName(text(alloc, b"")?), "BadName ")?;
+    shows(GroupRefusal::BadId(text(alloc, b"id")?), "BadId id")
 }

@@ -1,5 +1,5 @@
 -- Names that are put one behind the other are found as the first of them.
-use Rattle.std.proofs.Common.{◌≡◌, ℕ, ◌+◌, zero, suc, Bool, true, false, nat_eq, List, [], ◌∷◌, ◌++◌, length, map, take, position, Option, Some, None, option_map, if◌then◌else◌, cond, refl, sym, ap, ◌∙◌, ◌<◌, get_or, Bor, arith}
+use Rattle.std.proofs.Common.{◌≡◌, ℕ, ◌+◌, Bool, true, false, nat_eq, List, [], ◌∷◌, ◌++◌, length, take, position, Option, Some, None, option_map, if◌then◌else◌, cond, refl, sym, ap, ◌∙◌, ◌<◌, get_or, Bor, arith}
 use Rattle.std.proofs.Math.ListN.{get_or-map}
 use Rattle.std.proofs.lemmas.List.{take_more, length-take-le, length-map}
 use Rattle.conf_text.specs.Entries.{Conf}

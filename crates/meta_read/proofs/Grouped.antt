@@ -1,5 +1,5 @@
 -- A group read in parts is the group read key by key.
-use Rattle.std.proofs.Common.{◌≡◌, ℕ, List, [], ◌∷◌, ◌++◌, Result, Ok, Err, codes, refl}
+use Rattle.std.proofs.Common.{◌≡◌, ℕ, List, [], ◌∷◌, ◌++◌, Ok, Err, codes, refl}
 use Rattle.conf_text.specs.Entries.{Entry}
 use Rattle.conf_text.specs.Items.{items}
 use Rattle.meta_model.specs.Keys.{Items, Read, ◌>>=◌, number, words, section, required, optional, only_text, id, status}

@@ -1,6 +1,5 @@
 -- A scalar alone is no pair.
-use Rattle.std.proofs.Common.{◌≡◌, ◌<◌, ℕ, false, true, true≢false, ◌==◌, List, [], ◌∷◌, length, map, None, refl, sym, arith}
-use Rattle.std.proofs.lemmas.Bool.{eq-eqb}
+use Rattle.std.proofs.Common.{◌≡◌, ◌<◌, false, true, true≢false, ◌==◌, List, [], ◌∷◌, length, map, None, refl, arith}
 use Rattle.conf_text.specs.declared.tree.Scalar.{Scalar}
 use Rattle.conf_text.specs.declared.tree.Scalar.TheVariants.{Number, Text}
 use Rattle.conf_text.specs.Views.{scalar_view}

@@ -1,15 +1,14 @@
 -- Trees and what they stand for.
-use Rattle.std.proofs.Common.{◌≡◌, ℕ, true, false, List, [], ◌∷◌, ◌++◌, map, Some, None, Ok, Err, codes, refl}
+use Rattle.std.proofs.Common.{◌≡◌, ℕ, true, false, List, [], ◌∷◌, ◌++◌, map, Ok, Err, codes, refl}
 use Rattle.lvm_id.specs.LvmId.{hyphen_form}
 use Rattle.conf_text.specs.Entries.{Conf, Entry, Open, Close, Assign, One, Many, Number, Text}
 use Rattle.meta_model.specs.PassedOver.{passed_over}
 use Rattle.meta_model.specs.Standing.{group_of}
 use Rattle.meta_model.specs.declared.group.Group.{Group}
 use Rattle.meta_model.specs.declared.lv.Lv.{Lv}
-use Rattle.meta_model.specs.declared.pv.Pv.{Pv}
 use Rattle.meta_model.specs.declared.refusal.GroupRefusal.TheVariants.{Missing, WrongKind, UnknownStatus, UnknownSegment, Foreign, CountDiffers, UnknownName, BadName, BadId}
 use Rattle.meta_model.specs.declared.segment.On.TheVariants as on
-use Rattle.meta_model.specs.declared.segment.SegKind.TheVariants.{Striped, Mirror}
+use Rattle.meta_model.specs.declared.segment.SegKind.TheVariants.{Striped}
 
 abbrev number : List ℕ → ℕ → Entry
 number key n = Assign key (One (Number n))

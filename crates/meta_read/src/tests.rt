@@ -6,18 +6,32 @@ use std::alloc::{AllocError, Global};
 use std::process::Abort;
 use std::test::Fail;
 
-// A group with one physical volume, as it is printed.
-const SMALL: &str =
-    "vg0 {\nid = \"400000-0050-0000-0060-0000-0070-000000\"\nseqno = 1\nformat = \"lvm2\"\nstatus = [\"RESIZEABLE\", \"READ\", \"WRITE\"]\nflags = []\nextent_size = 8192\nmax_lv = 0\nmax_pv = 0\nmetadata_copies = 0\nphysical_volumes {\npv0 {\nid = \"000000-0010-0000-0001-0000-0030-000000\"\ndevice = \"a\"\nstatus = [\"ALLOCATABLE\"]\nflags = []\ndev_size = 131072\npe_start = 2048\npe_count = 15\n}\n}\n}\ncontents = \"Text Format Volume Group\"\nversion = 1\ndescription = \"\"\ncreation_host = \"localhost\"\ncreation_time = 0\n";
+// A group with one physical volume, as it is printed, without its last five lines.
+fn small_group() -> &'static str {
+    "vg0 {\nid = \"400000-0050-0000-0060-0000-0070-000000\"\nseqno = 1\nformat = \"lvm2\"\nstatus = [\"RESIZEABLE\", \"READ\", \"WRITE\"]\nflags = []\nextent_size = 8192\nmax_lv = 0\nmax_pv = 0\nmetadata_copies = 0\nphysical_volumes {\npv0 {\nid = \"000000-0010-0000-0001-0000-0030-000000\"\ndevice = \"a\"\nstatus = [\"ALLOCATABLE\"]\nflags = []\ndev_size = 131072\npe_start = 2048\npe_count = 15\n}\n}\n}\n"
+}
+
+// The last five lines of what is printed.
+fn trailer() -> &'static str {
+    "contents = \"Text Format Volume Group\"\nversion = 1\ndescription = \"\"\ncreation_host = \"localhost\"\ncreation_time = 0\n"
+}
 
 // A group with a striped volume and the volume of a move.
-const LARGE: &str =
-    "contents = \"Text Format Volume Group\"\nversion = 1\nvg-a {\nid = \"400000-0050-0000-0060-0000-0070-000000\"\nseqno = 7\nstatus = [\"WRITE\", \"PVMOVE\"]\nextent_size = 8192\nmax_lv = 3\nmax_pv = 9\nmetadata_copies = 2\nphysical_volumes {\npv0 {\nid = \"000000-0010-0000-0001-0000-0030-000000\"\ndevice = \"/dev/sda\"\nstatus = [\"ALLOCATABLE\"]\nflags = []\ndev_size = 131072\npe_start = 2048\npe_count = 15\n}\npv1 {\nid = \"Z00000-00A0-0000-00z0-0000-00a0-000000\"\nstatus = []\nflags = \"MISSING\"\npe_start = 4096\npe_count = 16\n}\n}\nlogical_volumes {\ndata {\nid = \"500000-0050-0000-0060-0000-0070-000000\"\nstatus = [\"READ\", \"WRITE\", \"VISIBLE\"]\nsegment_count = 2\nsegment1 {\nstart_extent = 0\nextent_count = 4\ntype = \"striped\"\nstripe_count = 1\nstripes = [\"pv0\", 0]\n}\nsegment2 {\nstart_extent = 4\nextent_count = 6\ntype = \"striped\"\nstripe_count = 2\nstripe_size = 128\nstripes = [\"pv0\", 4, \"pvmove0\", 7]\n}\n}\npvmove0 {\nid = \"600000-0050-0000-0060-0000-0070-000000\"\nstatus = [\"READ\", \"PVMOVE\", \"LOCKED\", \"NOTSYNCED\", \"FIXED_MINOR\"]\nflags = [\"ACTIVATION_SKIP\"]\nallocation_policy = \"inherit\"\ncreation_time = 5\ncreation_host = \"h\"\nsegment_count = 1\nsegment1 {\nstart_extent = 0\nextent_count = 2\ntype = \"mirror\"\nmirror_count = 2\nextents_moved = 1\nmirrors = [\"pv1\", 0, \"pv0\", 3]\n}\n}\n}\n}\n";
+fn large() -> &'static str {
+    "contents = \"Text Format Volume Group\"\nversion = 1\nvg-a {\nid = \"400000-0050-0000-0060-0000-0070-000000\"\nseqno = 7\nstatus = [\"WRITE\", \"PVMOVE\"]\nextent_size = 8192\nmax_lv = 3\nmax_pv = 9\nmetadata_copies = 2\nphysical_volumes {\npv0 {\nid = \"000000-0010-0000-0001-0000-0030-000000\"\ndevice = \"/dev/sda\"\nstatus = [\"ALLOCATABLE\"]\nflags = []\ndev_size = 131072\npe_start = 2048\npe_count = 15\n}\npv1 {\nid = \"Z00000-00A0-0000-00z0-0000-00a0-000000\"\nstatus = []\nflags = \"MISSING\"\npe_start = 4096\npe_count = 16\n}\n}\nlogical_volumes {\ndata {\nid = \"500000-0050-0000-0060-0000-0070-000000\"\nstatus = [\"READ\", \"WRITE\", \"VISIBLE\"]\nsegment_count = 2\nsegment1 {\nstart_extent = 0\nextent_count = 4\ntype = \"striped\"\nstripe_count = 1\nstripes = [\"pv0\", 0]\n}\nsegment2 {\nstart_extent = 4\nextent_count = 6\ntype = \"striped\"\nstripe_count = 2\nstripe_size = 128\nstripes = [\"pv0\", 4, \"pvmove0\", 7]\n}\n}\npvmove0 {\nid = \"600000-0050-0000-0060-0000-0070-000000\"\nstatus = [\"READ\", \"PVMOVE\", \"LOCKED\", \"NOTSYNCED\", \"FIXED_MINOR\"]\nflags = [\"ACTIVATION_SKIP\"]\nallocation_policy = \"inherit\"\ncreation_time = 5\ncreation_host = \"h\"\nsegment_count = 1\nsegment1 {\nstart_extent = 0\nextent_count = 2\ntype = \"mirror\"\nmirror_count = 2\nextents_moved = 1\nmirrors = [\"pv1\", 0, \"pv0\", 3]\n}\n}\n}\n}\n"
+}
 
 // The group of a text that has a tree.
 fn read(rt: &impl Abort, alloc: Global, text: &str) -> Result<(Group, Unknown), GroupRefusal> {
     let tree = read_conf(alloc, text.as_bytes()).expect(rt, "the text has a tree");
     group_of(alloc, &tree)
+}
+
+// One text behind the other.
+fn joined(alloc: Global, first: &str, second: &str) -> Result<String, AllocError> {
+    let mut whole = String::from_str(alloc, first)?;
+    whole.push_str(second)?;
+    Ok(whole)
 }
 
 // The text with the first line that is `old` replaced.
@@ -57,8 +71,9 @@ fn passed(rt: &impl Abort, alloc: Global, text: &str) -> Result<Vec<u8>, AllocEr
 
 #[test]
 fn small_group_is_read(rt: HostRuntime) -> Result<(), Fail> {
-    let (group, unknown) = read(&rt, rt.alloc(), SMALL).expect(&rt, "a group");
-    assert_eq!(rt; SMALL.len(), 478);
+    let text = joined(rt.alloc(), small_group(), trailer())?;
+    assert_eq!(rt; text.len(), 478);
+    let (group, unknown) = read(&rt, rt.alloc(), text.as_str()).expect(&rt, "a group");
     assert_eq!(rt; group.name.as_bytes(), b"vg0".as_slice());
     assert_eq!(rt;
         group.id.plain().as_slice(),
@@ -97,7 +112,7 @@ fn small_group_is_read(rt: HostRuntime) -> Result<(), Fail> {
 
 #[test]
 fn group_with_defaults_is_read(rt: HostRuntime) {
-    let (group, _) = read(&rt, rt.alloc(), LARGE).expect(&rt, "a group");
+    let (group, _) = read(&rt, rt.alloc(), large()).expect(&rt, "a group");
     assert_eq!(rt; group.name.as_bytes(), b"vg-a".as_slice());
     assert_eq!(rt;
         group.status,
@@ -120,7 +135,7 @@ fn group_with_defaults_is_read(rt: HostRuntime) {
 
 #[test]
 fn striped_volume_is_read(rt: HostRuntime) {
-    let (group, _) = read(&rt, rt.alloc(), LARGE).expect(&rt, "a group");
+    let (group, _) = read(&rt, rt.alloc(), large()).expect(&rt, "a group");
     assert!(rt; group.lvs.len() == 2);
     let (name, lv) = group.lvs.get(0);
     assert_eq!(rt; name.as_bytes(), b"data".as_slice());
@@ -167,7 +182,7 @@ fn striped_volume_is_read(rt: HostRuntime) {
 
 #[test]
 fn volume_of_a_move_is_read(rt: HostRuntime) {
-    let (group, _) = read(&rt, rt.alloc(), LARGE).expect(&rt, "a group");
+    let (group, _) = read(&rt, rt.alloc(), large()).expect(&rt, "a group");
     assert!(rt; group.lvs.len() == 2);
     let (_, lv) = group.lvs.get(1);
     assert_eq!(rt;
@@ -306,7 +321,7 @@ fn each_key_is_refused(rt: HostRuntime) -> Result<(), Fail> {
         ("seqno = 7", "format = \"lvm1\"", "Missing seqno"),
     ];
     for (old, new, want) in rows {
-        let text = with_line(rt.alloc(), LARGE, old, new)?;
+        let text = with_line(rt.alloc(), large(), old, new)?;
         let got = refusal_of(&rt, rt.alloc(), text.as_str())?;
         assert_eq!(rt; got.as_str(), want, "{old} and {new}");
     }
@@ -415,7 +430,7 @@ fn each_key_of_a_volume_is_refused(rt: HostRuntime) -> Result<(), Fail> {
         ),
     ];
     for (old, new, want) in rows {
-        let text = with_line(rt.alloc(), LARGE, old, new)?;
+        let text = with_line(rt.alloc(), large(), old, new)?;
         let got = refusal_of(&rt, rt.alloc(), text.as_str())?;
         assert_eq!(rt; got.as_str(), want, "{old} and {new}");
     }
@@ -431,6 +446,12 @@ fn unknown_keys_are_passed_over(rt: HostRuntime) -> Result<(), Fail> {
             "vg-a/logical_volumes/pvmove0/allocation_policy ",
         ),
         ("allocation_policy = \"inherit\"", "", ""),
+        // As another tool may lay it out, with tabs, a comment and a flag.
+        (
+            "data {",
+            "\tdata\t{ # moves\n\tallocation_policy = \"contiguous\"\n\tflags = [\"ACTIVATION_SKIP\"]",
+            "vg-a/logical_volumes/data/allocation_policy vg-a/logical_volumes/pvmove0/allocation_policy ",
+        ),
         (
             "allocation_policy = \"inherit\"",
             "tags {\na = 1\n}",
@@ -458,22 +479,36 @@ fn unknown_keys_are_passed_over(rt: HostRuntime) -> Result<(), Fail> {
         ),
     ];
     for (old, new, want) in rows {
-        let text = with_line(rt.alloc(), LARGE, old, new)?;
+        let text = with_line(rt.alloc(), large(), old, new)?;
         assert_eq!(rt;
             passed(&rt, rt.alloc(), text.as_str())?.as_slice(),
             want.as_bytes(),
             "{old} and {new}"
         );
     }
+    Ok(())
+}
+
+#[test]
+fn trailer_escapes_comments_and_unknown_keys_are_read(rt: HostRuntime) -> Result<(), Fail> {
+    let alloc = rt.alloc();
+    let quoted = with_line(
+        alloc,
+        small_group(),
+        "device = \"a\"",
+        "device = \"/dev/\\\"a\\\"\"\n# a \"quoted\" remark",
+    )?;
     let coloured = with_line(
-        rt.alloc(),
-        SMALL,
+        alloc,
+        quoted.as_str(),
         "seqno = 1",
         "seqno = 1\ncolour = \"red\"",
     )?;
-    assert_eq!(rt;
-        passed(&rt, rt.alloc(), coloured.as_str())?.as_slice(),
-        b"vg0/colour ".as_slice()
-    );
+    let text = joined(alloc, trailer(), coloured.as_str())?;
+    let (group, unknown) = read(&rt, alloc, text.as_str()).expect(&rt, "a group");
+    assert!(rt; group.pvs.len() == 1 && unknown.len() == 1);
+    let (_, pv) = group.pvs.get(0);
+    assert_eq!(rt; pv.device.as_bytes(), b"/dev/\"a\"".as_slice());
+    assert_eq!(rt; unknown.get(0).as_bytes(), b"vg0/colour".as_slice());
     Ok(())
 }

@@ -1,7 +1,5 @@
 -- What is parsed prints as the text, and what prints as the text is parsed.
-use Rattle.std.proofs.Common.{◌≡◌, List, ℕ, Ok, Err, sym}
-use Rattle.lvm_id.specs.LvmId.{IsId, hyphen_form}
-use Rattle.lvm_id.specs.declared.refusal.IdRefusal.{IdRefusal}
+use Rattle.std.proofs.Common.{List, ℕ, sym}
 use Rattle.meta_read.proofs.PrintedIds.{id_printed-is, id_printed-none}
 use Rattle.meta_read.proofs.ids.id_in.Goals as goal
 

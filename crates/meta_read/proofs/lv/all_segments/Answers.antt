@@ -1,6 +1,6 @@
-use Rattle.std.proofs.Common.{◌≡◌, Some, None, true, false, if◌then◌else◌, ap, sym, ◌∙◌}
+use Rattle.std.proofs.Common.{Some, None, if◌then◌else◌, ap, sym, ◌∙◌}
 use Rattle.conf_text.specs.Items.{items}
-use Rattle.meta_model.specs.Standing.{segment_of, is_segment_name}
+use Rattle.meta_model.specs.Standing.{segment_of}
 use Rattle.meta_read.specs.Reading.{segment_body}
 use Rattle.meta_read.proofs.Each.{each_kept_turn, each_passed_turn}
 use Rattle.meta_read.proofs.lv.all_segments.Goals as goal

@@ -1,6 +1,5 @@
 -- The keys of a segment are those of its type.
-use Rattle.std.proofs.Common.{◌≡◌, ◌++◌, ◌∷◌, [], ℕ, List, Bool, false, nat_eq, codes, flat_map, OnOk, if◌then◌else◌, subst, sym, ap, ◌∙◌}
-use Rattle.std.specs.Option.{option_map_or, option_and_then}
+use Rattle.std.proofs.Common.{◌≡◌, ◌++◌, ◌∷◌, [], ℕ, List, Bool, false, codes, flat_map, OnOk, if◌then◌else◌, subst, sym, ap, ◌∙◌}
 use Rattle.conf_text.specs.Items.{items}
 use Rattle.meta_model.specs.PassedOver.{segment_keys, unless_known}
 use Rattle.meta_read.proofs.passed.pass_segment.Goals as goal

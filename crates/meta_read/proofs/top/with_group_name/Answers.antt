@@ -1,5 +1,5 @@
 -- The name is tested, and the section goes with it.
-use Rattle.std.proofs.Common.{◌≡◌, List, ℕ, Ok, Err, is_none, if◌then◌else◌, subst, sym, ap, ◌∙◌}
+use Rattle.std.proofs.Common.{List, ℕ, Ok, Err, is_none, if◌then◌else◌, subst, sym, ap, ◌∙◌}
 use Rattle.std.proofs.lemmas.Result.{err_from_is_err_and}
 use Rattle.lvm_name.specs.Names.{group_name_refusal}
 use Rattle.conf_text.specs.Entries.{Entry}
