@@ -1,5 +1,5 @@
 //! Why a sector isn't the header of a metadata area.
-ghost use Rattle.std.specs.Prelude.{Some};
+ghost use Rattle.std.specs.Prelude.{◌≡◌, Some};
 ghost use Rattle.sector_base.specs.Shown.{shown_text};
 ghost use Rattle.mda_header.specs.ShownMda.{shown_mda};
 
@@ -24,36 +24,53 @@ pub enum MdaRefusal {
     LocnOutside { offset: u64, size: u64 },
 }
 
+impl MdaRefusal {
+    /// Its name.
+    pub fn kind(&self) -> &'static str
+        ensures { result.now ≡ (shown_mda self.now).0 }
+    {
+        match self {
+            MdaRefusal::BadSum(_, _) => "BadSum",
+            MdaRefusal::BadMagic => "BadMagic",
+            MdaRefusal::BadVersion(_) => "BadVersion",
+            MdaRefusal::WrongStart(_, _) => "WrongStart",
+            MdaRefusal::SizeBad(_, _) => "SizeBad",
+            MdaRefusal::LocnOutside { .. } => "LocnOutside",
+        }
+    }
+}
+
 /// The kind, and the values in the order of the fields, separated by single spaces.
 impl fmt::Display for MdaRefusal {
     ghost output = { λ refusal. Some (shown_text (shown_mda refusal)) };
 
     fn fmt<W: fmt::Write>(&self, f: &mut fmt::Formatter<W>) -> fmt::Result {
+        let kind = self.kind();
         match *self {
             MdaRefusal::BadSum(said, found) => write_shown(
                 f,
-                "BadSum",
+                kind,
                 &[Shown::Sum(said), Shown::Sum(found)],
             ),
-            MdaRefusal::BadMagic => write_shown(f, "BadMagic", &[]),
+            MdaRefusal::BadMagic => write_shown(f, kind, &[]),
             MdaRefusal::BadVersion(version) => write_shown(
                 f,
-                "BadVersion",
+                kind,
                 &[Shown::Number(u64::from(version))],
             ),
             MdaRefusal::WrongStart(said, start) => write_shown(
                 f,
-                "WrongStart",
+                kind,
                 &[Shown::Number(said), Shown::Number(start)],
             ),
             MdaRefusal::SizeBad(said, size) => write_shown(
                 f,
-                "SizeBad",
+                kind,
                 &[Shown::Number(said), Shown::Number(size)],
             ),
             MdaRefusal::LocnOutside { offset, size } => write_shown(
                 f,
-                "LocnOutside",
+                kind,
                 &[Shown::Number(offset), Shown::Number(size)],
             ),
         }
