@@ -4,7 +4,7 @@ use Rattle.sector_base.specs.Shown.{Value, number, shown_text, text}
 use Rattle.lvm_script.specs.declared.answer.Answer.{Answer}
 use Rattle.lvm_script.specs.declared.answer.Answer.TheVariants.{Fine, Refused, PvFailed}
 use Rattle.lvm_script.specs.declared.op_refusal.OpRefusal.{OpRefusal}
-use Rattle.lvm_script.specs.declared.op_refusal.OpRefusal.TheVariants.{UnknownPv, TooSmall}
+use Rattle.lvm_script.specs.declared.op_refusal.OpRefusal.TheVariants.{UnknownGroup, UnknownPv, TooSmall}
 use Rattle.lvm_script.specs.declared.shown.Shown.{Shown}
 use Rattle.lvm_script.specs.declared.shown.Shown.TheVariants.{Text, Number}
 use Rattle.lvm_script.specs.Options.{Word}
@@ -16,6 +16,7 @@ value_of (Number n) = number n
 
 -- the kind of a refusal of a line, and its values
 abbrev pub shown_op : OpRefusal → List ℕ × List Value
+shown_op (UnknownGroup name) = (codes "UnknownGroup", text name ∷ [])
 shown_op (UnknownPv name) = (codes "UnknownPv", text name ∷ [])
 shown_op (TooSmall sectors need) = (codes "TooSmall", number sectors ∷ number need ∷ [])
 

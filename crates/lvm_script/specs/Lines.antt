@@ -2,7 +2,7 @@
 use Rattle.std.specs.Prelude.{◌≡◌, ℕ, ◌+◌, Bool, true, false, if◌then◌else◌, List, ◌++◌, Option, Some, None, option_map}
 use Rattle.lvm_id.specs.LvmId.{id_of_words}
 use Rattle.lvm_script.specs.declared.command.Command.{Command}
-use Rattle.lvm_script.specs.declared.command.Command.TheVariants.{Pvcreate, Pvck}
+use Rattle.lvm_script.specs.declared.command.Command.TheVariants.{Pvcreate, Pvck, Vgcfgbackup}
 use Rattle.lvm_script.specs.declared.line.Line.{Line}
 use Rattle.lvm_script.specs.Options.{Word}
 use Rattle.lvm_script.specs.Meaning.{meaning_of_words}
@@ -11,11 +11,13 @@ use Rattle.lvm_script.specs.Meaning.{meaning_of_words}
 abbrev pub draws : Command → Bool
 draws (Pvcreate pv metadata_copies) = true
 draws (Pvck pv) = false
+draws (Vgcfgbackup vg) = false
 
 -- whether a command changes something on its disks
 abbrev pub changes : Command → Bool
 changes (Pvcreate pv metadata_copies) = true
 changes (Pvck pv) = false
+changes (Vgcfgbackup vg) = false
 
 -- the line with this number and command, whose id is that of the next four numbers of the source, where it draws one
 abbrev pub line_of : ℕ → Command → (ℕ → List ℕ) → Line

@@ -2,7 +2,7 @@
 use Rattle.std.specs.Prelude.{ℕ, if◌then◌else◌, List, [], ◌∷◌, Option, Some, None, Result, Ok, Err, find, unwrap_or, option_map, option_and_then}
 use Rattle.std.specs.Result.{result_ok}
 use Rattle.lvm_script.specs.declared.command.Command.{Command}
-use Rattle.lvm_script.specs.declared.command.Command.TheVariants.{Pvcreate, Pvck}
+use Rattle.lvm_script.specs.declared.command.Command.TheVariants.{Pvcreate, Pvck, Vgcfgbackup}
 use Rattle.lvm_script.specs.declared.fault.Fault.{Fault}
 use Rattle.lvm_script.specs.declared.command_name.CommandName.{CommandName}
 use Rattle.lvm_script.specs.declared.command_name.CommandName.TheVariants as name
@@ -37,10 +37,16 @@ abbrev pub pvck : List Word → Option Command
 pvck (pv ∷ []) = Some (Pvck pv)
 pvck _ = None
 
+-- vgcfgbackup(8) of one group
+abbrev pub vgcfgbackup : List Word → Option Command
+vgcfgbackup (vg ∷ []) = Some (Vgcfgbackup vg)
+vgcfgbackup _ = None
+
 -- the command of this name, by its options and arguments
 abbrev pub command_by_name : CommandName → Split → Option Command
 command_by_name name.Pvcreate split = pvcreate split split.arguments
 command_by_name name.Pvck split = pvck split.arguments
+command_by_name name.Vgcfgbackup split = vgcfgbackup split.arguments
 
 -- the command, where no word of it is faulty
 abbrev pub command_of : CommandName → Split → Option Command

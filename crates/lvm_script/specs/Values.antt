@@ -1,12 +1,13 @@
 -- What a word in the place of a value or of an argument has to be.
-use Rattle.std.specs.Prelude.{ℕ, ◌^◌, Bool, not, ◌==◌, ◌&&◌, if◌then◌else◌, nat_lt, nat_le, length, Option, Some, None}
+use Rattle.std.specs.Prelude.{ℕ, ◌^◌, Bool, not, ◌==◌, ◌&&◌, if◌then◌else◌, nat_lt, nat_le, length, Option, Some, None, is_none}
 use Rattle.std.specs.List.{list_all}
 use Rattle.std.specs.Option.{option_map_or}
 use Rattle.std.specs.Str.Parse.{digits_value}
+use Rattle.lvm_name.specs.Names.{group_name_refusal}
 use Rattle.lvm_script.specs.declared.fault.Fault.{Fault}
 use Rattle.lvm_script.specs.declared.fault.Fault.TheVariants.{BadNumber, BadCount, BadName}
 use Rattle.lvm_script.specs.declared.kind.Kind.{Kind}
-use Rattle.lvm_script.specs.declared.kind.Kind.TheVariants.{Number, Disk}
+use Rattle.lvm_script.specs.declared.kind.Kind.TheVariants.{Number, Disk, Group}
 use Rattle.lvm_script.specs.Options.{Word}
 
 -- a byte from `0` to `9`
@@ -34,3 +35,4 @@ abbrev pub fault_in : Kind → Word → Option Fault
 fault_in (Number least most) word =
     option_map_or (λ n. if nat_le least n && nat_le n most then None else Some BadCount) (number_of word) (Some BadNumber)
 fault_in Disk word = if is_disk_name word then None else Some BadName
+fault_in Group word = if is_none (group_name_refusal word) then None else Some BadName

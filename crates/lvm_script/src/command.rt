@@ -11,6 +11,8 @@ pub enum Command {
     Pvcreate { pv: Text, metadata_copies: u64 },
     /// Reports what stands on the disk of this name.
     Pvck { pv: Text },
+    /// Prints the metadata of the volume group of this name, as a backup.
+    Vgcfgbackup { vg: Text },
 }
 
 impl Command {
@@ -20,7 +22,7 @@ impl Command {
     {
         match self {
             Command::Pvcreate { .. } => true,
-            Command::Pvck { .. } => false,
+            Command::Pvck { .. } | Command::Vgcfgbackup { .. } => false,
         }
     }
 
@@ -30,7 +32,7 @@ impl Command {
     {
         match self {
             Command::Pvcreate { .. } => true,
-            Command::Pvck { .. } => false,
+            Command::Pvck { .. } | Command::Vgcfgbackup { .. } => false,
         }
     }
 }

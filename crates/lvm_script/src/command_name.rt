@@ -7,10 +7,15 @@ ghost use Rattle.lvm_script.specs.Table.{command_named, spelling_of};
 pub enum CommandName {
     Pvcreate,
     Pvck,
+    Vgcfgbackup,
 }
 
 /// The commands that have a meaning.
-static COMMANDS: [CommandName; 2] = [CommandName::Pvcreate, CommandName::Pvck];
+static COMMANDS: [CommandName; 3] = [
+    CommandName::Pvcreate,
+    CommandName::Pvck,
+    CommandName::Vgcfgbackup,
+];
 
 impl CommandName {
     /// The word that names it.
@@ -20,6 +25,7 @@ impl CommandName {
         match self {
             CommandName::Pvcreate => "pvcreate",
             CommandName::Pvck => "pvck",
+            CommandName::Vgcfgbackup => "vgcfgbackup",
         }
     }
 

@@ -7,4 +7,6 @@ pub enum Kind {
     Number(u64, u64),
     /// A disk's name: 1 to 127 bytes from `!` to `~`.
     Disk,
+    /// The name of a volume group.
+    Group,
 }

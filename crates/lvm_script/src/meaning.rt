@@ -1,7 +1,7 @@
 //! From the words to the command.
 ghost use Rattle.std.specs.Prelude.{◌≡◌, ◌⊎◌, Err, IfErr, IfOk, Ok, find, option_map};
 ghost use Rattle.std.specs.String.{string_bytes};
-ghost use Rattle.lvm_script.specs.Meaning.{command_of, meaning_of, meaning_of_words, number, pvck, pvcreate, value};
+ghost use Rattle.lvm_script.specs.Meaning.{command_of, meaning_of, meaning_of_words, number, pvck, pvcreate, value, vgcfgbackup};
 ghost use Rattle.lvm_script.specs.Options.{is_key, words_of};
 ghost use Rattle.lvm_script.specs.Words.{read, read_by, split_by, without_places};
 
@@ -82,6 +82,7 @@ fn command_of(
     match name {
         CommandName::Pvcreate => pvcreate(alloc, reading),
         CommandName::Pvck => pvck(alloc, reading),
+        CommandName::Vgcfgbackup => vgcfgbackup(alloc, reading),
     }
 }
 
@@ -103,6 +104,17 @@ fn pvck(alloc: Global, reading: &Reading) -> Result<Option<Command>, AllocError>
     match reading.arguments.as_slice() {
         [pv] => Ok(Some(Command::Pvck {
             pv: text_of(alloc, pv)?,
+        })),
+        _ => Ok(None),
+    }
+}
+
+fn vgcfgbackup(alloc: Global, reading: &Reading) -> Result<Option<Command>, AllocError>
+    ensures { IfOk result (λ command. command ≡ vgcfgbackup (split_by reading.now).arguments) }
+{
+    match reading.arguments.as_slice() {
+        [vg] => Ok(Some(Command::Vgcfgbackup {
+            vg: text_of(alloc, vg)?,
         })),
         _ => Ok(None),
     }

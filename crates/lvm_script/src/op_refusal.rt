@@ -11,6 +11,8 @@ use sector_base::Text;
 /// A refusal of a line, with its values.
 #[derive(Debug, Drop)]
 pub enum OpRefusal {
+    /// No group was found that has this name.
+    UnknownGroup(Text),
     /// No disk has this name.
     UnknownPv(Text),
     /// The disk has so many sectors, and needs so many.
@@ -28,6 +30,9 @@ impl OpRefusal {
             (is_ok result) (W.written out.new) (W.fault_count out.new) }
     {
         match self {
+            OpRefusal::UnknownGroup(name) => {
+                write_kind(out, "UnknownGroup", &[Shown::Text(name.as_bytes())])
+            }
             OpRefusal::UnknownPv(name) => {
                 write_kind(out, "UnknownPv", &[Shown::Text(name.as_bytes())])
             }

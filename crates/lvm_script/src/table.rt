@@ -16,7 +16,7 @@ static PVCREATE: [OptionRow; 1] = [OptionRow {
     kind: Kind::Number(0, 1),
 }];
 
-static PVCK: [OptionRow; 0] = [];
+static NO_OPTIONS: [OptionRow; 0] = [];
 
 impl CommandName {
     /// The options of the command.
@@ -25,7 +25,7 @@ impl CommandName {
     {
         match self {
             CommandName::Pvcreate => &PVCREATE,
-            CommandName::Pvck => &PVCK,
+            CommandName::Pvck | CommandName::Vgcfgbackup => &NO_OPTIONS,
         }
     }
 
@@ -34,8 +34,10 @@ impl CommandName {
         ensures { result ≡ argument_of self number }
     {
         match self {
-            CommandName::Pvcreate | CommandName::Pvck if number > 0 => None,
+            CommandName::Pvcreate | CommandName::Pvck | CommandName::Vgcfgbackup if number > 0 =>
+                None,
             CommandName::Pvcreate | CommandName::Pvck => Some(Kind::Disk),
+            CommandName::Vgcfgbackup => Some(Kind::Group),
         }
     }
 }

@@ -74,9 +74,9 @@ fn list_of(alloc: Global, words: &[&str]) -> Result<Vec<String>, AllocError> {
 
 #[test]
 fn words_are_read_as_lines(rt: HostRuntime) -> Result<(), Fail> {
-    // How many copies of the metadata pvcreate gives the disk `a`, none for pvck.
+    // How many copies of the metadata pvcreate gives the disk `a`, none for another command.
     let refused = Err(LineRefusal::NoMeaning);
-    let rows: [(&[&str], Result<Option<u64>, LineRefusal>); 23] = [
+    let rows: [(&[&str], Result<Option<u64>, LineRefusal>); 28] = [
         (&["pvck", "a"], Ok(None)),
         (&["pvcreate", "a"], Ok(Some(1))),
         (&["pvcreate", "--metadatacopies", "0", "a"], Ok(Some(0))),
@@ -111,6 +111,11 @@ fn words_are_read_as_lines(rt: HostRuntime) -> Result<(), Fail> {
         (&["pvck", "a", "a"], refused),
         (&["pvck", "--metadatacopies", "0", "a"], refused),
         (&["pvck", "a b"], refused),
+        (&["vgcfgbackup", "a"], Ok(None)),
+        (&["vgcfgbackup"], refused),
+        (&["vgcfgbackup", "a", "a"], refused),
+        (&["vgcfgbackup", "a!"], refused),
+        (&["vgcfgbackup", "contents"], refused),
         (&["lvs", "a"], refused),
         (&[], refused),
     ];
@@ -133,8 +138,8 @@ fn words_are_read_as_lines(rt: HostRuntime) -> Result<(), Fail> {
                         assert_eq!(rt; pv.as_bytes(), b"a".as_slice());
                         Some(*metadata_copies)
                     }
-                    Command::Pvck { pv } => {
-                        assert_eq!(rt; pv.as_bytes(), b"a".as_slice());
+                    Command::Pvck { pv: name } | Command::Vgcfgbackup { vg: name } => {
+                        assert_eq!(rt; name.as_bytes(), b"a".as_slice());
                         None
                     }
                 };

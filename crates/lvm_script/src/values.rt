@@ -4,6 +4,7 @@ ghost use Rattle.std.specs.List.{list_all};
 ghost use Rattle.lvm_script.specs.Values.{fault_in, is_digit, is_disk_name, is_numeral, is_visible, number_of};
 
 use crate::{Fault, Kind};
+use lvm_name::GroupName;
 
 /// The fault of a word in the place of a value or an argument.
 pub fn fault_in(kind: Kind, word: &str) -> Option<Fault>
@@ -16,7 +17,8 @@ pub fn fault_in(kind: Kind, word: &str) -> Option<Fault>
             Some(_) => Some(Fault::BadCount),
         },
         Kind::Disk if is_disk_name(word.as_bytes()) => None,
-        Kind::Disk => Some(Fault::BadName),
+        Kind::Group if GroupName::accepts(word.as_bytes()) => None,
+        Kind::Disk | Kind::Group => Some(Fault::BadName),
     }
 }
 

@@ -108,6 +108,7 @@ fn words_mean_a_command_of_one_disk(rt: HostRuntime) -> Result<(), Fail> {
                 assert_eq!(rt; Some(asked.line.command.changes()), want);
                 assert_eq!(rt; asked.line.number, 1);
                 assert_eq!(rt; asked.names.len(), 1);
+                assert!(rt; words.len() > 1);
                 assert_eq!(rt; asked.names.bytes_of(0), words[1].as_bytes());
             }
             Err(refusal) => {
