@@ -3,16 +3,15 @@ ghost use Rattle.std.specs.Prelude.{◌≡◌, ◌≤◌, ◌<◌, ◌^◌, ℕ,
 ghost use Rattle.disk_model.specs.Steps.{now_after};
 ghost use Rattle.disk_model.specs.Faults.{HasSameFaults};
 ghost use Rattle.disk_model.specs.Idle.{IsIdleAgain};
-ghost use Rattle.lvm_report.specs.Causes.{IsPvckCause};
-ghost use Rattle.lvm_report.specs.Reads.{ReadsAllOf, ReadsFirstOf};
+ghost use Rattle.vg_scan.specs.Causes.{IsReadCause};
+ghost use Rattle.vg_scan.specs.Reads.{ReadsAllOf, ReadsFirstOf};
 ghost use Rattle.lvm_report.specs.Report.{IsReport};
 
-use crate::PvckRefusal;
-use crate::find::find_pv;
 use crate::report::report;
 use disk_model::Shelf;
 use sector_base::Text;
 use std::alloc::Global;
+use vg_scan::{ReadRefusal, find_pv};
 
 /// Reads lvm2's sectors of the disk, and answers the report on what stands there, one item a line. Each line ends with
 /// a line feed.
@@ -21,7 +20,7 @@ use std::alloc::Global;
 /// line `area OFFSET SIZE` for each metadata area, and `extension VERSION FLAGS`. Under a metadata area's line stand
 /// `committed OFFSET SIZE SUM` and `precommitted OFFSET SIZE SUM` where its header names such texts. What isn't read is
 /// answered in its place by a line `refused KIND VALUES`, after which a report ends, but for that of an area.
-pub fn pvck<S: Shelf>(alloc: Global, shelf: &mut S, pv: u32) -> Result<Text, PvckRefusal>
+pub fn pvck<S: Shelf>(alloc: Global, shelf: &mut S, pv: u32) -> Result<Text, ReadRefusal>
     requires disk { pv < length (S.state shelf.old).sizes }
     requires least { 8 ≤ slice_index_or (S.state shelf.old).sizes pv 0 }
     requires most { slice_index_or (S.state shelf.old).sizes pv 0 ≤ 2 ^ 40 }
@@ -40,7 +39,7 @@ pub fn pvck<S: Shelf>(alloc: Global, shelf: &mut S, pv: u32) -> Result<Text, Pvc
     ensures again { IsIdleAgain (S.state shelf.old) (S.state shelf.new) }
 
     // A read that failed was the last step, and nothing else failed.
-    ensures cause { MatchResult result (λ _. HasSameFaults (S.state shelf.old) (S.state shelf.new)) (IsPvckCause pv (S.state shelf.old) (S.state shelf.new)) }
+    ensures cause { MatchResult result (λ _. HasSameFaults (S.state shelf.old) (S.state shelf.new)) (IsReadCause pv (S.state shelf.old) (S.state shelf.new)) }
 {
     let found = find_pv(alloc, shelf, pv)?;
     Ok(report(alloc, &found)?)

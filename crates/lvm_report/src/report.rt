@@ -2,7 +2,6 @@
 ghost use Rattle.std.specs.Prelude.{◌≡◌, ◌++◌, IfOk, flat_map, string_bytes};
 ghost use Rattle.lvm_report.specs.Report.{area_lines, header_lines, locn_lines, mda_lines, report_of};
 
-use crate::contents::{AreaFound, PvFound};
 use crate::lines::{
     put_area, put_committed, put_data_areas, put_extension, put_id, put_label, put_precommitted,
     put_refusal, put_size,
@@ -11,6 +10,7 @@ use mda_header::MdaHeader;
 use pv_header::PvHeader;
 use sector_base::Text;
 use std::alloc::{AllocError, Global};
+use vg_scan::{AreaFound, PvFound};
 
 /// The report on what was found. Only memory can be wanting.
 pub fn report(alloc: Global, found: &PvFound) -> Result<Text, AllocError>

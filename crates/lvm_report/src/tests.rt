@@ -3,7 +3,7 @@ ghost use Rattle.std.specs.Prelude.{◌≡◌, ◌≤◌, ◌<◌, ◌^◌, [], 
 ghost use Rattle.dev_shelf.specs.DiskRow.{new_state};
 
 use crate::lines::put_refusal;
-use crate::{PvckRefusal, pvck};
+use crate::pvck;
 use dev_shelf::{Fail as Failure, Images, MemShelf, Shelf, ShelfPlan};
 use disk_model::DiskFault;
 use lvm_id::parse_plain;
@@ -13,6 +13,7 @@ use pv_label::{LabelRefusal, seal_label};
 use sector_base::{Bytes512, Sectors, Text};
 use std::alloc::{AllocError, Global};
 use std::test::Fail;
+use vg_scan::ReadRefusal;
 
 const ID: &[u8; 32] = b"00000000100000000100000030000000";
 
@@ -130,7 +131,7 @@ fn report_on(
     alloc: Global,
     disk: Sectors,
     fails: Vec<Failure>,
-) -> Result<Result<Text, PvckRefusal>, AllocError>
+) -> Result<Result<Text, ReadRefusal>, AllocError>
     requires least { 8 ≤ length disk }
     requires most { length disk ≤ 2 ^ 40 }
 {
@@ -238,7 +239,7 @@ fn a_failed_read_is_answered(rt: HostRuntime) -> Result<(), Fail> {
         let answer = pvck(alloc, &mut shelf, 0);
         assert_eq!(rt;
             answer.err(),
-            Some(PvckRefusal::ReadFailed(DiskFault { pv: 0 }))
+            Some(ReadRefusal::ReadFailed(DiskFault { pv: 0 }))
         );
         assert_eq!(rt; (shelf.steps(), shelf.faults(0)), (2 * tag + 2, 1));
     }
@@ -314,9 +315,9 @@ refused LocnOutside 12 13\n";
 fn says_why(rt: HostRuntime) -> Result<(), Fail> {
     let alloc = rt.alloc();
     let rows = [
-        (PvckRefusal::NoMemory, "no memory"),
+        (ReadRefusal::NoMemory, "no memory"),
         (
-            PvckRefusal::ReadFailed(DiskFault { pv: 3 }),
+            ReadRefusal::ReadFailed(DiskFault { pv: 3 }),
             "an operation of disk 3 failed",
         ),
     ];

@@ -1,0 +1,14 @@
+pub mod AreaList
+pub mod CopyFound
+pub mod EntryReading
+pub mod FirstSectors
+pub mod OneArea
+pub mod OneFinding
+pub mod OneLabel
+pub mod OneScan
+pub mod ReadingLists
+pub mod ReadingParts
+pub mod ReadsAll
+pub mod ScanParts
+pub mod TextSectors
+pub mod Usable

@@ -1,0 +1,9 @@
+pub mod Causes
+pub mod Contents
+pub mod Copies
+pub mod DiskScan
+pub mod EntryTexts
+pub mod InAreas
+pub mod Parts
+pub mod Readings
+pub mod Reads
