@@ -1,5 +1,5 @@
 -- What a line does to the disks: nothing but a look, the puts after it, or reads.
-use Rattle.std.proofs.Common.{◌≡◌, ℕ, Bool, true, false, List, [], ◌++◌, length, map, take, Option, IfSome, refl, sym, ap, subst, ◌∙◌, arith}
+use Rattle.std.proofs.Common.{◌≡◌, ℕ, Bool, true, false, List, [], ◌++◌, length, map, take, Option, None, Some, IfSome, refl, sym, ap, subst, ◌∙◌, arith}
 use Rattle.sector_base.specs.declared.spans.Span.{Span}
 use Rattle.disk_model.specs.Durability.{IsBase}
 use Rattle.disk_model.specs.Moments.{EveryImageSince}
@@ -17,7 +17,7 @@ use Rattle.lvm_cli.specs.declared.outcome.Outcome.{Outcome}
 use Rattle.lvm_cli.specs.declared.outcome.Outcome.TheVariants.{Ended, Answered, Reported}
 use Rattle.lvm_cli.specs.CommandSpec.{CommandSpec, Context}
 use Rattle.lvm_cli.specs.Meets.{ChangesDisks, IsDone, IsUnwritten}
-use Rattle.lvm_cli.specs.Scan.{OpensDisks, label_spans}
+use Rattle.lvm_cli.specs.Scan.{HoldsNow, OpensDisks, label_spans}
 use Rattle.lvm_cli.proofs.Opening.{no_writes, reads_later}
 
 not_done : (outcome : Outcome) → IsUnwritten outcome → IsDone outcome → ⊥
@@ -158,3 +158,12 @@ pub between_reading : (R : Told → Told → Type 0) (s0 s1 : Option Told) (span
 between_reading R s0 s1 spans pv P reads holds make old e =
     let r = reads old e in
     (r.0, r.1, make old r.0 r.2 (subst (λ (o : Option Told). IfSome o (λ t. P (now_after t.opened t.steps pv))) e holds))
+
+-- what holds of the disks as reads give them
+pub holds_now_weaker : (told : Option Told) (P Q : Image → Type 0) → ((image : Image) → P image → Q image) → HoldsNow told P → HoldsNow told Q
+holds_now_weaker None P Q more h = tt
+holds_now_weaker (Some t) P Q more h = more (now_after t.opened t.steps) h
+
+pub holds_now_anyway : (told : Option Told) (P : Image → Type 0) → ((image : Image) → P image) → HoldsNow told P
+holds_now_anyway None P all = tt
+holds_now_anyway (Some t) P all = all (now_after t.opened t.steps)

@@ -8,11 +8,11 @@ use Rattle.disk_model.specs.Since.{BetweenTold}
 use Rattle.disk_model.specs.State.{State}
 use Rattle.disk_model.specs.Steps.{Image, Reading, now_after}
 use Rattle.pv_header.specs.declared.extent_list.Extent.{Extent}
-use Rattle.lvm_report.specs.declared.contents.PvFound.{PvFound}
-use Rattle.lvm_report.specs.declared.contents.PvFound.TheVariants.{NoLabel, NoHeader, Whole}
-use Rattle.lvm_report.specs.Contents.{IsFound}
+use Rattle.vg_scan.specs.declared.contents.PvFound.{PvFound}
+use Rattle.vg_scan.specs.declared.contents.PvFound.TheVariants.{NoLabel, NoHeader, Whole}
+use Rattle.vg_scan.specs.Contents.{IsFound}
 use Rattle.pv_label.specs.LabelSectors.{label_span}
-use Rattle.lvm_report.specs.Reads.{AreAreasOf, ReadsAllOf, ReadsFirstOf, area_spans, areas_found}
+use Rattle.vg_scan.specs.Reads.{AreAreasOf, ReadsAllOf, ReadsFirstOf, area_spans, areas_found}
 use Rattle.lvm_report.specs.Report.{IsReport}
 use Rattle.lvm_script.specs.Options.{Word, number_named}
 use Rattle.lvm_script.specs.declared.answer.Answer.TheVariants.{Refused}
@@ -20,10 +20,10 @@ use Rattle.lvm_script.specs.declared.op_refusal.OpRefusal.TheVariants.{UnknownPv
 use Rattle.lvm_cli.specs.declared.ending.Ending.TheVariants.{NoMemory, ScanReadFailed}
 use Rattle.lvm_cli.specs.declared.outcome.Outcome.{Outcome}
 use Rattle.lvm_cli.specs.declared.outcome.Outcome.TheVariants.{Ended, Answered, Reported}
-use Rattle.lvm_cli.specs.CommandSpec.{Context, number_in, refusal_of}
+use Rattle.lvm_cli.specs.CommandSpec.{Context, Finds, number_in, refusal_of}
 use Rattle.lvm_cli.specs.Commands.Pvck.{pvck}
-use Rattle.lvm_cli.specs.Meets.{ChangesDisks, IsUnwritten, Meets}
-use Rattle.lvm_cli.proofs.Changing.{between_reading, changes_by_reading}
+use Rattle.lvm_cli.specs.Meets.{ChangesDisks, IsScanned, IsUnwritten, Meets}
+use Rattle.lvm_cli.proofs.Changing.{between_reading, changes_by_reading, holds_now_anyway}
 
 -- the metadata areas of what was found are those that the header names
 areas_of_found : (sector_at : ℕ → List ℕ) (disk : ℕ) (found : PvFound) → IsFound sector_at disk found → AreAreasOf sector_at disk (areas_found found)
@@ -31,14 +31,18 @@ areas_of_found sector_at disk (NoLabel refusal) is = inl refl
 areas_of_found sector_at disk (NoHeader label refusal) is = inl refl
 areas_of_found sector_at disk (Whole label header areas) is = inr (label, header, is.0, is.1, refl)
 
-module _ (names : List Word) (id : Option (List ℕ)) (pv : List ℕ) (old new : State) where
+module _ (names : List Word) (id : Option (List ℕ)) (pv : List ℕ) (time : ℕ) (old new : State) where
   abbrev context : Context
-  context = record { names = names; sizes = old.sizes; id = id }
+  context = record { names = names; sizes = old.sizes; id = id; now = time }
+
+  -- it has no scan
+  no_scan : IsScanned (pvck pv) context old (Finds None)
+  no_scan = holds_now_anyway old.told (λ image. Finds None ≡ Finds None) (λ image. refl)
 
   -- no disk has the name
   pub meets_unknown : number_named names pv ≡ None → old.in_flight ≡ [] → Meets (pvck pv) context old (Answered 1 (Refused (UnknownPv pv))) old
   meets_unknown unknown idle = record {
-    cause = (refl, λ disk. refl, λ scans. absurd (cc), rw unknown refl);
+    cause = (refl, λ disk. refl, (None, no_scan, rw unknown refl));
     told = λ told e. (
       told,
       e,
@@ -65,7 +69,7 @@ module _ (names : List Word) (id : Option (List ℕ)) (pv : List ℕ) (old new :
     number_is : number_in context pv ≡ disk
     number_is = ap (λ (o : Option ℕ). unwrap_or o 0) known
 
-    passes : refusal_of ((pvck pv).rows context) ≡ None
+    passes : refusal_of ((pvck pv).rows context None) ≡ None
     passes = rw known refl
 
     abbrev ReadsOn : ℕ → Image → List Span → Type 0
@@ -91,7 +95,7 @@ module _ (names : List Word) (id : Option (List ℕ)) (pv : List ℕ) (old new :
     pub meets_reported : (text : List ℕ) → HasSameFaults old new → IsIdleAgain old new → ReadsAllOf disk (slice_index_or old.sizes disk 0) old new
         → IfSome old.told (λ told. IsReport (now_after told.opened told.steps disk) (slice_index_or old.sizes disk 0) text) → Meets (pvck pv) context old (Reported text) new
     meets_reported text same again reads report = record {
-      cause = (refl, same, passes, subst (λ (n : ℕ). IfSome old.told (λ told. IsReport (now_after told.opened told.steps n) (slice_index_or old.sizes n 0) text)) (sym number_is) report);
+      cause = (refl, same, (None, no_scan, passes, subst (λ (n : ℕ). IfSome old.told (λ told. IsReport (now_after told.opened told.steps n) (slice_index_or old.sizes n 0) text)) (sym number_is) report));
       told = told_all (Reported text) tt reads;
       again = again;
     }

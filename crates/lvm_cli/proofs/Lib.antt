@@ -1,3 +1,4 @@
+pub mod BackingUp
 pub mod Changing
 pub mod Checking
 pub mod Creating
@@ -5,4 +6,5 @@ pub mod Faults
 pub mod NewPvs
 pub mod OpenedDisks
 pub mod Opening
+pub mod RefusedAreas
 pub mod Undone

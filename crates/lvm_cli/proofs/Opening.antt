@@ -16,7 +16,7 @@ use Rattle.disk_model.proofs.ReadingAlone.{reads_write_nothing, same_now}
 use Rattle.disk_model.proofs.StepsSince.{spans_read-append, steps_joined}
 use Rattle.pv_label.specs.Label.{BeginsLikeLabel}
 use Rattle.pv_label.specs.LabelSectors.{label_span}
-use Rattle.lvm_cli.specs.Scan.{FlushesBeforeReads, HasLabel, HasNoLabels, OpensDisks, label_spans}
+use Rattle.lvm_cli.specs.Scan.{FlushesBeforeReads, HasLabel, HasNoLabels, HoldsNow, OpensDisks, label_spans}
 
 -- steps that write nothing submit no write
 pub no_writes : (steps : List Step) → WritesNothing steps → writes_submitted steps ≡ []
@@ -104,8 +104,8 @@ weaker None P Q more h = tt
 weaker (Some t) P Q more h = more t h
 
 -- one of the sectors that were read begins like a label
-pub label_found : (s0 s1 : State) (done : Done) (read : List (List ℕ)) → CarriesOut s0 (Flush 0) done s1 → length read ≡ 4 → IfSome s1.told (IsReadOf read) → Any BeginsLikeLabel read → IfSome s0.told (HasLabel 0)
-label_found s0 s1 done read c four h any = weaker s0.told (AreFirst read) (HasLabel 0)
+pub label_found : (s0 s1 : State) (done : Done) (read : List (List ℕ)) → CarriesOut s0 (Flush 0) done s1 → length read ≡ 4 → IfSome s1.told (IsReadOf read) → Any BeginsLikeLabel read → HoldsNow s0.told (HasLabel 0)
+label_found s0 s1 done read c four h any = weaker s0.told (AreFirst read) (λ t. HasLabel 0 (now_after t.opened t.steps))
     (λ t first.
     let k = any.0 in
     let within : k < 4 = omega (arith, any.2, four) in
@@ -113,10 +113,10 @@ label_found s0 s1 done read c four h any = weaker s0.told (AreFirst read) (HasLa
     (reads_first s0 s1 done read c h)
 
 -- none of them does
-pub no_label_found : (s0 s1 : State) (done : Done) (read : List (List ℕ)) → CarriesOut s0 (Flush 0) done s1 → length read ≡ 4 → IfSome s1.told (IsReadOf read) → (Any BeginsLikeLabel read → ⊥) → IfSome s0.told (HasNoLabels 1)
-no_label_found s0 s1 done read c four h none = weaker s0.told (AreFirst read) (HasNoLabels 1)
+pub no_label_found : (s0 s1 : State) (done : Done) (read : List (List ℕ)) → CarriesOut s0 (Flush 0) done s1 → length read ≡ 4 → IfSome s1.told (IsReadOf read) → (Any BeginsLikeLabel read → ⊥) → HoldsNow s0.told (HasNoLabels 1)
+no_label_found s0 s1 done read c four h none = weaker s0.told (AreFirst read) (λ t. HasNoLabels 1 (now_after t.opened t.steps))
     (λ t first pv lt label. let here : pv ≡ 0 = omega arith in
-    let l : HasLabel 0 t = subst (λ (n : ℕ). HasLabel n t) here label in
+    let l : HasLabel 0 (now_after t.opened t.steps) = subst (λ (n : ℕ). HasLabel n (now_after t.opened t.steps)) here label in
     let within : l.0 < length read = omega (arith, l.1, four) in
     none (l.0, slice_index_or read l.0 [], within, get_or_default read l.0 (slice_index_or read l.0 []) [] within, subst BeginsLikeLabel (sym (first l.0 l.1)) l.2))
     (reads_first s0 s1 done read c h)

@@ -3,17 +3,26 @@ use Rattle.std.specs.Prelude.{ℕ, Bool, if◌then◌else◌, List, [], ◌∷�
 use Rattle.sector_base.specs.declared.spans.Span.{Span}
 use Rattle.disk_model.specs.Puts.{Put}
 use Rattle.disk_model.specs.Steps.{Image}
+use Rattle.meta_model.specs.declared.group.Group.{Group}
 use Rattle.lvm_script.specs.Options.{Word, number_named}
 use Rattle.lvm_script.specs.declared.op_refusal.OpRefusal.{OpRefusal}
 use Rattle.lvm_script.specs.declared.op_refusal.OpRefusal.TheVariants.{UnknownPv}
+use Rattle.lvm_cli.specs.declared.ending.ScanRefusal.{ScanRefusal}
 
--- what a line is judged against
+-- what a line is judged against, beside what a scan finds
 pub record Context : Type 0 where
   -- the names of the disks, and how many sectors each of them has
   pub names : List Word
   pub sizes : List ℕ
   -- the id that the line drew
   pub id : Option (List ℕ)
+  -- the time of the run, in seconds since 1970
+  pub now : ℕ
+
+-- what a scan of the disks comes to: a group or none, or why the disks aren't taken as they are
+pub data Scanned : Type 0 where
+  Finds : Option Group → Scanned
+  Refuses : ScanRefusal → Scanned
 
 -- all that a reader has to believe of a command
 pub record CommandSpec : Type 1 where
@@ -21,16 +30,18 @@ pub record CommandSpec : Type 1 where
   pub flushes : Bool
   -- the disks are scanned before it is judged; another command is judged first, and reads for itself
   pub scans : Bool
-  -- its refusals in the order of their tests, each with its test
-  pub rows : Context → List (Bool × OpRefusal)
+  -- what the scan comes to, by what stands on the disks
+  pub scan : Context → Image → Scanned → Type 0
+  -- its refusals in the order of their tests, each with its test, by the group that the scan finds
+  pub rows : Context → Option Group → List (Bool × OpRefusal)
   -- the sectors that it may put, in their order, where no row holds
   pub change : Context → List Put → Type 0
   -- the spans that it may read, in their order, by what stands on the disks
   pub reads : Context → Image → List Span → Type 0
   -- what a reader finds on the disks once it was answered as done
   pub finds : Context → Image → Type 0
-  -- its report, by what stands on the disks
-  pub reports : Context → Image → List ℕ → Type 0
+  -- its report, by the group that the scan finds and by what stands on the disks
+  pub reports : Context → Option Group → Image → List ℕ → Type 0
 
 -- the first refusal whose test holds
 abbrev pub refusal_of : List (Bool × OpRefusal) → Option OpRefusal

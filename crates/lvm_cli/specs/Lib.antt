@@ -1,3 +1,4 @@
+pub mod Backup
 pub mod CommandSpec
 pub mod Commands
 pub mod Disks

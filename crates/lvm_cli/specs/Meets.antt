@@ -1,5 +1,5 @@
 -- What a line does, by all that is said of its command.
-use Rattle.std.specs.Prelude.{◌≡◌, ◌≤◌, ℕ, false, IsTrue, List, [], ◌++◌, length, map, take, Contains, Some, None, IfSome}
+use Rattle.std.specs.Prelude.{◌≡◌, ◌≤◌, ℕ, false, IsTrue, List, [], ◌++◌, length, map, take, Contains, Option, Some, None}
 use Rattle.sector_base.specs.declared.spans.Span.{Span}
 use Rattle.disk_model.specs.Durability.{IsBase}
 use Rattle.disk_model.specs.Faults.{HasSameFaults, IsLastFault}
@@ -10,21 +10,26 @@ use Rattle.disk_model.specs.Puts.{HasFirst, IsPutFault, Put, with_puts, write_of
 use Rattle.disk_model.specs.Since.{BetweenTold, ReadsAlone, spans_read, writes_submitted}
 use Rattle.disk_model.specs.State.{State}
 use Rattle.disk_model.specs.Steps.{Image, IsSame, Reading, Flushing, Step, Told, now_after, steps_on}
+use Rattle.meta_model.specs.declared.group.Group.{Group}
+use Rattle.lvm_script.specs.declared.op_refusal.OpRefusal.{OpRefusal}
 use Rattle.lvm_script.specs.declared.answer.Answer.TheVariants.{Fine, Refused, PvFailed}
 use Rattle.lvm_cli.specs.declared.ending.Ending.TheVariants.{WordsRefused, NoMemory, OpenFailed, ScanReadFailed, ScanRefused}
-use Rattle.lvm_cli.specs.declared.ending.ScanRefusal.TheVariants.{NotYet}
 use Rattle.lvm_cli.specs.declared.outcome.Outcome.{Outcome}
 use Rattle.lvm_cli.specs.declared.outcome.Outcome.TheVariants.{Ended, Answered, Reported}
-use Rattle.lvm_cli.specs.CommandSpec.{CommandSpec, Context, refusal_of}
-use Rattle.lvm_cli.specs.Scan.{FlushesBeforeReads, HasLabel, HasNoLabels}
+use Rattle.lvm_cli.specs.CommandSpec.{CommandSpec, Context, Scanned, Finds, Refuses, refusal_of}
+use Rattle.lvm_cli.specs.Scan.{FlushesBeforeReads, HoldsNow}
 
--- the scan passed, where the command has one
-abbrev pub PassesScan : CommandSpec → Context → State → Type 0
-PassesScan spec context old = IsTrue spec.scans → IfSome old.told (HasNoLabels (length context.sizes))
+-- the scan of the disks came to this
+abbrev pub IsScanned : CommandSpec → Context → State → Scanned → Type 0
+IsScanned spec context old scanned = HoldsNow old.told (λ image. spec.scan context image scanned)
+
+-- judged by the group that the scan found, the line has this refusal or none
+abbrev pub IsJudged : CommandSpec → Context → State → Option OpRefusal → Type 0
+IsJudged spec context old refusal = (found : Option Group) × IsScanned spec context old (Finds found) × (refusal_of (spec.rows context found) ≡ refusal)
 
 -- no refusal comes before a read, where the command reads for itself
 abbrev pub IsJudgedFirst : CommandSpec → Context → Type 0
-IsJudgedFirst spec context = spec.scans ≡ false → refusal_of (spec.rows context) ≡ None
+IsJudgedFirst spec context = spec.scans ≡ false → refusal_of (spec.rows context None) ≡ None
 
 -- a write of one of these puts failed, or the flush after it
 abbrev pub IsFaultOf : List Put → State → State → ℕ → Type 0
@@ -36,15 +41,16 @@ IsCause spec context old new (Ended WordsRefused) = ⊥
 IsCause spec context old new (Ended NoMemory) = HasSameFaults old new × (IsTrue spec.flushes → new ≡ old)
 IsCause spec context old new (Ended (OpenFailed pv)) = IsTrue spec.flushes × IsLastFault old new pv (Flushing pv)
 IsCause spec context old new (Ended (ScanReadFailed pv)) = IsJudgedFirst spec context × ((span : Span) × IsLastFault old new pv (Reading span))
-IsCause spec context old new (Ended (ScanRefused (NotYet pv))) = IsTrue spec.scans × HasSameFaults old new × IfSome old.told (HasLabel pv)
+IsCause spec context old new (Ended (ScanRefused refusal)) = IsTrue spec.scans × HasSameFaults old new × IsScanned spec context old (Refuses refusal)
 IsCause spec context old new (Answered line Fine) =
-    (line ≡ 1) × IsTrue spec.flushes × HasSameFaults old new × PassesScan spec context old × (refusal_of (spec.rows context) ≡ None)
+    (line ≡ 1) × IsTrue spec.flushes × HasSameFaults old new × IsJudged spec context old None
 IsCause spec context old new (Answered line (Refused refusal)) =
-    (line ≡ 1) × HasSameFaults old new × PassesScan spec context old × (refusal_of (spec.rows context) ≡ Some refusal)
+    (line ≡ 1) × HasSameFaults old new × IsJudged spec context old (Some refusal)
 IsCause spec context old new (Answered line (PvFailed pv)) =
-    (line ≡ 1) × PassesScan spec context old × (refusal_of (spec.rows context) ≡ None) × ((puts : List Put) × spec.change context puts × IsFaultOf puts old new pv)
+    (line ≡ 1) × IsJudged spec context old None × ((puts : List Put) × spec.change context puts × IsFaultOf puts old new pv)
 IsCause spec context old new (Reported text) =
-    (spec.flushes ≡ false) × HasSameFaults old new × (refusal_of (spec.rows context) ≡ None) × IfSome old.told (λ told. spec.reports context (now_after told.opened told.steps) text)
+    (spec.flushes ≡ false) × HasSameFaults old new
+    × ((found : Option Group) × IsScanned spec context old (Finds found) × (refusal_of (spec.rows context found) ≡ None) × HoldsNow old.told (λ image. spec.reports context found image text))
 
 -- an outcome that comes before anything is written
 abbrev pub IsUnwritten : Outcome → Type 0

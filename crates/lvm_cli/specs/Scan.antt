@@ -1,25 +1,36 @@
 -- The disks are flushed, for a command that changes something, and looked at.
-use Rattle.std.specs.Prelude.{◌≡◌, ◌<◌, ℕ, Bool, IsTrue, List, [], ◌∷◌, ◌++◌, map, IfSome}
+use Rattle.std.specs.Prelude.{◌≡◌, ◌<◌, ℕ, Bool, IsTrue, List, [], ◌∷◌, ◌++◌, map, Option, None, IfSome}
 use Rattle.std.specs.List.{range_with_len}
 use Rattle.sector_base.specs.declared.spans.Span.{Span}
 use Rattle.disk_model.specs.Faults.{HasSameFaults, IsLastFault}
 use Rattle.disk_model.specs.Order.{HasFlushed, WritesNothing}
 use Rattle.disk_model.specs.Since.{spans_read}
 use Rattle.disk_model.specs.State.{State}
-use Rattle.disk_model.specs.Steps.{IsSame, Reading, Flushing, Step, Submitted, Told, now_after, steps_on}
+use Rattle.disk_model.specs.Steps.{Image, IsSame, Reading, Flushing, Step, Submitted, Told, now_after, steps_on}
 use Rattle.pv_label.specs.Label.{BeginsLikeLabel}
 use Rattle.pv_label.specs.LabelSectors.{label_span}
+use Rattle.lvm_cli.specs.CommandSpec.{Scanned, Finds, Refuses}
 use Rattle.lvm_cli.specs.declared.ending.Ending.{Ending}
 use Rattle.lvm_cli.specs.declared.ending.Ending.TheVariants.{OpenFailed, ScanReadFailed, ScanRefused}
-use Rattle.lvm_cli.specs.declared.ending.ScanRefusal.TheVariants.{NotYet}
+use Rattle.lvm_cli.specs.declared.ending.ScanRefusal.TheVariants.{NotYet, NoCopy}
 
 -- one of the first four sectors of the disk begins like a label
-abbrev pub HasLabel : ℕ → Told → Type 0
-HasLabel pv told = (sector : ℕ) × (sector < 4) × BeginsLikeLabel (now_after told.opened told.steps pv sector)
+abbrev pub HasLabel : ℕ → Image → Type 0
+HasLabel pv image = (sector : ℕ) × (sector < 4) × BeginsLikeLabel (image pv sector)
 
 -- none of them does, on each of so many disks
-abbrev pub HasNoLabels : ℕ → Told → Type 0
-HasNoLabels disks told = (pv : ℕ) → pv < disks → ¬ HasLabel pv told
+abbrev pub HasNoLabels : ℕ → Image → Type 0
+HasNoLabels disks image = (pv : ℕ) → pv < disks → ¬ HasLabel pv image
+
+-- so many disks with labels aren't taken yet, and without there is no group
+abbrev pub LooksForLabels : ℕ → Image → Scanned → Type 0
+LooksForLabels disks image (Finds found) = (found ≡ None) × HasNoLabels disks image
+LooksForLabels disks image (Refuses (NotYet pv)) = HasLabel pv image
+LooksForLabels disks image (Refuses (NoCopy pv refusals)) = ⊥
+
+-- what holds of the disks as reads give them, where they tell their record
+abbrev pub HoldsNow : Option Told → (Image → Type 0) → Type 0
+HoldsNow told P = IfSome told (λ told. P (now_after told.opened told.steps))
 
 -- the sectors where a label may be, of each of so many disks
 abbrev pub label_spans : ℕ → List Span
@@ -46,5 +57,5 @@ pub record OpensDisks (disks : ℕ) (old : Told) (passes : Bool) (new : Told) : 
 abbrev pub IsOpenCause : State → State → Ending → Type 0
 IsOpenCause old new (OpenFailed pv) = IsLastFault old new pv (Flushing pv)
 IsOpenCause old new (ScanReadFailed pv) = IsLastFault old new pv (Reading (label_span pv))
-IsOpenCause old new (ScanRefused (NotYet pv)) = HasSameFaults old new × IfSome old.told (HasLabel pv)
+IsOpenCause old new (ScanRefused (NotYet pv)) = HasSameFaults old new × HoldsNow old.told (HasLabel pv)
 IsOpenCause old new _ = ⊥

@@ -1,3 +1,4 @@
 //! What each command does, a file for each.
 pub mod pvck;
 pub mod pvcreate;
+pub mod vgcfgbackup;

@@ -1,13 +1,14 @@
 //! What ends a run before its lines.
-ghost use Rattle.std.specs.Prelude.{◌≡◌, ◌++◌, codes, is_ok};
+ghost use Rattle.std.specs.Prelude.{◌≡◌, [], ◌++◌, codes, is_ok};
 ghost use Rattle.sector_base.specs.Shown.{shown_text};
 ghost use Rattle.lvm_script.specs.Streams.{WritesText};
-ghost use Rattle.lvm_cli.specs.Endings.{ending_text, shown_scan, status_of_ending};
+ghost use Rattle.lvm_cli.specs.Endings.{ending_text, refused_values, shown_no_copy, shown_scan, status_of_ending};
 
 use lvm_script::{DiskNames, Failed, Shown, Sink, write_bytes, write_kind};
+use vg_scan::{CopyRefusal, CopyRefusals};
 
 /// What ends a run before its lines. It prints one line, or none.
-#[derive(Clone, Copy, Debug, PartialEq, Eq)]
+#[derive(Debug, Drop)]
 pub enum Ending {
     /// The words have no meaning; nothing was done.
     WordsRefused,
@@ -21,10 +22,12 @@ pub enum Ending {
 }
 
 /// Why the disks aren't taken as they are.
-#[derive(Clone, Copy, Debug, PartialEq, Eq)]
+#[derive(Debug, Drop)]
 pub enum ScanRefusal {
-    /// One of the first four sectors of the disk with this number begins like a label.
+    /// What stands on the disk with this number can't be dealt with yet.
     NotYet(u32),
+    /// No area of the disk with this number has a copy of a group, and these were refused.
+    NoCopy(u32, CopyRefusals),
 }
 
 impl Ending {
@@ -67,8 +70,32 @@ impl ScanRefusal {
             ScanRefusal::NotYet(pv) => {
                 write_kind(out, "NotYet", &[Shown::Text(names.bytes_of(*pv))])
             }
+            ScanRefusal::NoCopy(pv, refusals) => {
+                write_no_copy(out, names.bytes_of(*pv), refusals.as_slice())
+            }
         }
     }
+}
+
+// Writes that no area of the disk with this name has a copy, and the kind of each refusal behind the name.
+fn write_no_copy<W: Sink>(out: &mut W, name: &[u8], refusals: &[CopyRefusal]) -> Result<(), Failed>
+    ensures { WritesText (W.written out.old) (W.fault_count out.old) (shown_text (shown_no_copy name.now refusals.now))
+        (is_ok result) (W.written out.new) (W.fault_count out.new) }
+{
+    write_bytes(out, b"NoCopy")?;
+    for refusal in refusals {
+        write_refused(out, name, refusal)?;
+    }
+    Ok(())
+}
+
+// Writes the name and the kind of one of them, each behind a space.
+fn write_refused<W: Sink>(out: &mut W, name: &[u8], refusal: &CopyRefusal) -> Result<(), Failed>
+    ensures { WritesText (W.written out.old) (W.fault_count out.old) (shown_text ([], refused_values name.now refusal.now))
+        (is_ok result) (W.written out.new) (W.fault_count out.new) }
+{
+    let kind = refusal.kind().as_bytes();
+    write_kind(out, "", &[Shown::Text(name), Shown::Text(kind)])
 }
 
 // Writes a line of two parts.

@@ -12,6 +12,7 @@ ghost use Rattle.lvm_cli.specs.Runs.{RunsWords, names_of};
 
 use crate::commands::pvck::run_pvck;
 use crate::commands::pvcreate::run_pvcreate;
+use crate::commands::vgcfgbackup::run_vgcfgbackup;
 use crate::ending::Ending;
 use crate::gate::Gate;
 use crate::outcome::Outcome;
@@ -32,7 +33,7 @@ pub struct Ended<S> {
 
 /// Runs the program's words. Where they name disks, `shelf` has these in that order, each of 8 to 2^40 sectors, with nothing
 /// in flight. The output goes to `out`, the ids of what is created are drawn from `ids`, and `now` is the time in seconds.
-/// No command that has a meaning so far reads `script`, uses `now` or starts a thread.
+/// No command that has a meaning so far reads `script` or starts a thread.
 pub fn lvm_run<
     T: Threads + Wait + Sync,
     S: Shelf + Send,
@@ -57,7 +58,7 @@ pub fn lvm_run<
     // The run comes to an outcome by what is said of its words, and the output and the status are the outcome's, unless the
     // sink failed.
     ensures run { (outcome : OutcomeRecord)
-        × RunsWords (words_of words.now.items) (N.upcoming ids.old) (S.state shelf) outcome (N.upcoming ids.new) (S.state result.shelf)
+        × RunsWords (words_of words.now.items) now (N.upcoming ids.old) (S.state shelf) outcome (N.upcoming ids.new) (S.state result.shelf)
         × Ends (names_of (words_of words.now.items)) outcome result.status (W.written out.old) (W.fault_count out.old) (W.written out.new) (W.fault_count out.new) }
 
     // The source is left as it was.
@@ -66,24 +67,26 @@ pub fn lvm_run<
 {
     let _ = script;
     let mut shelf = shelf;
-    let (outcome, names) = run_words(alloc, words, &mut shelf, ids);
+    let (outcome, names) = run_words(alloc, words, &mut shelf, ids, now);
     let status = outcome.print(out, &names);
     Ended { status, shelf }
 }
 
-// Runs the words, and gives the names of the disks as far as the outcome prints them.
+// Runs the words at this time, and gives the names of the disks as far as the outcome prints them.
 fn run_words<S: Shelf, N: Words64>(
     alloc: Global,
     words: &[String],
     shelf: &mut S,
     ids: &mut N,
+    now: u64,
 ) -> (Outcome, DiskNames)
-    requires { HasDisks (words_of words.now) (S.state shelf.old) }
-    ensures run { RunsWords (words_of words.now) (N.upcoming ids.old) (S.state shelf.old) result.0 (N.upcoming ids.new) (S.state shelf.new) }
+    requires disks { HasDisks (words_of words.now) (S.state shelf.old) }
+    requires time { now < 2 ^ 48 }
+    ensures run { RunsWords (words_of words.now) now (N.upcoming ids.old) (S.state shelf.old) result.0 (N.upcoming ids.new) (S.state shelf.new) }
     ensures output { output_of result.1 result.0 ≡ output_of (names_of (words_of words.now)) result.0 }
 {
     match read_words(alloc, words, ids) {
-        Ok(Asked { names, line }) => (run_line(alloc, shelf, &names, line), names),
+        Ok(Asked { names, line }) => (run_line(alloc, shelf, &names, line, now), names),
         Err(WordsRefusal::NoMeaning) => (Outcome::Ended(Ending::WordsRefused), no_names(alloc)),
         Err(WordsRefusal::NoMemory) => (Outcome::Ended(Ending::NoMemory), no_names(alloc)),
     }
@@ -95,12 +98,18 @@ fn no_names(alloc: Global) -> DiskNames
     DiskNames::from_vec(Vec::new(alloc))
 }
 
-// Does what the line asks for on the one disk.
-fn run_line<S: Shelf>(alloc: Global, shelf: &mut S, names: &DiskNames, line: Line) -> Outcome
+// Does what the line asks for on the one disk, at this time.
+fn run_line<S: Shelf>(
+    alloc: Global,
+    shelf: &mut S,
+    names: &DiskNames,
+    line: Line,
+    now: u64,
+) -> Outcome
     requires disks { AreDisks 1 (S.state shelf.old) }
     requires names { length names.now ≡ 1 }
     requires drawn { is_some line.id ≡ draws line.command }
-    ensures { Meets (spec_of line.command) (record { names = names.now; sizes = (S.state shelf.old).sizes; id = line.id })
+    ensures { Meets (spec_of line.command) (record { names = names.now; sizes = (S.state shelf.old).sizes; id = line.id; now = now })
         (S.state shelf.old) result (S.state shelf.new) }
 {
     let Line {
@@ -117,5 +126,6 @@ fn run_line<S: Shelf>(alloc: Global, shelf: &mut S, names: &DiskNames, line: Lin
             None => unreachable!(),
         },
         Command::Pvck { pv } => run_pvck(alloc, shelf, names, pv),
+        Command::Vgcfgbackup { vg } => run_vgcfgbackup(alloc, shelf, names, vg, now),
     }
 }

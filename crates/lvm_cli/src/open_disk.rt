@@ -1,11 +1,11 @@
 //! The disk is flushed and looked at, before a command changes something.
-ghost use Rattle.std.specs.Prelude.{◌≡◌, ◌≤◌, ◌<◌, ◌↔◌, ℕ, length, slice_index_or, [], IsTrue, IfSome, MatchResult, is_ok, Any};
+ghost use Rattle.std.specs.Prelude.{◌≡◌, ◌≤◌, ◌<◌, ◌↔◌, ℕ, length, slice_index_or, [], IsTrue, MatchResult, is_ok, Any};
 ghost use Rattle.disk_model.specs.Faults.{HasSameFaults};
 ghost use Rattle.disk_model.specs.Idle.{SpendsAtMost};
 ghost use Rattle.disk_model.specs.Since.{BetweenTold};
 ghost use Rattle.pv_label.specs.Label.{BeginsLikeLabel};
 ghost use Rattle.lvm_cli.specs.Disks.{AreDisks};
-ghost use Rattle.lvm_cli.specs.Scan.{HasNoLabels, IsOpenCause, OpensDisks};
+ghost use Rattle.lvm_cli.specs.Scan.{HasNoLabels, HoldsNow, IsOpenCause, OpensDisks};
 
 use crate::ending::{Ending, ScanRefusal};
 use disk_model::{Shelf, flush, read_span};
@@ -19,7 +19,7 @@ pub fn open_disk<S: Shelf>(shelf: &mut S, buffer: Sectors) -> Result<(), Ending>
     requires ops { 2 ≤ (S.state shelf.old).spare_ops }
     requires sectors { 4 ≤ (S.state shelf.old).spare_sectors }
     ensures spends { SpendsAtMost (S.state shelf.old) 2 4 (S.state shelf.new) }
-    ensures cause { MatchResult result (λ _. HasSameFaults (S.state shelf.old) (S.state shelf.new) × IfSome (S.state shelf.old).told (HasNoLabels 1))
+    ensures cause { MatchResult result (λ _. HasSameFaults (S.state shelf.old) (S.state shelf.new) × HoldsNow (S.state shelf.old).told (HasNoLabels 1))
         (IsOpenCause (S.state shelf.old) (S.state shelf.new)) }
     ensures told { BetweenTold (λ old new. OpensDisks 1 old (is_ok result) new) (S.state shelf.old).told (S.state shelf.new).told }
 {

@@ -17,6 +17,8 @@ use std::sync::Wait;
 use std::test::Fail;
 use std::thread::Threads;
 
+mod backups;
+
 /// Creates a physical volume without a metadata area.
 const PVCREATE: [&str; 6] = ["-d", "a", "pvcreate", "--metadatacopies", "0", "a"];
 

@@ -1,23 +1,24 @@
 -- pvck(8) of one disk: its report.
-use Rattle.std.specs.Prelude.{◌≡◌, false, List, [], ◌∷◌}
+use Rattle.std.specs.Prelude.{◌≡◌, false, List, [], ◌∷◌, None}
 use Rattle.pv_header.specs.declared.extent_list.Extent.{Extent}
 use Rattle.pv_label.specs.LabelSectors.{label_span}
-use Rattle.lvm_report.specs.Reads.{AreAreasOf, area_spans}
+use Rattle.vg_scan.specs.Reads.{AreAreasOf, area_spans}
 use Rattle.lvm_report.specs.Report.{IsReport}
 use Rattle.lvm_script.specs.Lines.{changes}
 use Rattle.lvm_script.specs.Options.{Word}
 use Rattle.lvm_script.specs.declared.command.Command.TheVariants as command
-use Rattle.lvm_cli.specs.CommandSpec.{CommandSpec, number_in, size_in, unknown_pv}
+use Rattle.lvm_cli.specs.CommandSpec.{CommandSpec, Finds, number_in, size_in, unknown_pv}
 
 -- it reads the sectors where the label may be, and then the header sector of each metadata area
 abbrev pub pvck : Word → CommandSpec
 pvck pv = record {
   flushes = changes (command.Pvck pv);
   scans = false;
-  rows = λ context. unknown_pv context pv ∷ [];
+  scan = λ context image scanned. scanned ≡ Finds None;
+  rows = λ context found. unknown_pv context pv ∷ [];
   change = λ context puts. puts ≡ [];
   reads = λ context image spans. (areas : List Extent) × AreAreasOf (image (number_in context pv)) (size_in context pv) areas
       × (spans ≡ label_span (number_in context pv) ∷ area_spans (number_in context pv) areas);
   finds = λ context image. ⊥;
-  reports = λ context image text. IsReport (image (number_in context pv)) (size_in context pv) text;
+  reports = λ context found image text. IsReport (image (number_in context pv)) (size_in context pv) text;
 }

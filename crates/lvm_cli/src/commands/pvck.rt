@@ -7,16 +7,17 @@ ghost use Rattle.lvm_cli.specs.Meets.{Meets};
 use crate::ending::Ending;
 use crate::outcome::Outcome;
 use disk_model::Shelf;
-use lvm_report::{PvckRefusal, pvck};
+use lvm_report::pvck;
 use lvm_script::{Answer, DiskNames, OpRefusal};
 use sector_base::Text;
 use std::alloc::Global;
+use vg_scan::ReadRefusal;
 
 /// Reports what stands on the disk that the line calls `pv`. It submits reads alone.
 pub fn run_pvck<S: Shelf>(alloc: Global, shelf: &mut S, names: &DiskNames, pv: Text) -> Outcome
     requires disks { AreDisks 1 (S.state shelf.old) }
     requires names { length names.now ≡ 1 }
-    ensures { (id : Option (List ℕ)) → Meets (pvck pv) (record { names = names.now; sizes = (S.state shelf.old).sizes; id = id })
+    ensures { (id : Option (List ℕ)) (now : ℕ) → Meets (pvck pv) (record { names = names.now; sizes = (S.state shelf.old).sizes; id = id; now = now })
         (S.state shelf.old) result (S.state shelf.new) }
 {
     let Some(disk) = names.number_of(pv.as_bytes()) else {
@@ -24,7 +25,7 @@ pub fn run_pvck<S: Shelf>(alloc: Global, shelf: &mut S, names: &DiskNames, pv: T
     };
     match pvck(alloc, shelf, disk) {
         Ok(text) => Outcome::Reported(text),
-        Err(PvckRefusal::ReadFailed(fault)) => Outcome::Ended(Ending::ScanReadFailed(fault.pv)),
-        Err(PvckRefusal::NoMemory) => Outcome::Ended(Ending::NoMemory),
+        Err(ReadRefusal::ReadFailed(fault)) => Outcome::Ended(Ending::ScanReadFailed(fault.pv)),
+        Err(ReadRefusal::NoMemory) => Outcome::Ended(Ending::NoMemory),
     }
 }

@@ -1,5 +1,5 @@
 //! pvcreate: a new physical volume.
-ghost use Rattle.std.specs.Prelude.{◌≡◌, ◌≤◌, ◌<◌, ◌^◌, ℕ, [], length, slice_index_or, Some, is_ok, MatchResult, IfOk, OnErr, OnOk};
+ghost use Rattle.std.specs.Prelude.{◌≡◌, ◌≤◌, ◌<◌, ◌^◌, ℕ, [], length, slice_index_or, None, Some, is_ok, MatchResult, IfOk, OnErr, OnOk};
 ghost use Rattle.disk_model.specs.Calls.{Reserves};
 ghost use Rattle.disk_model.specs.Faults.{HasSameFaults};
 ghost use Rattle.disk_model.specs.Idle.{IsIdleAgain};
@@ -41,7 +41,7 @@ pub fn run_pvcreate<S: Shelf>(
 ) -> Outcome
     requires disks { AreDisks 1 (S.state shelf.old) }
     requires names { length names.now ≡ 1 }
-    ensures { Meets (pvcreate pv metadata_copies) (record { names = names.now; sizes = (S.state shelf.old).sizes; id = Some id })
+    ensures { (now : ℕ) → Meets (pvcreate pv metadata_copies) (record { names = names.now; sizes = (S.state shelf.old).sizes; id = Some id; now = now })
         (S.state shelf.old) result (S.state shelf.new) }
 {
     let disk = names.number_of(pv.as_bytes()).unwrap_or(0);
@@ -88,7 +88,7 @@ fn prepare<S: Shelf>(
 fn refusal(names: &DiskNames, sectors: u64, pv: Text) -> Option<OpRefusal>
     requires { length names.now ≤ 64 }
     ensures { (context : Context) (metadata_copies : ℕ) → context.names ≡ names.now → size_in context pv ≡ sectors
-        → result ≡ refusal_of ((pvcreate pv metadata_copies).rows context) }
+        → result ≡ refusal_of ((pvcreate pv metadata_copies).rows context None) }
 {
     if names.number_of(pv.as_bytes()).is_none() {
         return Some(OpRefusal::UnknownPv(pv));

@@ -16,7 +16,7 @@ returns-clause-run g c =
     let outcome = c.run_words-outcome.result.0 in
     let words_are = c.deref.ensures.value in (
       outcome,
-      subst (λ (w : List (String _)). RunsWords (words_of w) (g.N.Words64.upcoming c.args.ids.now) (g.S.Shelf.state c.args.shelf) outcome (g.N.Words64.upcoming c.run_words-outcome.new.ids) (g.S.Shelf.state c.run_words-outcome.new.shelf))
+      subst (λ (w : List (String _)). RunsWords (words_of w) c.args.now (g.N.Words64.upcoming c.args.ids.now) (g.S.Shelf.state c.args.shelf) outcome (g.N.Words64.upcoming c.run_words-outcome.new.ids) (g.S.Shelf.state c.run_words-outcome.new.shelf))
           words_are c.run_words-outcome.ensures.run,
       ends_alike c.run_words-outcome.result.1 (names_of (words_of c.args.words.now.items)) outcome c.print-status.result _ _ _ _
           (c.run_words-outcome.ensures.output ∙ ap (λ (w : List (String _)). output_of (names_of (words_of w)) outcome) words_are) c.print-status.ensures,

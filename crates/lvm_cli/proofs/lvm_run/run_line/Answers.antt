@@ -1,4 +1,10 @@
 use Rattle.lvm_cli.proofs.lvm_run.run_line.Goals as goal
 
 pub returns-in-Pvck : goal.returns-in-Pvck
-returns-in-Pvck g c = rw c.in-Pvck.is (c.run_pvck.ensures c.args.line.id)
+returns-in-Pvck g c = rw c.in-Pvck.is (c.run_pvck.ensures c.args.line.id c.args.now)
+
+pub returns-in-Vgcfgbackup : goal.returns-in-Vgcfgbackup
+returns-in-Vgcfgbackup g c = rw c.in-Vgcfgbackup.is (c.run_vgcfgbackup.ensures c.args.line.id)
+
+pub returns-in-Some : goal.returns-in-Some
+returns-in-Some g c = rw (c.in-Pvcreate.is, c.in-Some.is) (c.run_pvcreate.ensures c.args.now)
