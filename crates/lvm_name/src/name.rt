@@ -117,6 +117,13 @@ impl VolumeName {
         }
     }
 
+    /// Whether a text is such a name that users may give.
+    pub fn accepts(text: &[u8]) -> bool
+        ensures { result ≡ is_none (volume_name_refusal text.now) }
+    {
+        refusal_of(text, is_reserved_for_lvm(text)).is_none()
+    }
+
     /// The name with these bytes, as it stands in a text. None is reserved.
     ///
     /// # Errors
