@@ -1,6 +1,15 @@
 pub mod Counts
+pub mod DrawnLines
 pub mod GivenValues
+pub mod HexDigits
+pub mod ItemsWritten
+pub mod LineWords
+pub mod Lines
 pub mod NamesFound
+pub mod Numbered
 pub mod Numbers
+pub mod Refused
+pub mod ScriptLines
+pub mod SourceText
 pub mod TextsWritten
 pub mod Written

@@ -1,6 +1,9 @@
 -- The number of a word, as `parse` reads it.
 use Rattle.std.proofs.Common.{◌≡◌, ◌<◌, ◌^◌, ◌==◌, ℕ, not, true, false, nat_lt, nat_le, List, [], ◌∷◌, length, Some, None, Result, Ok, Err, refl, ap, sym, subst, inl, inr, ◌⊎◌, arith, lt-ltb, ltb-true, leb-true}
 use Rattle.std.proofs.lemmas.Bool.{and_parts, cases_Bool, true≢false, ne_eqb}
+use Rattle.std.proofs.lemmas.Str.{IsUtf8-from_ascii}
+use Rattle.std.proofs.lemmas.Str.Ascii.{IsAscii-cons, IsAscii-nil}
+use Rattle.std.specs.Str.{IsAscii, IsUtf8}
 use Rattle.std.specs.List.{list_all}
 use Rattle.std.specs.Result.{OkIff, result_ok}
 use Rattle.std.specs.Str.Parse.{AllDigits, IsNumeral, ParsesUnsigned, digits_value, without_leading_plus}
@@ -41,3 +44,15 @@ parsed_number ds r numeral parses =
     let both = and_parts (not (length ds == 0)) (list_all is_digit ds) numeral in
     parsed ds r numeral (some_length ds both.0, all_digits ds both.1)
     (subst (λ text. OkIff r (IsNumeral 10 text × (digits_value 10 text < 2 ^ 64)) (digits_value 10 text)) (no_plus ds both.1) parses)
+
+ascii : (ds : List ℕ) → list_all is_digit ds ≡ true → IsAscii ds
+ascii [] all = IsAscii-nil
+ascii (d ∷ ds) all =
+    let both = and_parts (is_digit d) (list_all is_digit ds) all in
+    let here = and_parts (nat_le 48 d) (nat_le d 57) both.0 in
+    let most = leb-true d 57 here.1 in
+    IsAscii-cons d ds (omega (arith, most)) (ascii ds both.1)
+
+-- digits are a text
+pub is_text : (ds : List ℕ) → is_numeral ds ≡ true → IsUtf8 ds
+is_text ds numeral = IsUtf8-from_ascii ds (ascii ds (and_parts (not (length ds == 0)) (list_all is_digit ds) numeral).1)

@@ -3,6 +3,7 @@ pub mod Lines
 pub mod Meaning
 pub mod Memory
 pub mod Options
+pub mod Script
 pub mod Streams
 pub mod Table
 pub mod Values

@@ -1,10 +1,13 @@
 -- How the words after a command's name are read: from left to right, each by those before it.
-use Rattle.std.specs.Prelude.{ℕ, Bool, ◌==◌, if◌then◌else◌, List, [], ◌∷◌, ◌++◌, map, length, Option, Some, None, find, fold}
+use Rattle.std.specs.Prelude.{ℕ, ◌+◌, Bool, ◌==◌, if◌then◌else◌, List, [], ◌∷◌, ◌++◌, map, length, Option, Some, None, codes, find, fold}
 use Rattle.std.specs.List.{list_any}
+use Rattle.std.specs.Borrow.{Bor}
 use Rattle.std.specs.Option.{option_and_then}
 use Rattle.lvm_script.specs.declared.fault.Fault.{Fault}
-use Rattle.lvm_script.specs.declared.fault.Fault.TheVariants.{BadOption}
+use Rattle.lvm_script.specs.declared.fault.Fault.TheVariants.{BadOption, BadNumber, BadCount, BadName, BadHex}
 use Rattle.lvm_script.specs.declared.command_name.CommandName.{CommandName}
+use Rattle.lvm_script.specs.declared.kind.Kind.{Kind}
+use Rattle.lvm_script.specs.declared.kind.Kind.TheVariants.{Flag}
 use Rattle.lvm_script.specs.declared.option_key.OptionKey.{OptionKey}
 use Rattle.lvm_script.specs.declared.reading.Reading.{Reading}
 use Rattle.lvm_script.specs.declared.role.Role.{Role}
@@ -14,8 +17,8 @@ use Rattle.lvm_script.specs.Options.{Word, is_dashed, is_key, spells}
 use Rattle.lvm_script.specs.Table.{argument_of, options_of}
 use Rattle.lvm_script.specs.Values.{fault_in}
 
--- the words so far, taken apart: the options, those of them that have their value, the option whose value the next word
--- is, and the arguments
+-- the words so far, taken apart: the options, those of them that have their value (an option that takes none has the empty
+-- word), the option whose value the next word is, and the arguments
 pub record Split : Type 0 where
   pub seen : List OptionKey
   pub given : List (OptionKey × Word)
@@ -34,10 +37,18 @@ option_named rows word = find (λ row. spells row.key word) rows
 abbrev pub has_key : List OptionKey → OptionKey → Bool
 has_key keys key = list_any (λ k. is_key k key) keys
 
+-- an option that did not stand before: its value follows, if it takes one
+abbrev pub role_of_row : OptionRow → Role
+role_of_row row = by row.kind
+  where
+    by : Kind → Role
+    by Flag = role.Flag row.key
+    by kind = role.Option row
+
 -- a word that begins with `-`: the option of the command that it is, where that did not stand before; and else it has no place
 abbrev pub role_of_option : Split → Option OptionRow → Role
 role_of_option split None = role.Stray
-role_of_option split (Some row) = if has_key split.seen row.key then role.Stray else role.Option row
+role_of_option split (Some row) = if has_key split.seen row.key then role.Stray else role_of_row row
 
 -- another word: the value of the option that waits for one, and else the next argument
 abbrev pub role_of_other : Split → Option OptionRow → Role
@@ -53,6 +64,7 @@ role_of rows split word = if is_dashed word then role_of_option split (option_na
 abbrev pub after_role : Split → Word → Role → Split
 after_role split word role.Stray = record split { waiting = None }
 after_role split word (role.Option row) = record split { seen = split.seen ++ row.key ∷ []; waiting = Some row }
+after_role split word (role.Flag key) = record split { seen = split.seen ++ key ∷ []; given = split.given ++ (key, []) ∷ []; waiting = None }
 after_role split word (role.Value row) = record split { given = split.given ++ (row.key, word) ∷ []; waiting = None }
 after_role split word (role.Argument number) = record split { arguments = split.arguments ++ word ∷ [] }
 
@@ -64,6 +76,7 @@ is_complete split = length split.seen == length split.given
 abbrev pub fault_of : CommandName → Word → Role → Option Fault
 fault_of name word role.Stray = Some BadOption
 fault_of name word (role.Option row) = None
+fault_of name word (role.Flag key) = None
 fault_of name word (role.Value row) = fault_in row.kind word
 fault_of name word (role.Argument number) = option_and_then (λ k. fault_in k word) (argument_of name number)
 
@@ -93,9 +106,14 @@ after_word name read word = record {
 abbrev pub read : CommandName → List (Word × ℕ) → Read
 read name words = fold (after_word name) nothing_read words
 
--- the words of a command line, which have no places
-abbrev pub without_places : List Word → List (Word × ℕ)
-without_places = map (λ word. (word, 0))
+-- words with their numbers, from this one on
+abbrev pub numbered_from : ℕ → List Word → List (Word × ℕ)
+numbered_from number [] = []
+numbered_from number (word ∷ words) = (word, number) ∷ numbered_from (number + 1) words
+
+-- the words that the code holds, with their places
+abbrev pub placed : List (Bor Word × ℕ) → List (Word × ℕ)
+placed words = map (λ pair. (pair.0.now, pair.1)) words
 
 -- what the code holds of the words
 abbrev pub split_by : Reading → Split
@@ -109,3 +127,11 @@ split_by reading = record {
 -- what the code holds of the words, with the first fault of them
 abbrev pub read_by : Reading → Read
 read_by reading = record { split = split_by reading; fault = reading.fault }
+
+-- the word that a fault prints as
+abbrev pub fault_word : Fault → Word
+fault_word BadOption = codes "BadOption"
+fault_word BadNumber = codes "BadNumber"
+fault_word BadCount = codes "BadCount"
+fault_word BadName = codes "BadName"
+fault_word BadHex = codes "BadHex"

@@ -1,46 +1,142 @@
-//! From the words to the command.
-ghost use Rattle.std.specs.Prelude.{◌≡◌, ◌⊎◌, Err, IfErr, IfOk, Ok, find, option_map};
-ghost use Rattle.std.specs.String.{string_bytes};
-ghost use Rattle.lvm_script.specs.Meaning.{command_of, meaning_of, meaning_of_words, number, pvck, pvcreate, value, vgcfgbackup};
-ghost use Rattle.lvm_script.specs.Options.{is_key, words_of};
-ghost use Rattle.lvm_script.specs.Words.{read, read_by, split_by, without_places};
+//! From the words to what they ask for.
+ghost use Rattle.std.specs.Prelude.{◌≡◌, ◌⊎◌, Err, IfErr, IfOk, Ok};
+ghost use Rattle.lvm_script.specs.Meaning.{command_by_name, command_of, demo, given_by, meaning_of, narrow, request_by_name, session, session_on, workers_in};
+ghost use Rattle.lvm_script.specs.Options.{words_in};
+ghost use Rattle.lvm_script.specs.Words.{placed, read, read_by, split_by};
 
+use crate::given::Given;
 use crate::reading::Reading;
 use crate::refusal::CommandRefusal;
 use crate::values::number_of;
-use crate::{Command, CommandName, OptionKey};
+use crate::{Command, CommandName, OptionKey, Request, commands};
+use lvm_name::{GroupName, NameRefusal};
 use sector_base::Text;
 use std::alloc::{AllocError, Global};
 
-/// The command that these words of a command line mean, the first of which is its name. `None` is that they have no
-/// meaning. Only memory can be wanting.
-pub fn command_of_words(alloc: Global, words: &[String]) -> Result<Option<Command>, AllocError>
-    ensures { IfOk result (λ command. command ≡ meaning_of_words (words_of words.now)) }
+/// The command of this name with these options and arguments. None where they are too few or too many or don't go together,
+/// and for a session and the demo.
+pub(crate) fn command_by_name(
+    alloc: Global,
+    name: CommandName,
+    given: &Given,
+    arguments: &[&[u8]],
+) -> Result<Option<Command>, AllocError>
+    ensures { IfOk result (λ command. command ≡ command_by_name name (given_by given.now) (words_in arguments.now)) }
 {
-    let [first, rest @ ..] = words else {
+    match name {
+        CommandName::Pvcreate => commands::pvcreate(alloc, given, arguments),
+        CommandName::Pvmove => commands::pvmove(alloc, given, arguments),
+        CommandName::Pvck => commands::pvck(alloc, arguments),
+        CommandName::Pvs => Ok(commands::alone(Command::Pvs, arguments)),
+        CommandName::Vgcreate => commands::vgcreate(alloc, given, arguments),
+        CommandName::Vgextend => commands::vgextend(alloc, arguments),
+        CommandName::Vgreduce => commands::vgreduce(alloc, arguments),
+        CommandName::Vgremove => commands::vgremove(alloc, arguments),
+        CommandName::Vgrename => commands::vgrename(alloc, arguments),
+        CommandName::Vgcfgbackup => commands::vgcfgbackup(alloc, arguments),
+        CommandName::Vgcfgrestore => commands::vgcfgrestore(alloc, arguments),
+        CommandName::Vgck => Ok(commands::alone(Command::Vgck, arguments)),
+        CommandName::Vgs => Ok(commands::alone(Command::Vgs, arguments)),
+        CommandName::Lvcreate => commands::lvcreate(alloc, given, arguments),
+        CommandName::Lvextend => commands::lvextend(alloc, given, arguments),
+        CommandName::Lvreduce => commands::lvreduce(alloc, given, arguments),
+        CommandName::Lvremove => commands::lvremove(alloc, arguments),
+        CommandName::Lvrename => commands::lvrename(alloc, arguments),
+        CommandName::Lvs => Ok(commands::alone(Command::Lvs, arguments)),
+        CommandName::Session | CommandName::Demo => Ok(None),
+        CommandName::Read => commands::read(alloc, arguments),
+        CommandName::Fill => commands::fill(alloc, arguments),
+        CommandName::Write => commands::write(alloc, arguments),
+        CommandName::List => Ok(commands::alone(Command::List, arguments)),
+        CommandName::Wait => Ok(commands::alone(Command::Wait, arguments)),
+        CommandName::Resync => commands::resync(alloc, arguments),
+    }
+}
+
+/// What the words of this name ask for, with these options and arguments, each of which is what it has to be. `None` is that
+/// they are too few or too many or don't go together. Only memory can be wanting.
+pub fn request_by_name(
+    alloc: Global,
+    name: CommandName,
+    given: &Given,
+    arguments: &[&[u8]],
+) -> Result<Option<Request>, AllocError>
+    ensures { IfOk result (λ request. request ≡ request_by_name name (given_by given.now) (words_in arguments.now)) }
+{
+    match name {
+        CommandName::Session => session(alloc, given, arguments),
+        CommandName::Demo => Ok(demo(arguments)),
+        _ => match command_by_name(alloc, name, given, arguments)? {
+            Some(command) => Ok(Some(Request::One(command))),
+            None => Ok(None),
+        },
+    }
+}
+
+fn session(alloc: Global, given: &Given, arguments: &[&[u8]]) -> Result<Option<Request>, AllocError>
+    ensures { IfOk result (λ request. request ≡ session (given_by given.now) (words_in arguments.now)) }
+{
+    match commands::one_word(alloc, arguments)? {
+        Some(vg) => session_on(alloc, workers_in(given), &vg),
+        None => Ok(None),
+    }
+}
+
+// How many workers are to run.
+fn workers_in(given: &Given) -> Option<u32>
+    ensures { result ≡ workers_in (given_by given.now) }
+{
+    narrow(given.number(OptionKey::Workers)?)
+}
+
+// A session with so many workers on the group of this name.
+fn session_on(alloc: Global, workers: Option<u32>, vg: &Text) -> Result<Option<Request>, AllocError>
+    ensures { IfOk result (λ request. request ≡ session_on workers vg.now) }
+{
+    let Some(workers) = workers else {
         return Ok(None);
     };
-    let Some(name) = CommandName::named(first.as_str()) else {
-        return Ok(None);
-    };
-    match read_command(alloc, name, rest) {
-        Ok(command) => Ok(Some(command)),
-        Err(CommandRefusal::NoMemory) => Err(AllocError),
+    match GroupName::new(alloc, vg.as_bytes()) {
+        Ok(group) => Ok(Some(Request::Session { group, workers })),
+        Err(NameRefusal::NoMemory) => Err(AllocError),
         Err(_) => Ok(None),
     }
 }
 
-// The command of these words, which stand after its name, or the first refusal.
-fn read_command(
+fn demo(arguments: &[&[u8]]) -> Option<Request>
+    ensures { result ≡ demo (words_in arguments.now) }
+{
+    let [seed, lines, workers] = arguments else {
+        return None;
+    };
+    Some(Request::Demo {
+        seed: number_of(seed)?,
+        lines: number_of(lines)?,
+        workers: narrow(number_of(workers)?)?,
+    })
+}
+
+// The number, where it fits 32 bits.
+fn narrow(number: u64) -> Option<u32>
+    ensures { result ≡ narrow number }
+{
+    match u32::try_from(number) {
+        Ok(narrow) => Some(narrow),
+        Err(_) => None,
+    }
+}
+
+/// The command of these words with their places, which stand after its name, or the first refusal.
+pub(crate) fn read_command(
     alloc: Global,
     name: CommandName,
-    words: &[String],
+    words: &[(&[u8], u64)],
 ) -> Result<Command, CommandRefusal>
-    ensures ok { IfOk result (λ command. meaning_of name (without_places (words_of words.now)) ≡ Ok command) }
+    ensures ok { IfOk result (λ command. meaning_of name (placed words.now) ≡ Ok command) }
     ensures err { IfErr result (λ refusal. (refusal ≡ CommandRefusal.NoMemory)
-        ⊎ (meaning_of name (without_places (words_of words.now)) ≡ Err refusal)) }
+        ⊎ (meaning_of name (placed words.now) ≡ Err refusal)) }
 {
-    let Ok(reading) = read_words(alloc, name, words) else {
+    let Ok(reading) = read_placed(alloc, name, words) else {
         return Err(CommandRefusal::NoMemory);
     };
     if let Some((fault, place)) = reading.fault {
@@ -53,17 +149,17 @@ fn read_command(
     }
 }
 
-// The words, read from left to right.
-fn read_words<'a>(
+// The words with their places, read from left to right.
+fn read_placed<'a>(
     alloc: Global,
     name: CommandName,
-    words: &'a [String],
+    words: &[(&'a [u8], u64)],
 ) -> Result<Reading<'a>, AllocError>
-    ensures { IfOk result (λ reading. read_by reading ≡ read name (without_places (words_of words.now))) }
+    ensures { IfOk result (λ reading. read_by reading ≡ read name (placed words.now)) }
 {
     let mut reading = Reading::new(alloc);
-    for word in words {
-        reading.take(name, word.as_str(), 0)?;
+    for (word, place) in words {
+        reading.take(name, word, *place)?;
     }
     Ok(reading)
 }
@@ -76,77 +172,13 @@ fn command_of(
 ) -> Result<Option<Command>, AllocError>
     ensures { IfOk result (λ command. command ≡ command_of name (split_by reading.now)) }
 {
-    if reading.seen.len() != reading.given.len() {
+    if !reading.is_complete() {
         return Ok(None);
     }
-    match name {
-        CommandName::Pvcreate => pvcreate(alloc, reading),
-        CommandName::Pvck => pvck(alloc, reading),
-        CommandName::Vgcfgbackup => vgcfgbackup(alloc, reading),
-    }
-}
-
-fn pvcreate(alloc: Global, reading: &Reading) -> Result<Option<Command>, AllocError>
-    ensures { IfOk result (λ command. command ≡ pvcreate (split_by reading.now) (split_by reading.now).arguments) }
-{
-    match reading.arguments.as_slice() {
-        [pv] => Ok(Some(Command::Pvcreate {
-            pv: text_of(alloc, pv)?,
-            metadata_copies: number(reading, OptionKey::MetadataCopies).unwrap_or(1),
-        })),
-        _ => Ok(None),
-    }
-}
-
-fn pvck(alloc: Global, reading: &Reading) -> Result<Option<Command>, AllocError>
-    ensures { IfOk result (λ command. command ≡ pvck (split_by reading.now).arguments) }
-{
-    match reading.arguments.as_slice() {
-        [pv] => Ok(Some(Command::Pvck {
-            pv: text_of(alloc, pv)?,
-        })),
-        _ => Ok(None),
-    }
-}
-
-fn vgcfgbackup(alloc: Global, reading: &Reading) -> Result<Option<Command>, AllocError>
-    ensures { IfOk result (λ command. command ≡ vgcfgbackup (split_by reading.now).arguments) }
-{
-    match reading.arguments.as_slice() {
-        [vg] => Ok(Some(Command::Vgcfgbackup {
-            vg: text_of(alloc, vg)?,
-        })),
-        _ => Ok(None),
-    }
-}
-
-// The bytes of a word.
-fn text_of(alloc: Global, word: &str) -> Result<Text, AllocError>
-    ensures { IfOk result (λ text. text ≡ word.now) }
-{
-    Ok(Text::from_vec(Vec::from_slice(alloc, word.as_bytes())?))
-}
-
-// The value of an option.
-fn value<'a>(reading: &Reading<'a>, key: OptionKey) -> Option<&'a str>
-    ensures { option_map (λ word. word.now) result ≡ value (split_by reading.now) key }
-{
-    match pair_of(&reading.given, key) {
-        Some(pair) => Some(pair.1),
-        None => None,
-    }
-}
-
-// The first of the pairs with this option.
-fn pair_of<'a>(pairs: &[(OptionKey, &'a str)], key: OptionKey) -> Option<(OptionKey, &'a str)>
-    ensures { result ≡ find (λ pair. is_key pair.0 key) pairs.now }
-{
-    pairs.iter().copied().find(|pair| pair.0.is(key))
-}
-
-// The number that is the value of an option.
-fn number(reading: &Reading, key: OptionKey) -> Option<u64>
-    ensures { result ≡ number (split_by reading.now) key }
-{
-    number_of(value(reading, key)?)
+    command_by_name(
+        alloc,
+        name,
+        &reading.options(),
+        reading.arguments.as_slice(),
+    )
 }

@@ -1,11 +1,13 @@
 //! Reading the words of a command from left to right.
 ghost use Rattle.std.specs.Prelude.{◌≡◌, OnOk};
-ghost use Rattle.lvm_script.specs.Words.{after_role, after_word, fault_of, first_fault, has_key, nothing_read, option_named, read_by, role_of, split_by};
+ghost use Rattle.lvm_script.specs.Words.{after_role, after_word, fault_of, first_fault, has_key, is_complete, nothing_read, option_named, read_by, role_of, role_of_row, split_by};
+ghost use Rattle.lvm_script.specs.Meaning.{given_by, value_in};
 ghost use Rattle.lvm_script.specs.Table.{options_of};
 
+use crate::given::Given;
 use crate::role::Role;
 use crate::values::fault_in;
-use crate::{CommandName, Fault, OptionKey, OptionRow};
+use crate::{CommandName, Fault, Kind, OptionKey, OptionRow};
 use std::alloc::{AllocError, Global};
 
 /// The words of a command so far, taken apart, and the first of them that is faulty.
@@ -14,10 +16,10 @@ pub struct Reading<'a> {
     /// The options so far.
     pub seen: Vec<OptionKey>,
     /// Those of them that have their value.
-    pub given: Vec<(OptionKey, &'a str)>,
+    pub given: Vec<(OptionKey, &'a [u8])>,
     /// The option whose value the next word is.
     pub waiting: Option<OptionRow>,
-    pub arguments: Vec<&'a str>,
+    pub arguments: Vec<&'a [u8]>,
     /// The first fault, and the place of its word.
     pub fault: Option<(Fault, u64)>,
 }
@@ -37,12 +39,12 @@ impl<'a> Reading<'a> {
     }
 
     // What the next word is.
-    fn role(&self, name: CommandName, word: &str) -> Role
+    fn role(&self, name: CommandName, word: &[u8]) -> Role
         ensures { result ≡ role_of (options_of name) (split_by self.now) word.now }
     {
-        if word.as_bytes().first() == Some(&b'-') {
+        if word.first() == Some(&b'-') {
             match option_named(name.options(), word) {
-                Some(row) if !self.has_seen(row.key) => Role::Option(row),
+                Some(row) if !self.has_seen(row.key) => role_of_row(row),
                 _ => Role::Stray,
             }
         } else {
@@ -60,8 +62,24 @@ impl<'a> Reading<'a> {
         has_key(&self.seen, key)
     }
 
+    /// Whether no option lacks its value.
+    pub fn is_complete(&self) -> bool
+        ensures { result ≡ is_complete (split_by self.now) }
+    {
+        self.seen.len() == self.given.len()
+    }
+
+    /// The options with their values.
+    pub fn options(&self) -> Given<'_>
+        ensures { given_by result ≡ value_in (split_by self.now).given }
+    {
+        Given {
+            pairs: self.given.as_slice(),
+        }
+    }
+
     /// Takes one more word. Only memory can be wanting.
-    pub fn take(&mut self, name: CommandName, word: &'a str, place: u64) -> Result<(), AllocError>
+    pub fn take(&mut self, name: CommandName, word: &'a [u8], place: u64) -> Result<(), AllocError>
         ensures { OnOk result (read_by self.new ≡ after_word name (read_by self.old) (word.now, place)) }
     {
         let role = self.role(name, word);
@@ -70,7 +88,7 @@ impl<'a> Reading<'a> {
     }
 
     // Puts the word where it belongs.
-    fn add(&mut self, word: &'a str, role: Role) -> Result<(), AllocError>
+    fn add(&mut self, word: &'a [u8], role: Role) -> Result<(), AllocError>
         ensures split { OnOk result (split_by self.new ≡ after_role (split_by self.old) word.now role) }
         ensures fault { self.new.fault ≡ self.old.fault }
     {
@@ -79,6 +97,11 @@ impl<'a> Reading<'a> {
             Role::Option(row) => {
                 self.seen.push(row.key)?;
                 self.waiting = Some(row);
+            }
+            Role::Flag(key) => {
+                self.seen.push(key)?;
+                self.given.push((key, &[]))?;
+                self.waiting = None;
             }
             Role::Value(row) => {
                 self.given.push((row.key, word))?;
@@ -90,27 +113,37 @@ impl<'a> Reading<'a> {
     }
 }
 
-// Whether the option is one of these.
-fn has_key(keys: &[OptionKey], key: OptionKey) -> bool
+// What an option is that did not stand before.
+fn role_of_row(row: OptionRow) -> Role
+    ensures { result ≡ role_of_row row }
+{
+    match row.kind {
+        Kind::Flag => Role::Flag(row.key),
+        _ => Role::Option(row),
+    }
+}
+
+/// Whether the option is one of these.
+pub fn has_key(keys: &[OptionKey], key: OptionKey) -> bool
     ensures { result ≡ has_key keys.now key }
 {
     keys.iter().any(|seen| seen.is(key))
 }
 
-// The option that the word is.
-fn option_named(rows: &[OptionRow], word: &str) -> Option<OptionRow>
+/// The option of the list that the word is.
+pub fn option_named(rows: &[OptionRow], word: &[u8]) -> Option<OptionRow>
     ensures { result ≡ option_named rows.now word.now }
 {
     rows.iter().copied().find(|row| row.key.spells(word))
 }
 
 // The fault of a word.
-fn fault_of(name: CommandName, word: &str, role: Role) -> Option<Fault>
+fn fault_of(name: CommandName, word: &[u8], role: Role) -> Option<Fault>
     ensures { result ≡ fault_of name word.now role }
 {
     match role {
         Role::Stray => Some(Fault::BadOption),
-        Role::Option(_) => None,
+        Role::Option(_) | Role::Flag(_) => None,
         Role::Value(row) => fault_in(row.kind, word),
         Role::Argument(number) => fault_in(name.argument(number)?, word),
     }

@@ -1,7 +1,5 @@
-//! Why words are no command and no line.
+//! Why words are no command.
 use crate::Fault;
-use std::alloc::AllocError;
-use thiserror::Error;
 
 /// The words after a command's name aren't those of a command, or memory was wanting.
 #[derive(Clone, Copy, Debug, PartialEq, Eq)]
@@ -12,26 +10,4 @@ pub enum CommandRefusal {
     WrongWords,
     /// Memory was wanting.
     NoMemory,
-}
-
-/// Why words are no line.
-#[derive(Clone, Copy, Debug, PartialEq, Eq, Error)]
-pub enum LineRefusal {
-    /// Memory was wanting.
-    #[error("no memory")]
-    NoMemory,
-    /// The words have no meaning.
-    #[error("the words have no meaning")]
-    NoMeaning,
-}
-
-impl From<AllocError> for LineRefusal {
-    ghost use Rattle.std.specs.Prelude.{◌≡◌};
-    ghost use Rattle.lvm_script.specs.declared.refusal.LineRefusal.TheVariants.{NoMemory};
-
-    ghost from_gives = { λ _ refusal. refusal ≡ NoMemory };
-
-    fn from(_: AllocError) -> LineRefusal {
-        LineRefusal::NoMemory
-    }
 }

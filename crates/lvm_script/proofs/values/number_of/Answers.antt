@@ -1,9 +1,13 @@
-use Rattle.std.proofs.Common.{◌∙◌, ap, sym}
-use Rattle.lvm_script.specs.Values.{is_numeral}
-use Rattle.lvm_script.proofs.Numbers.{parsed_number}
+use Rattle.std.proofs.Common.{◌∙◌, sym, subst}
+use Rattle.std.specs.Str.Parse.{ParsesUnsigned}
+use Rattle.lvm_script.proofs.Numbers.{parsed_number, is_text}
 use Rattle.lvm_script.proofs.values.number_of.Goals as goal
 
-pub returns-then-is_numeral : goal.returns-then-is_numeral
-returns-then-is_numeral c =
+pub returns-in-Ok : goal.returns-in-Ok
+returns-in-Ok c =
     c.ok.ensures.value
-    ∙ parsed_number c.args.word.now c.parse.result (ap is_numeral (sym c.as_bytes.ensures.value) ∙ sym c.is_numeral.ensures ∙ c.if-is_numeral.true) c.parse.ensures.value.0
+    ∙ parsed_number c.args.word.now c.parse.result (sym c.is_numeral.ensures ∙ c.if-is_numeral.true)
+    (subst (λ text. ParsesUnsigned 64 10 text c.parse.result) c.in-Ok.ensures.cases.0 c.parse.ensures.value.0)
+
+pub returns-in-Err : goal.returns-in-Err
+returns-in-Err c = absurd (c.in-Err.ensures.cases.0 (is_text c.args.word.now (sym c.is_numeral.ensures ∙ c.if-is_numeral.true)))
