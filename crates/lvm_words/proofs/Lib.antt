@@ -1,3 +1,16 @@
 pub mod Differing
+pub mod FaultFree
+pub mod Find
+pub mod Forms
+pub mod Found
 pub mod Fronts
+pub mod Given
 pub mod LineNames
+pub mod Link
+pub mod Outcome
+pub mod Passing
+pub mod Requests
+pub mod Rows
+pub mod Spellings
+pub mod Steps
+pub mod Strays

@@ -1,7 +1,7 @@
 //! Command lines, and what they name and mean.
-use crate::{WordsRefusal, changes_disks, disk_names, read_words};
+use crate::{Task, WordsFault, WordsRefusal, disk_names, fault_of_command_line, read_words};
 use lvm_id::{MemWords, Words64};
-use lvm_script::DiskNames;
+use lvm_script::{DiskNames, Fault, LineFault};
 use std::alloc::{AllocError, Global};
 use std::test::Fail;
 
@@ -85,39 +85,121 @@ fn a_run_has_at_most_64_disks(rt: HostRuntime) -> Result<(), Fail> {
     Ok(())
 }
 
+// What the words ask for, in a few words.
+fn told(alloc: Global, task: &Task) -> Result<String, AllocError> {
+    match task {
+        Task::One(line) => {
+            let changes = if line.command.changes() {
+                "changes"
+            } else {
+                "reports"
+            };
+            let draws = if line.id.is_some() { " draws" } else { "" };
+            format!(in alloc; "{} {changes}{draws}", line.number)
+        }
+        Task::Session { group, workers } => {
+            let name = str::from_utf8(group.as_bytes()).unwrap_or("");
+            format!(in alloc; "session {name} {workers}")
+        }
+        Task::Demo {
+            seed,
+            lines,
+            workers,
+        } => format!(in alloc; "demo {seed} {lines} {workers}"),
+    }
+}
+
+// The same of the words, nothing where they have no meaning.
+fn asked_for(alloc: Global, words: &[String], ids: &mut MemWords) -> Result<String, AllocError> {
+    match read_words(alloc, words, ids) {
+        Ok(asked) => told(alloc, &asked.task),
+        Err(_) => Ok(String::new(alloc)),
+    }
+}
+
 #[test]
-fn words_mean_a_command_of_one_disk(rt: HostRuntime) -> Result<(), Fail> {
-    // Whether the command changes its disk, where the words have a meaning.
-    let rows: [(&[&str], Option<bool>); 9] = [
-        (&["-d", "a", "pvcreate", "a"], Some(true)),
-        (&["-d", "a", "pvcreate", "b"], Some(true)),
-        (&["-d", "-a", "pvck", "a"], Some(false)),
-        (&["-d", "a", "-d", "b", "pvck", "a"], None),
-        (&["-d", "a b", "pvck", "a"], None),
-        (&["-d", "a", "lvcreate", "vg0"], None),
-        (&["-d", "a", "pvck"], None),
-        (&["-d", "a"], None),
-        (&[], None),
+fn words_ask_for_a_task_of_their_disks(rt: HostRuntime) -> Result<(), Fail> {
+    // What is asked for, empty where the words have no meaning.
+    let rows: [(&[&str], &str); 25] = [
+        (&["-d", "a", "pvcreate", "a"], "1 changes draws"),
+        (&["-d", "a", "pvcreate", "b"], "1 changes draws"),
+        (&["-d", "-a", "pvck", "a"], "1 reports"),
+        (&["-d", "a", "-d", "b", "pvck", "a"], "1 reports"),
+        (
+            &[
+                "-d", "a", "-d", "b", "vgcreate", "-s", "8s", "vg0", "a", "b",
+            ],
+            "1 changes draws",
+        ),
+        (
+            &["-d", "a", "lvcreate", "vg0", "-l", "1", "-n", "data"],
+            "1 changes draws",
+        ),
+        (&["-d", "a", "vgcfgrestore", "vg0"], "1 changes"),
+        (&["-d", "a", "pvmove", "--abort"], "1 changes"),
+        (&["-d", "a", "pvmove", "a"], "1 changes draws"),
+        (&["-d", "a", "lvs"], "1 reports"),
+        (
+            &["-d", "a", "session", "--workers", "8", "vg0"],
+            "session vg0 8",
+        ),
+        (
+            &["-d", "a", "session", "vg0", "--workers", "01"],
+            "session vg0 1",
+        ),
+        (
+            &["-d", "a", "demo", "18446744073709551615", "4096", "8"],
+            "demo 18446744073709551615 4096 8",
+        ),
+        (&["-d", "a b", "pvck", "a"], ""),
+        (&["-d", "a", "lvcreate", "vg0"], ""),
+        (&["-d", "a", "lvs", "--help"], ""),
+        (&["-d", "a", "read", "vg0/data", "0", "1"], ""),
+        (&["-d", "a", "session", "vg0"], ""),
+        (&["-d", "a", "session", "--workers", "0", "vg0"], ""),
+        (&["-d", "a", "session", "--workers", "9", "vg0"], ""),
+        (&["-d", "a", "demo", "1", "0", "1"], ""),
+        (&["-d", "a", "demo", "1", "4097", "1"], ""),
+        (&["-d", "a", "pvck"], ""),
+        (&["-d", "a"], ""),
+        (&[], ""),
     ];
     for (words, want) in rows {
         let list = list_of(rt.alloc(), words)?;
-        assert_eq!(rt; changes_disks(rt.alloc(), &list)?, want == Some(true));
         let mut ids = MemWords::new([0, 1, 62, 3, 9].to_vec(rt.alloc())?);
-        match read_words(rt.alloc(), &list, &mut ids) {
-            Ok(asked) => {
-                assert_eq!(rt; Some(asked.line.command.changes()), want);
-                assert_eq!(rt; asked.line.number, 1);
-                assert_eq!(rt; asked.names.len(), 1);
-                assert!(rt; words.len() > 1);
-                assert_eq!(rt; asked.names.bytes_of(0), words[1].as_bytes());
-            }
-            Err(refusal) => {
-                assert_eq!(rt; refusal, WordsRefusal::NoMeaning);
-                assert!(rt; want.is_none());
-            }
-        }
-        let left = if want == Some(true) { 9 } else { 0 };
+        assert_eq!(rt; asked_for(rt.alloc(), &list, &mut ids)?.as_str(), want);
+        let left = if want.ends_with("draws") { 9 } else { 0 };
         assert_eq!(rt; ids.next(), left);
+    }
+    Ok(())
+}
+
+#[test]
+fn the_fault_of_a_command_line_is_told(rt: HostRuntime) -> Result<(), Fail> {
+    let rows: [(&[&str], WordsFault); 7] = [
+        (&[], WordsFault::Disks),
+        (&["-d", "a", "-d", "a", "lvs"], WordsFault::Disks),
+        (&["-d", "a"], WordsFault::Command(LineFault::WrongWords, 0)),
+        (
+            &["-d", "a", "-d", "b", "frob"],
+            WordsFault::Command(LineFault::UnknownWord, 0),
+        ),
+        (
+            &["-d", "a", "wait"],
+            WordsFault::Command(LineFault::NotHere, 0),
+        ),
+        (
+            &["-d", "a", "demo", "1", "0", "1"],
+            WordsFault::Command(LineFault::Faulty(Fault::BadCount), 2),
+        ),
+        (
+            &["-d", "a", "lvcreate", "vg0"],
+            WordsFault::Command(LineFault::WrongWords, 2),
+        ),
+    ];
+    for (words, want) in rows {
+        let list = list_of(rt.alloc(), words)?;
+        assert_eq!(rt; fault_of_command_line(rt.alloc(), &list)?, Some(want));
     }
     Ok(())
 }
