@@ -21,11 +21,8 @@ use Rattle.lvm_cli.specs.Scan.{HoldsNow, OpensDisks, label_spans}
 use Rattle.lvm_cli.proofs.Opening.{no_writes, reads_later}
 
 not_done : (outcome : Outcome) → IsUnwritten outcome → IsDone outcome → ⊥
-not_done (Ended ending) unwritten done = done
 not_done (Answered line Fine) unwritten done = unwritten
-not_done (Answered line (Refused refusal)) unwritten done = done
-not_done (Answered line (PvFailed pv)) unwritten done = done
-not_done (Reported text) unwritten done = done
+not_done _ unwritten done = done
 
 -- a look keeps the sectors
 keeps : (disks : ℕ) (passes : Bool) (old new : Told) → OpensDisks disks old passes new → KeepsSectors old [] new

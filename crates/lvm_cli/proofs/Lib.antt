@@ -7,4 +7,5 @@ pub mod NewPvs
 pub mod OpenedDisks
 pub mod Opening
 pub mod RefusedAreas
+pub mod Tasks
 pub mod Undone

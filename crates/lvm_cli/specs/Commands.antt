@@ -2,6 +2,7 @@
 pub mod Pvck
 pub mod Pvcreate
 pub mod Vgcfgbackup
+use Rattle.std.specs.Prelude.{Bool, true, false, []}
 use Rattle.lvm_script.specs.declared.command.Command.{Command}
 use Rattle.lvm_script.specs.declared.command.Command.TheVariants as command
 use Rattle.lvm_cli.specs.CommandSpec.{CommandSpec}
@@ -9,8 +10,29 @@ use Rattle.lvm_cli.specs.Commands.Pvck.{pvck}
 use Rattle.lvm_cli.specs.Commands.Pvcreate.{pvcreate}
 use Rattle.lvm_cli.specs.Commands.Vgcfgbackup.{vgcfgbackup}
 
+-- the commands that are built; words that ask for another are refused until it is
+abbrev pub is_built : Command → Bool
+is_built (command.Pvcreate pv metadata_copies) = true
+is_built (command.Pvck pv) = true
+is_built (command.Vgcfgbackup vg) = true
+is_built _ = false
+
+-- of a command that isn't built nothing is said, so that nothing meets it
+abbrev unbuilt : CommandSpec
+unbuilt = record {
+  flushes = false;
+  scans = false;
+  scan = λ context image scanned. ⊥;
+  rows = λ context found. [];
+  change = λ context puts. ⊥;
+  reads = λ context image spans. ⊥;
+  finds = λ context image. ⊥;
+  reports = λ context found image text. ⊥;
+}
+
 -- what is said of a command: its row, with its arguments
 abbrev pub spec_of : Command → CommandSpec
 spec_of (command.Pvcreate pv metadata_copies) = pvcreate pv metadata_copies
 spec_of (command.Pvck pv) = pvck pv
 spec_of (command.Vgcfgbackup vg) = vgcfgbackup vg
+spec_of _ = unbuilt

@@ -48,6 +48,7 @@ IsCause spec context old new (Answered line (Refused refusal)) =
     (line ≡ 1) × HasSameFaults old new × IsJudged spec context old (Some refusal)
 IsCause spec context old new (Answered line (PvFailed pv)) =
     (line ≡ 1) × IsJudged spec context old None × ((puts : List Put) × spec.change context puts × IsFaultOf puts old new pv)
+IsCause spec context old new (Answered line _) = ⊥
 IsCause spec context old new (Reported text) =
     (spec.flushes ≡ false) × HasSameFaults old new
     × ((found : Option Group) × IsScanned spec context old (Finds found) × (refusal_of (spec.rows context found) ≡ None) × HoldsNow old.told (λ image. spec.reports context found image text))

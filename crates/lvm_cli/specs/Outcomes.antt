@@ -4,7 +4,7 @@ use Rattle.lvm_script.specs.Answers.{answer_text}
 use Rattle.lvm_script.specs.Options.{Word}
 use Rattle.lvm_script.specs.Streams.{WritesText}
 use Rattle.lvm_script.specs.declared.answer.Answer.{Answer}
-use Rattle.lvm_script.specs.declared.answer.Answer.TheVariants.{Fine, Refused, PvFailed}
+use Rattle.lvm_script.specs.declared.answer.Answer.TheVariants.{Refused, ReadFailed, PvFailed, Fenced, Stopped, NoMemory}
 use Rattle.lvm_cli.specs.declared.ending.Ending.TheVariants.{WordsRefused}
 use Rattle.lvm_cli.specs.declared.outcome.Outcome.{Outcome}
 use Rattle.lvm_cli.specs.declared.outcome.Outcome.TheVariants.{Ended, Answered, Reported}
@@ -16,11 +16,15 @@ output_of names (Ended ending) = ending_text names ending
 output_of names (Answered line answer) = decimal line ++ codes ": " ++ answer_text names answer ++ codes "\n"
 output_of names (Reported text) = text
 
--- the exit status of a line that answered, where the output was printed whole
+-- the exit status of a line that answered, where the output was printed whole: 6 for the answers of a disk's failure
 abbrev pub status_of_answer : Answer → ℕ
-status_of_answer Fine = 0
 status_of_answer (Refused refusal) = 5
+status_of_answer (ReadFailed pv) = 6
 status_of_answer (PvFailed pv) = 6
+status_of_answer (Fenced pv) = 6
+status_of_answer (Stopped pv) = 6
+status_of_answer NoMemory = 2
+status_of_answer _ = 0
 
 -- the exit status where the output was printed whole
 abbrev pub status_of : Outcome → ℕ

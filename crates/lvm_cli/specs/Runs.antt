@@ -1,30 +1,65 @@
 -- What a run does.
-use Rattle.std.specs.Prelude.{◌≡◌, ◌⊎◌, ℕ, List, [], Some, None}
+use Rattle.std.specs.Prelude.{◌≡◌, ◌⊎◌, ⊤, ℕ, Bool, ◌==◌, ◌&&◌, List, [], length, Option, Some, None, is_some}
+use Rattle.std.specs.Bool.{MatchBool}
 use Rattle.std.specs.Option.{option_map_or}
 use Rattle.disk_model.specs.State.{State}
+use Rattle.lvm_script.specs.declared.command.Command.{Command}
+use Rattle.lvm_script.specs.declared.request.Request.{Request}
+use Rattle.lvm_script.specs.declared.request.Request.TheVariants.{One}
 use Rattle.lvm_script.specs.Lines.{TakesId, draws, line_of}
 use Rattle.lvm_script.specs.Options.{Word}
-use Rattle.lvm_words.specs.CommandLines.{CommandLine, command_line_of}
+use Rattle.lvm_words.specs.declared.command_line.CommandLine.{CommandLine}
+use Rattle.lvm_words.specs.declared.asked.Task.{Task}
+use Rattle.lvm_words.specs.declared.asked.Task.TheVariants as task
+use Rattle.lvm_words.specs.CommandLines.{command_line_of, draws_id}
 use Rattle.lvm_cli.specs.declared.ending.Ending.TheVariants.{WordsRefused, NoMemory}
 use Rattle.lvm_cli.specs.declared.outcome.Outcome.{Outcome}
 use Rattle.lvm_cli.specs.declared.outcome.Outcome.TheVariants.{Ended}
 use Rattle.lvm_cli.specs.CommandSpec.{Context}
-use Rattle.lvm_cli.specs.Commands.{spec_of}
+use Rattle.lvm_cli.specs.Commands.{is_built, spec_of}
 use Rattle.lvm_cli.specs.Meets.{Meets}
 
--- what the line of a command line is judged against
-abbrev pub context_of : CommandLine → (ℕ → List ℕ) → ℕ → State → Context
-context_of line upcoming now state = record { names = line.names; sizes = state.sizes; id = (line_of 1 line.command upcoming).id; now = now }
+-- a command runs where it is built, on one disk so far
+abbrev pub runs_on : List Word → Command → Bool
+runs_on names command = is_built command && length names == 1
+
+-- what a line is judged against that has this id
+abbrev pub context_with : List Word → Option (List ℕ) → ℕ → State → Context
+context_with names id now state = record { names = names; sizes = state.sizes; id = id; now = now }
+
+-- words are refused, unless memory was wanting, and nothing is done
+abbrev pub IsRefused : State → Outcome → State → Type 0
+IsRefused old outcome new = ((outcome ≡ Ended WordsRefused) ⊎ (outcome ≡ Ended NoMemory)) × (new ≡ old)
+
+-- the line of a command, which has this id, meets all that is said of it where it runs, and else it is refused
+abbrev pub RunsLine : List Word → Command → Option (List ℕ) → ℕ → State → Outcome → State → Type 0
+RunsLine names command id now old outcome new =
+    MatchBool (runs_on names command) (Meets (spec_of command) (context_with names id now old) old outcome new) (IsRefused old outcome new)
+
+-- what is asked for was done or refused; sessions and the demo are refused until they are built
+abbrev pub RunsRequest : List Word → Request → (ℕ → List ℕ) → ℕ → State → Outcome → State → Type 0
+RunsRequest names (One command) ids now old outcome new = RunsLine names command (line_of 1 command ids).id now old outcome new
+RunsRequest names _ ids now old outcome new = IsRefused old outcome new
+
+-- the same of the task that it became
+abbrev pub RunsTask : List Word → Task → ℕ → State → Outcome → State → Type 0
+RunsTask names (task.One line) now old outcome new = RunsLine names line.command line.id now old outcome new
+RunsTask names _ now old outcome new = IsRefused old outcome new
+
+-- the line of a task has an id exactly where its command draws one
+abbrev pub HasDrawn : Task → Type 0
+HasDrawn (task.One line) = is_some line.id ≡ draws line.command
+HasDrawn _ = ⊤
 
 -- the names of the disks of a run
 abbrev pub names_of : List Word → List Word
-names_of words = option_map_or (λ line. line.names) (command_line_of words) []
+names_of words = option_map_or (λ (line : CommandLine). line.names) (command_line_of words) []
 
 -- a run of these words, at this time, came to this outcome
 pub record RunsWords (words : List Word) (now : ℕ) (ids : ℕ → List ℕ) (old : State) (outcome : Outcome) (ids_after : ℕ → List ℕ) (new : State) : Type 0 where
-  -- words without a meaning are refused, unless memory was wanting, and nothing is done
-  pub refused : command_line_of words ≡ None → ((outcome ≡ Ended WordsRefused) ⊎ (outcome ≡ Ended NoMemory)) × (new ≡ old) × (ids_after ≡ ids)
-  -- the line of other words meets all that is said of its command
-  pub lines : (line : CommandLine) → command_line_of words ≡ Some line → Meets (spec_of line.command) (context_of line ids now old) old outcome new
+  -- words without a meaning are refused
+  pub refused : command_line_of words ≡ None → IsRefused old outcome new × (ids_after ≡ ids)
+  -- what other words ask for was done or refused
+  pub lines : (line : CommandLine) → command_line_of words ≡ Some line → RunsRequest line.names line.request ids now old outcome new
   -- it draws the four numbers of an id where its command draws one, and else none, whatever it answers
-  pub drawn : (line : CommandLine) → command_line_of words ≡ Some line → TakesId (draws line.command) ids ids_after ⊎ ((outcome ≡ Ended NoMemory) × (ids_after ≡ ids) × (new ≡ old))
+  pub drawn : (line : CommandLine) → command_line_of words ≡ Some line → TakesId (draws_id line.request) ids ids_after ⊎ ((outcome ≡ Ended NoMemory) × (ids_after ≡ ids) × (new ≡ old))

@@ -1,5 +1,5 @@
 //! All that the program does, over any row of disks, streams and sources of ids.
-ghost use Rattle.std.specs.Prelude.{◌≡◌, ◌<◌, ◌^◌, [], length};
+ghost use Rattle.std.specs.Prelude.{◌≡◌, ◌<◌, ◌^◌, true, [], length};
 ghost use Rattle.std.specs.Option.{is_some};
 ghost use Rattle.lvm_script.specs.Lines.{draws};
 ghost use Rattle.lvm_script.specs.Options.{words_of};
@@ -8,8 +8,9 @@ ghost use Rattle.lvm_cli.specs.Commands.{spec_of};
 ghost use Rattle.lvm_cli.specs.Disks.{AreDisks, HasDisks};
 ghost use Rattle.lvm_cli.specs.Meets.{Meets};
 ghost use Rattle.lvm_cli.specs.Outcomes.{Ends, output_of};
-ghost use Rattle.lvm_cli.specs.Runs.{RunsWords, names_of};
+ghost use Rattle.lvm_cli.specs.Runs.{HasDrawn, RunsLine, RunsTask, RunsWords, context_with, names_of, runs_on};
 
+use crate::built::runs_on;
 use crate::commands::pvck::run_pvck;
 use crate::commands::pvcreate::run_pvcreate;
 use crate::commands::vgcfgbackup::run_vgcfgbackup;
@@ -19,7 +20,7 @@ use crate::outcome::Outcome;
 use disk_model::Shelf;
 use lvm_id::Words64;
 use lvm_script::{Command, DiskNames, Line, Sink, Source};
-use lvm_words::{Asked, WordsRefusal, read_words};
+use lvm_words::{Asked, Task, WordsRefusal, read_words};
 use std::alloc::Global;
 use std::sync::Wait;
 use std::thread::Threads;
@@ -33,7 +34,7 @@ pub struct Ended<S> {
 
 /// Runs the program's words. Where they name disks, `shelf` has these in that order, each of 8 to 2^40 sectors, with nothing
 /// in flight. The output goes to `out`, the ids of what is created are drawn from `ids`, and `now` is the time in seconds.
-/// No command that has a meaning so far reads `script` or starts a thread.
+/// No command that is built so far reads `script` or starts a thread.
 pub fn lvm_run<
     T: Threads + Wait + Sync,
     S: Shelf + Send,
@@ -68,7 +69,7 @@ pub fn lvm_run<
     let _ = script;
     let mut shelf = shelf;
     let (outcome, names) = run_words(alloc, words, &mut shelf, ids, now);
-    let status = outcome.print(out, &names);
+    let status = outcome.print(alloc, out, &names);
     Ended { status, shelf }
 }
 
@@ -86,7 +87,7 @@ fn run_words<S: Shelf, N: Words64>(
     ensures output { output_of result.1 result.0 ≡ output_of (names_of (words_of words.now)) result.0 }
 {
     match read_words(alloc, words, ids) {
-        Ok(Asked { names, line }) => (run_line(alloc, shelf, &names, line, now), names),
+        Ok(Asked { names, task }) => (run_task(alloc, shelf, &names, task, now), names),
         Err(WordsRefusal::NoMeaning) => (Outcome::Ended(Ending::WordsRefused), no_names(alloc)),
         Err(WordsRefusal::NoMemory) => (Outcome::Ended(Ending::NoMemory), no_names(alloc)),
     }
@@ -98,7 +99,25 @@ fn no_names(alloc: Global) -> DiskNames
     DiskNames::from_vec(Vec::new(alloc))
 }
 
-// Does what the line asks for on the one disk, at this time.
+// Does what is asked for, at this time, where it is built.
+fn run_task<S: Shelf>(
+    alloc: Global,
+    shelf: &mut S,
+    names: &DiskNames,
+    task: Task,
+    now: u64,
+) -> Outcome
+    requires disks { AreDisks (length names.now) (S.state shelf.old) }
+    requires drawn { HasDrawn task }
+    ensures { RunsTask names.now task now (S.state shelf.old) result (S.state shelf.new) }
+{
+    match task {
+        Task::One(line) => run_line(alloc, shelf, names, line, now),
+        Task::Session { .. } | Task::Demo { .. } => Outcome::Ended(Ending::WordsRefused),
+    }
+}
+
+// Does what the line asks for, where its command runs on these disks.
 fn run_line<S: Shelf>(
     alloc: Global,
     shelf: &mut S,
@@ -106,11 +125,29 @@ fn run_line<S: Shelf>(
     line: Line,
     now: u64,
 ) -> Outcome
-    requires disks { AreDisks 1 (S.state shelf.old) }
-    requires names { length names.now ≡ 1 }
+    requires disks { AreDisks (length names.now) (S.state shelf.old) }
     requires drawn { is_some line.id ≡ draws line.command }
-    ensures { Meets (spec_of line.command) (record { names = names.now; sizes = (S.state shelf.old).sizes; id = line.id; now = now })
-        (S.state shelf.old) result (S.state shelf.new) }
+    ensures { RunsLine names.now line.command line.id now (S.state shelf.old) result (S.state shelf.new) }
+{
+    if runs_on(names, &line.command) {
+        run_built(alloc, shelf, names, line, now)
+    } else {
+        Outcome::Ended(Ending::WordsRefused)
+    }
+}
+
+// Does what the line asks for on the one disk, at this time.
+fn run_built<S: Shelf>(
+    alloc: Global,
+    shelf: &mut S,
+    names: &DiskNames,
+    line: Line,
+    now: u64,
+) -> Outcome
+    requires disks { AreDisks (length names.now) (S.state shelf.old) }
+    requires built { runs_on names.now line.command ≡ true }
+    requires drawn { is_some line.id ≡ draws line.command }
+    ensures { Meets (spec_of line.command) (context_with names.now line.id now (S.state shelf.old)) (S.state shelf.old) result (S.state shelf.new) }
 {
     let Line {
         number: _,
@@ -127,5 +164,6 @@ fn run_line<S: Shelf>(
         },
         Command::Pvck { pv } => run_pvck(alloc, shelf, names, pv),
         Command::Vgcfgbackup { vg } => run_vgcfgbackup(alloc, shelf, names, vg, now),
+        _ => unreachable!(),
     }
 }

@@ -9,6 +9,7 @@ ghost use Rattle.lvm_script.specs.Options.{Word, words_of};
 ghost use Rattle.lvm_words.specs.Disks.{disks_named};
 
 mod arguments;
+mod built;
 mod commands;
 mod ending;
 mod gate;
@@ -20,6 +21,7 @@ mod seed;
 mod startup;
 #[cfg(test)]
 mod tests;
+mod usage;
 
 use arguments::arguments;
 use file_shelf::{StdSink, StdSource};
@@ -28,9 +30,11 @@ use lvm_run::lvm_run;
 use lvm_script::DiskNames;
 use lvm_words::{WordsRefusal, disk_names};
 use seed::{ids_of_system, seconds, since_1970};
-use startup::{NO_MEMORY, NOT_TO_BE_HAD, open_disks, say_fault};
+use startup::{NO_MEMORY, NOT_TO_BE_HAD, WORDS_REFUSED, open_disks, say_fault};
 use std::alloc::{AllocError, Global};
+use std::io::Eprint;
 use std::process::ExitCode;
+use usage::usage_text;
 
 fn main(rt: HostRuntime) -> ExitCode {
     let since = since_1970(&rt);
@@ -62,7 +66,17 @@ fn main(rt: HostRuntime) -> ExitCode {
         seconds(since),
         &OpenGate,
     );
+    if ended.status == WORDS_REFUSED {
+        say_usage(&rt, rt.alloc(), &words);
+    }
     ExitCode::from(ended.status)
+}
+
+// Says on standard error which word is at fault, and how the command is used.
+fn say_usage<R: Eprint>(rt: &R, alloc: Global, words: &[String]) {
+    if let Ok(text) = usage_text(alloc, words) {
+        let _ = eprint!(rt; "{text}");
+    }
 }
 
 // The disks that the words name, none where they name none.

@@ -5,8 +5,9 @@ ghost use Rattle.lvm_script.specs.Streams.{WritesText};
 ghost use Rattle.lvm_cli.specs.Outcomes.{Ends, output_of, status_of, status_of_answer, status_unprinted};
 
 use crate::ending::Ending;
-use lvm_script::{Answer, DiskNames, Failed, Sink, write_all, write_bytes, write_number};
+use lvm_script::{Answer, DiskNames, Failed, Sink, TextSink, write_all, write_bytes, write_number};
 use sector_base::Text;
+use std::alloc::Global;
 
 /// What a run comes to.
 #[derive(Debug, Drop)]
@@ -21,11 +22,11 @@ pub enum Outcome {
 
 impl Outcome {
     /// Prints the outcome of a run whose disks have these names, and gives the exit status: 7 where the sink failed, but 3
-    /// all the same for words without a meaning. It takes no memory.
-    pub fn print<W: Sink>(&self, out: &mut W, names: &DiskNames) -> u8
+    /// all the same for words without a meaning. A line is printed by one write, or in pieces where there is no memory for it.
+    pub fn print<W: Sink>(&self, alloc: Global, out: &mut W, names: &DiskNames) -> u8
         ensures { Ends names.now self.now result (W.written out.old) (W.fault_count out.old) (W.written out.new) (W.fault_count out.new) }
     {
-        match self.write(out, names) {
+        match self.write(alloc, out, names) {
             Ok(()) => self.status(),
             Err(Failed) => self.status_unprinted(),
         }
@@ -52,8 +53,23 @@ impl Outcome {
         }
     }
 
-    // Writes the output.
-    fn write<W: Sink>(&self, out: &mut W, names: &DiskNames) -> Result<(), Failed>
+    // Writes the output: a report as it is, and a line at once.
+    fn write<W: Sink>(&self, alloc: Global, out: &mut W, names: &DiskNames) -> Result<(), Failed>
+        ensures { WritesText (W.written out.old) (W.fault_count out.old) (output_of names.now self.now)
+            (is_ok result) (W.written out.new) (W.fault_count out.new) }
+    {
+        if let Outcome::Reported(text) = self {
+            return write_all(out, text);
+        }
+        let mut line = TextSink::new(alloc);
+        match self.write_pieces(&mut line, names) {
+            Ok(()) => write_bytes(out, line.as_bytes()),
+            Err(Failed) => self.write_pieces(out, names),
+        }
+    }
+
+    // Writes the output piece by piece.
+    fn write_pieces<W: Sink>(&self, out: &mut W, names: &DiskNames) -> Result<(), Failed>
         ensures { WritesText (W.written out.old) (W.fault_count out.old) (output_of names.now self.now)
             (is_ok result) (W.written out.new) (W.fault_count out.new) }
     {
@@ -70,9 +86,10 @@ fn status_of(answer: &Answer) -> u8
     ensures { result ≡ status_of_answer answer.now }
 {
     match answer {
-        Answer::Fine => 0,
         Answer::Refused(_) => 5,
-        Answer::PvFailed(_) => 6,
+        Answer::ReadFailed(_) | Answer::PvFailed(_) | Answer::Fenced(_) | Answer::Stopped(_) => 6,
+        Answer::NoMemory => 2,
+        Answer::Fine | Answer::Read(_) | Answer::Listed(_) | Answer::Aborted => 0,
     }
 }
 

@@ -1,22 +1,29 @@
 //! The disks of a run, opened as its words want them.
-ghost use Rattle.std.specs.Prelude.{◌≡◌, IfOk, IfErr, vec_len};
+ghost use Rattle.std.specs.Prelude.{◌≡◌, IfOk, IfErr, Some, vec_len};
 ghost use Rattle.file_shelf.specs.Opened.{IsOpened, NamesFile};
-ghost use Rattle.lvm_cli.specs.Startup.{opening_status};
+ghost use Rattle.lvm_cli.specs.Startup.{changes_disks, opening_status};
+ghost use Rattle.lvm_script.specs.Options.{words_of};
+ghost use Rattle.lvm_words.specs.CommandLines.{command_line_of};
 
+use crate::built::runs_on;
 use disk_model::Shelf;
 use file_shelf::{FileShelf, ImageFile, OpenFault};
-use lvm_words::changes_disks;
-use std::alloc::Global;
+use lvm_script::Request;
+use lvm_words::{CommandLine, WordsRefusal, read_command_line};
+use std::alloc::{AllocError, Global};
 use std::fs::Files;
 use std::io::Eprint;
 
 /// The exit status for want of memory.
 pub const NO_MEMORY: u8 = 2;
 
+/// The exit status of words that have no meaning.
+pub const WORDS_REFUSED: u8 = 3;
+
 /// The exit status where what a run needs of the system isn't to be had.
 pub const NOT_TO_BE_HAD: u8 = 6;
 
-/// Opens these disks to be changed where the words mean a command that changes something, and else to be read.
+/// Opens these disks to be changed where the words ask for a command that runs and changes something, and else to be read.
 pub fn open_disks<F: ImageFile + Drop, R: Files<File = F>>(
     rt: &R,
     alloc: Global,
@@ -30,6 +37,27 @@ pub fn open_disks<F: ImageFile + Drop, R: Files<File = F>>(
         FileShelf::open(rt, alloc, names)
     } else {
         FileShelf::open_to_read(rt, alloc, names)
+    }
+}
+
+// Whether the words ask for a command that runs and changes something.
+fn changes_disks(alloc: Global, words: &[String]) -> Result<bool, AllocError>
+    ensures { IfOk result (λ changes. changes ≡ changes_disks (command_line_of (words_of words.now))) }
+{
+    match read_command_line(alloc, words) {
+        Ok(line) => Ok(changes_disk(&line)),
+        Err(WordsRefusal::NoMeaning) => Ok(false),
+        Err(WordsRefusal::NoMemory) => Err(AllocError),
+    }
+}
+
+// The same of this command line.
+fn changes_disk(line: &CommandLine) -> bool
+    ensures { result ≡ changes_disks (Some line.now) }
+{
+    match &line.request {
+        Request::One(command) => runs_on(&line.names, command) && command.changes(),
+        _ => false,
     }
 }
 

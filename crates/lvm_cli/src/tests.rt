@@ -114,10 +114,14 @@ fn run<T: Threads + Wait + Sync + Abort>(
 }
 
 #[test]
-fn words_without_a_meaning_are_refused(rt: HostRuntime) -> Result<(), Fail> {
+fn words_that_ask_for_nothing_built_are_refused(rt: HostRuntime) -> Result<(), Fail> {
     let alloc = rt.alloc();
-    let refused: [&[&str]; 7] = [
+    let refused: [&[&str]; 11] = [
         &["-d", "a", "lvcreate", "vg0"],
+        &["-d", "a", "lvs"],
+        &["-d", "a", "vgcreate", "vg0", "a"],
+        &["-d", "a", "session", "--workers", "1", "vg0"],
+        &["-d", "a", "demo", "1", "1", "1"],
         &["-d", "a", "lvs", "--help"],
         &[],
         &["-d", "a", "pvcreate", "--metadatacopies", "2", "a"],
@@ -360,11 +364,14 @@ fn a_disk_with_a_label_is_left_alone(rt: HostRuntime) -> Result<(), Fail> {
 #[test]
 fn a_failed_sink_gives_its_status(rt: HostRuntime) -> Result<(), Fail> {
     let alloc = rt.alloc();
-    let rows: [(&[&str], u32, u64, u8, &[u8]); 4] = [
+    // A line is one write: a second one would fail.
+    let rows: [(&[&str], u32, u64, u8, &[u8]); 6] = [
         (&PVCREATE, 2056, 0, 7, b""),
         (&PVCREATE, 2048, 0, 7, b""),
-        (&PVCREATE, 2048, 5, 7, b"1: refused TooSmall "),
+        (&PVCREATE, 2056, 1, 0, b"1: ok\n"),
+        (&PVCREATE, 2048, 1, 5, b"1: refused TooSmall 2048 2056\n"),
         (&["-d", "a"], 2048, 0, 3, b""),
+        (&["-d", "a"], 2048, 1, 3, b"words refused\n"),
     ];
     for (words, sectors, call, status, text) in rows {
         let mut fails = Vec::new(alloc);

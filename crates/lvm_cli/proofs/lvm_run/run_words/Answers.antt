@@ -5,9 +5,9 @@ use Rattle.lvm_cli.proofs.lvm_run.run_words.Goals as goal
 
 pub returns-in-Err-NoMemory-clause-run : goal.returns-in-Err-NoMemory-clause-run
 returns-in-Err-NoMemory-clause-run g c = record {
-  refused = λ none. (inr refl, refl, c.in-Err-NoMemory.ensures.undrawn);
+  refused = λ none. ((inr refl, refl), c.in-Err-NoMemory.ensures.undrawn);
   lines = λ line is.
-      let disks = c.requires.disks line.names (names_of_line _ line is).0 in
-      undone line.names line.command (g.N.Words64.upcoming c.args.ids.now) c.args.now (g.S.Shelf.state c.args.shelf.now) disks.idle;
+      let disks = c.requires.disks line.names (names_of_line _ line is) in
+      undone line.names line.request (g.N.Words64.upcoming c.args.ids.now) c.args.now (g.S.Shelf.state c.args.shelf.now) disks.idle;
   drawn = λ line is. inr (refl, c.in-Err-NoMemory.ensures.undrawn, refl);
 }

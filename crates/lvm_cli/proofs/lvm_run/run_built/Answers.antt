@@ -1,4 +1,4 @@
-use Rattle.lvm_cli.proofs.lvm_run.run_line.Goals as goal
+use Rattle.lvm_cli.proofs.lvm_run.run_built.Goals as goal
 
 pub returns-in-Pvck : goal.returns-in-Pvck
 returns-in-Pvck g c = rw c.in-Pvck.is (c.run_pvck.ensures c.args.line.id c.args.now)
