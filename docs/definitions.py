@@ -11,7 +11,10 @@ table of a crate has what its public calls promise, which a reader must believe.
 memory is seen, what holds of it, and the words of inner functions' contracts: what they say is used in proofs alone, and
 nothing that is promised rests on their wording. `docs/definitions.py` writes this index.
 """
-PROGRAMS = {"lvm_cli": {"lvm_run", "main", "arguments", "seconds", "since_1970", "ids_of_system", "open_disks", "say_fault"}}
+PROGRAMS = {
+    "commands_manual": {"missing", "unknown"},
+    "lvm_cli": {"lvm_run", "main", "arguments", "seconds", "since_1970", "ids_of_system", "open_disks", "say_fault"},
+}
 NAME = r"[^\s{}(),;:]+"
 
 
