@@ -116,6 +116,10 @@ commands_from (line ∷ lines) number sectors = commands_with number sectors (li
 abbrev pub commands_in : List ℕ → Commands
 commands_in text = commands_from (lines_in text) 1 0
 
+-- a line's command with its number
+abbrev pub numbered : Line → ℕ × Command
+numbered line = (line.number, line.command)
+
 -- these are the lines of the commands, each of which draws its id from the source of numbers as the one before left it
 abbrev pub AreLines : (ℕ → List ℕ) → List (ℕ × Command) → List Line → (ℕ → List ℕ) → Type 0
 AreLines before [] [] after = after ≡ before

@@ -24,16 +24,26 @@ impl Line {
         ensures valid { IfSome result.id IsId }
         ensures drawn { TakesId (draws command) (N.upcoming ids.old) (N.upcoming ids.new) }
     {
-        let id = if command.draws() {
+        let mut line = Line {
+            number,
+            id: None,
+            command,
+        };
+        line.draw_id(ids);
+        line
+    }
+
+    // Draws the id of what the line creates, where its command draws one.
+    pub(crate) fn draw_id<N: Words64>(&mut self, ids: &mut N)
+        ensures line { self.new ≡ line_of self.old.number self.old.command (N.upcoming ids.old) }
+        ensures valid { IfSome self.new.id IsId }
+        ensures drawn { TakesId (draws self.old.command) (N.upcoming ids.old) (N.upcoming ids.new) }
+    {
+        self.id = if self.command.draws() {
             Some(LvmId::from_words(ids))
         } else {
             None
         };
-        Line {
-            number,
-            id,
-            command,
-        }
     }
 
     /// The line with this text, where it restores a group from one; every other line as it is.

@@ -1,9 +1,9 @@
 //! The lines of a script.
-ghost use Rattle.std.specs.Prelude.{◌≡◌, ◌≢◌, ◌≤◌, ◌<◌, ◌+◌, ◌==◌, [], ◌∷◌, ◌++◌, length, Some, Ok, IfOk, IfSome, List, ℕ, MatchResult, OnErr, OnOk, option_map};
+ghost use Rattle.std.specs.Prelude.{◌≡◌, ◌≢◌, ◌≤◌, ◌<◌, ◌+◌, ◌==◌, [], ◌∷◌, ◌++◌, length, map, Some, Ok, IfOk, IfSome, List, ℕ, MatchResult, OnErr, OnOk, option_map};
 ghost use Rattle.std.specs.List.{position};
 ghost use Rattle.lvm_script.specs.declared.command.Command.{Command as CommandRecord};
 ghost use Rattle.lvm_script.specs.Lines.{sectors_of};
-ghost use Rattle.lvm_script.specs.Script.{AreLines, IsRefusal, IsScriptRefusal, commands_in, limited, line_meant, line_named, line_of_words, lines_in, meaning_of_line, refusal_at, word_between, words_in};
+ghost use Rattle.lvm_script.specs.Script.{AreLines, IsRefusal, IsScriptRefusal, commands_in, limited, line_meant, line_named, line_of_words, lines_in, meaning_of_line, numbered, refusal_at, word_between, words_in};
 ghost use Rattle.lvm_script.specs.Words.{placed};
 
 use crate::meaning::read_command;
@@ -43,19 +43,25 @@ pub fn script_of<N: Words64>(
         (IsScriptRefusal (commands_in text.now)) }
     ensures undrawn { OnErr result (N.upcoming ids.new ≡ N.upcoming ids.old) }
 {
-    let commands = commands_in(alloc, text.as_bytes())?;
-    let mut lines = Vec::with_capacity(alloc, commands.len())?;
-    for (number, command) in commands {
-        lines.push(Line::new(number, command, ids))?;
-    }
+    let mut lines = lines_without_ids(alloc, text.as_bytes())?;
+    draw_ids(&mut lines, ids);
     Ok(ItemList::from_vec(lines))
 }
 
-// The commands of this text, with the numbers of their lines.
-fn commands_in(alloc: Global, text: &[u8]) -> Result<Vec<(u64, Command)>, ScriptRefusal>
-    ensures { MatchResult result (λ commands. commands_in text.now ≡ Ok commands.items) (IsScriptRefusal (commands_in text.now)) }
+// Draws the ids of these lines, in their order.
+fn draw_ids<N: Words64>(lines: &mut [Line], ids: &mut N)
+    ensures { AreLines (N.upcoming ids.old) (map numbered lines.old) lines.new (N.upcoming ids.new) }
 {
-    let mut commands = Vec::new(alloc);
+    for line in lines.iter_mut() {
+        line.draw_id(ids);
+    }
+}
+
+// The lines of this text, before any has drawn its id.
+fn lines_without_ids(alloc: Global, text: &[u8]) -> Result<Vec<Line>, ScriptRefusal>
+    ensures { MatchResult result (λ lines. commands_in text.now ≡ Ok (map numbered lines.items)) (IsScriptRefusal (commands_in text.now)) }
+{
+    let mut lines = Vec::with_capacity(alloc, most_lines_of(text))?;
     let mut number = 0;
     let mut sectors = 0;
     let mut rest = text;
@@ -67,12 +73,24 @@ fn commands_in(alloc: Global, text: &[u8]) -> Result<Vec<(u64, Command)>, Script
             Ok(None) => {}
             Ok(Some(command)) => {
                 sectors += command.sectors();
-                commands.push((number, command))?;
+                lines.push(Line {
+                    number,
+                    id: None,
+                    command,
+                })?;
             }
             Err(refusal) => return Err(refusal.in_line(number)),
         }
     }
-    Ok(commands)
+    Ok(lines)
+}
+
+// No fewer than the lines of this text that a script has: room for all of them at once, so that no list of them is copied.
+fn most_lines_of(text: &[u8]) -> usize
+    ensures { result ≤ 65536 }
+{
+    let ends = text.iter().filter(|byte| **byte == b'\n').count();
+    ends.saturating_add(1).min(MOST_LINES as usize)
 }
 
 // The first line of a text that isn't empty, and what follows its line feed.
