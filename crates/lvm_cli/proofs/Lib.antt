@@ -7,5 +7,4 @@ pub mod NewPvs
 pub mod OpenedDisks
 pub mod Opening
 pub mod RefusedAreas
-pub mod Tasks
 pub mod Undone

@@ -4,7 +4,7 @@ use Rattle.std.proofs.lemmas.Bool.{and_from}
 use Rattle.std.proofs.lemmas.List.{map-append, take_more}
 use Rattle.std.specs.Prelude.{count_by, is_some}
 use Rattle.std.specs.List.{list_all, list_any}
-use Rattle.clap.specs.Simple.{built, filled_from, is_simple, is_ready, new_shape}
+use Rattle.clap.specs.Simple.{filled_from, is_simple, is_ready, new_shape}
 use Rattle.clap.specs.Faults.{is_simple_and_free}
 use Rattle.clap.specs.Walk.{Rule, Text, is_early_multiple}
 use Rattle.clap.specs.declared.builder.value_parser.ValueParser.TheVariants as vp
