@@ -1,0 +1,8 @@
+pub mod ApartInOrder
+pub mod FirstBroken
+pub mod LegRuns
+pub mod MovingVolumes
+pub mod NamedVolumes
+pub mod Permuted
+pub mod Rounds
+pub mod Sorted
