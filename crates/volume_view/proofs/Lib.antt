@@ -1,0 +1,15 @@
+pub mod AcceptedExample
+pub mod CopiesApart
+pub mod ExampleLaws
+pub mod Examples
+pub mod GoingDown
+pub mod MetSegments
+pub mod OnTheWay
+pub mod OneAbove
+pub mod OthersApart
+pub mod Pieces
+pub mod PrimariesApart
+pub mod PrimariesStand
+pub mod SideBySide
+pub mod Stripes
+pub mod Views
