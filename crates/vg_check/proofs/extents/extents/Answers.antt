@@ -1,0 +1,11 @@
+use Rattle.std.proofs.Common.{sym, ap, ◌∙◌}
+use Rattle.std.specs.Option.{option_copied}
+use Rattle.vg_check.proofs.Ends.{last_at}
+use Rattle.vg_check.proofs.extents.extents.Goals as goal
+
+pub returns-in-Some : goal.returns-in-Some
+returns-in-Some c =
+    let segments = c.args.lv.now.segments in
+    let last = c.in-Some.last.now in
+    let is = sym c.last.ensures.value ∙ ap option_copied c.in-Some.is in
+    last_at c.as_slice.result.now segments last c.as_slice.ensures is c.requires.follow

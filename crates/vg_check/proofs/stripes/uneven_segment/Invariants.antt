@@ -1,0 +1,8 @@
+-- The segments so far are whole.
+use Rattle.std.proofs.Common.{All, take}
+use Rattle.meta_model.specs.declared.segment.Segment.{Segment}
+use Rattle.volume_rules.specs.Rules.{IsWholeStriped}
+use Rattle.vg_check.proofs.stripes.uneven_segment.Given as goal
+
+abbrev pub invariant-loop-number : goal.invariant-loop-number
+invariant-loop-number l = All (λ (segment : Segment). IsWholeStriped l.extent_size segment.count segment.kind) (take l.number l.segments)

@@ -1,0 +1,13 @@
+pub mod Climbing
+pub mod Counts
+pub mod Covers
+pub mod FirstOffences
+pub mod Hidden
+pub mod Ids
+pub mod Marks
+pub mod Moves
+pub mod Outside
+pub mod OwnNumbers
+pub mod Rows
+pub mod SortedRuns
+pub mod Whole
