@@ -1,0 +1,6 @@
+pub mod CoveredExtents
+pub mod FreeExtents
+pub mod GapExtents
+pub mod LegsOnVolume
+pub mod RunsInOrder
+pub mod Walks
