@@ -1,3 +1,5 @@
 pub mod Fields
 mod HeaderBytes
+pub mod OneEntry
+pub mod OneRefusal
 mod ReadAgain

@@ -1,9 +1,11 @@
 -- The header of a metadata area of lvm2's on-disk format, `struct mda_header` and `struct raw_locn`, and why a sector
 -- isn't the header of an area.
-use Rattle.std.specs.Prelude.{◌≡◌, ◌≢◌, ℕ, ◌+◌, ◌-◌, ◌%◌, ◌<◌, ◌≤◌, ◌↔◌, IsTrue, List, take, drop, codes, Option, None, Some}
+use Rattle.std.specs.Prelude.{◌≡◌, ◌≢◌, ◌⊎◌, ℕ, ◌+◌, ◌-◌, ◌%◌, ◌<◌, ◌≤◌, ◌↔◌, IsTrue, List, take, drop, codes, Option, None, Some}
 use Rattle.sector_base.specs.Fields.{field}
 use Rattle.sector_base.specs.Checksum.{checksum}
 use Rattle.sector_base.specs.declared.checksum.TheConstants.{LVM_CRC_START}
+use Rattle.mda_header.specs.declared.entry.Entry.{Entry}
+use Rattle.mda_header.specs.declared.entry.Entry.TheVariants.{Ignored, Nothing, Text, Refused}
 use Rattle.mda_header.specs.declared.header.Locn.{Locn}
 use Rattle.mda_header.specs.declared.header.MdaHeader.{MdaHeader}
 use Rattle.mda_header.specs.declared.refusal.MdaRefusal.{MdaRefusal}
@@ -67,3 +69,24 @@ IsRefused sector start size (SizeBad said sought) =
     IsSound sector × (field 8 sector 24 ≡ start) × (field 8 sector 32 ≡ said) × (sought ≡ size) × (said ≢ size)
 IsRefused sector start size (LocnOutside offset text_size) =
     IsOfArea sector start size × ((locn_at sector 40).offset ≡ offset) × ((locn_at sector 40).size ≡ text_size) × (offset ≢ 0) × (¬ IsInside size (locn_at sector 40))
+
+-- a header of whatever area that has no committed text: nothing is held there, whatever start and size it says
+pub record HoldsNothing (sector : List ℕ) : Type 0 where
+  pub sound : IsSound sector
+  pub none : (locn_at sector 40).offset ≡ 0
+
+-- the header of this area, with a committed text inside of it
+pub record HoldsText (sector : List ℕ) (start size : ℕ) : Type 0 where
+  pub of_area : IsOfArea sector start size
+  pub inside : IsInside size (locn_at sector 40)
+
+-- the lowest bit of entry 0's flags is set
+abbrev pub HasIgnoredBit : List ℕ → Type 0
+HasIgnoredBit sector = field 4 sector 60 % 2 ≡ 1
+
+-- what the sector says of the text that is committed in the area with this start and size
+abbrev pub IsEntry : List ℕ → ℕ → ℕ → Entry → Type 0
+IsEntry sector start size Ignored = (HoldsNothing sector ⊎ HoldsText sector start size) × HasIgnoredBit sector
+IsEntry sector start size Nothing = HoldsNothing sector × (¬ HasIgnoredBit sector)
+IsEntry sector start size (Text locn) = HoldsText sector start size × (¬ HasIgnoredBit sector) × (locn ≡ locn_at sector 40)
+IsEntry sector start size (Refused refusal) = IsRefused sector start size refusal × (¬ HoldsNothing sector)

@@ -2,7 +2,7 @@
 ghost use Rattle.std.specs.Prelude.{◌≡◌, ◌+◌, ◌%◌, ◌≤◌, ◌↔◌, IsTrue, MatchResult, MatchOption, take, drop, codes};
 ghost use Rattle.sector_base.specs.Checksum.{checksum};
 ghost use Rattle.sector_base.specs.Fields.{field};
-ghost use Rattle.mda_header.specs.Header.{IsHeader, IsInside, IsOfArea, IsRefused, locn_at};
+ghost use Rattle.mda_header.specs.Header.{HasIgnoredBit, HoldsNothing, IsHeader, IsInside, IsOfArea, IsRefused, locn_at};
 ghost use Rattle.mda_header.specs.declared.header.MdaHeader.{MdaHeader as Header};
 
 use crate::{Locn, MdaHeader, MdaRefusal};
@@ -110,9 +110,19 @@ fn if_inside(locn: Locn, size: u64) -> Option<Locn>
     }
 }
 
+// Whether it is a header of lvm2's version, of whatever area, that has no committed text.
+pub(crate) fn holds_nothing(sector: &Bytes512) -> bool
+    ensures { IsTrue result ↔ HoldsNothing sector.now }
+{
+    get_u32(sector, 0) == covered_sum(sector)
+        && has_magic(sector)
+        && get_u32(sector, 20) == 1
+        && get_u64(sector, 40) == 0
+}
+
 // The lowest bit of entry 0's flags.
-fn is_ignored(sector: &Bytes512) -> bool
-    ensures { IsTrue result ↔ (field 4 sector.now 60 % 2 ≡ 1) }
+pub(crate) fn is_ignored(sector: &Bytes512) -> bool
+    ensures { IsTrue result ↔ HasIgnoredBit sector.now }
 {
     get_u32(sector, 60) & 1 == 1
 }

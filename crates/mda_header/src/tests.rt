@@ -1,5 +1,5 @@
 //! Entries at the area's ends, each refusal, and what is written byte for byte.
-use crate::{Locn, MdaHeader, MdaRefusal, read_mda, write_mda};
+use crate::{Entry, Locn, MdaHeader, MdaRefusal, read_entry, read_mda, write_mda};
 use sector_base::{Bytes512, LVM_CRC_START, crc, put_u32, put_u64};
 
 // A header of version 1 of the area of 4,096 bytes at byte 8,192, with these entries, and its checksum.
@@ -23,6 +23,12 @@ fn summed(mut sector: Bytes512) -> Bytes512 {
     let sum = crc(LVM_CRC_START, &sector.as_bytes()[4..]);
     put_u32(&mut sector, 0, sum);
     sector
+}
+
+// The header with the bit that says that its area is ignored.
+fn ignored(mut sector: Bytes512) -> Bytes512 {
+    put_u32(&mut sector, 60, 1);
+    summed(sector)
 }
 
 #[test]
@@ -145,4 +151,50 @@ fn what_is_written_is_read_again(rt: HostRuntime) {
         b"\0\x10\0\0\0\0\0\0\0\xf0\x0f\0\0\0\0\0".as_slice()
     );
     assert_eq!(rt; &bytes[40..], [0; 472].as_slice());
+}
+
+#[test]
+fn a_header_says_what_is_committed(rt: HostRuntime) {
+    let empty = header((0, 7), (512, 100));
+    let full = header((512, 100), (0, 0));
+    let outside = header((511, 1), (0, 0));
+    let mut version = empty;
+    put_u32(&mut version, 20, 2);
+    let text = Entry::Text(Locn {
+        offset: 512,
+        size: 100,
+        sum: 17,
+    });
+    let locn = MdaRefusal::LocnOutside {
+        offset: 511,
+        size: 1,
+    };
+    // What is said, and what is said with the ignored bit.
+    let rows = [
+        (empty, 8192, 4096, Entry::Nothing, Entry::Ignored),
+        (empty, 8191, 4096, Entry::Nothing, Entry::Ignored),
+        (empty, 8192, 4095, Entry::Nothing, Entry::Ignored),
+        (full, 8192, 4096, text, Entry::Ignored),
+        refused(full, 8191, 4096, MdaRefusal::WrongStart(8192, 8191)),
+        refused(full, 8192, 4095, MdaRefusal::SizeBad(4096, 4095)),
+        refused(outside, 8192, 4096, locn),
+        refused(summed(version), 8192, 4096, MdaRefusal::BadVersion(2)),
+    ];
+    for (sector, start, size, want, with_bit) in rows {
+        assert_eq!(rt; read_entry(&sector, start, size), want);
+        assert_eq!(rt; read_entry(&ignored(sector), start, size), with_bit);
+    }
+    let blank = Entry::Refused(MdaRefusal::BadSum(0, SUM_OF_ZEROS));
+    assert_eq!(rt; read_entry(&Bytes512::zeroed(), 8192, 4096), blank);
+}
+
+// A row of a sector that is refused, whatever its ignored bit.
+fn refused(
+    sector: Bytes512,
+    start: u64,
+    size: u64,
+    refusal: MdaRefusal,
+) -> (Bytes512, u64, u64, Entry, Entry) {
+    let want = Entry::Refused(refusal);
+    (sector, start, size, want, want)
 }

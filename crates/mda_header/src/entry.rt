@@ -1,0 +1,42 @@
+//! What a header sector says of the text that is committed in its area.
+ghost use Rattle.std.specs.Prelude.{◌≡◌};
+ghost use Rattle.mda_header.specs.Header.{IsEntry};
+ghost use Rattle.mda_header.specs.declared.entry.Entry.{Entry as EntryOf};
+
+use crate::read::{holds_nothing, is_ignored};
+use crate::{Locn, MdaRefusal, read_mda};
+use sector_base::Bytes512;
+
+/// What a header sector says of the text that is committed in its area.
+#[derive(Clone, Copy, Debug, Drop, PartialEq, Eq)]
+pub enum Entry {
+    /// The area is neither read nor written.
+    Ignored,
+    /// No text is committed.
+    Nothing,
+    /// The text that stands there is committed.
+    Text(Locn),
+    /// The sector isn't the header of the area.
+    Refused(MdaRefusal),
+}
+
+/// Reads what the sector says of the text that is committed in the area that begins at the byte `start` of its disk and
+/// has `size` bytes. A header of lvm2's version without a committed text holds nothing, whatever start and size it
+/// says.
+#[tactic(auto, using(crate::proofs::OneEntry::one_entry))]
+pub fn read_entry(sector: &Bytes512, start: u64, size: u64) -> Entry
+    ensures entry { IsEntry sector.now start size result }
+    // The sector says one thing.
+    ensures one { (other : EntryOf) → IsEntry sector.now start size other → other ≡ result }
+{
+    match read_mda(sector, start, size) {
+        Ok(header) if header.ignored => Entry::Ignored,
+        Ok(header) => match header.committed {
+            Some(locn) => Entry::Text(locn),
+            None => Entry::Nothing,
+        },
+        Err(refusal) if !holds_nothing(sector) => Entry::Refused(refusal),
+        Err(_) if is_ignored(sector) => Entry::Ignored,
+        Err(_) => Entry::Nothing,
+    }
+}
