@@ -1,6 +1,7 @@
 -- What is gathered from the sectors of an entry.
 use Rattle.std.proofs.Common.{◌≡◌, ℕ, ◌+◌, ◌%◌, List, [], ◌∷◌, ◌++◌, length, map, ap, ◌∙◌}
 use Rattle.std.specs.List.{range_with_len}
+use Rattle.std.proofs.lemmas.List.FromFn.{length-map-range_with_len}
 use Rattle.mda_header.specs.Header.{IsInside}
 use Rattle.mda_header.specs.declared.header.Locn.{Locn}
 use Rattle.mda_ring.specs.declared.area.Area.{Area}
@@ -28,3 +29,7 @@ taken-text_at area locn sectors bytes sector_at good inside all is read =
 pub taken-text_sectors : (locn : Locn) (sectors : List (List ℕ)) (bytes text : List ℕ) → IsTaken locn sectors bytes → sectors ≡ text_sectors text (need (length text + 1)) → locn.offset % 512 ≡ 0 → locn.size ≡ length text + 1 → bytes ≡ text ++ 0 ∷ []
 taken-text_sectors locn sectors bytes text is put whole long =
     bytes-text_sectors text sectors bytes (locn.offset % 512) locn.size put whole long is.taken
+
+-- they are as many as the entry says
+pub taken-length : (locn : Locn) (sectors : List (List ℕ)) (bytes : List ℕ) → IsTaken locn sectors bytes → length bytes ≡ locn.size
+taken-length locn sectors bytes is = ap length is.taken ∙ length-map-range_with_len (λ m. byte_in sectors (locn.offset % 512 + m)) 0 locn.size

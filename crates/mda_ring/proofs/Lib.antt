@@ -1,5 +1,6 @@
 mod EntryBytes
 mod NextPlace
 mod RingPlaces
+mod SectorParts
 mod SpanLaws
 mod TextBytes

@@ -156,10 +156,6 @@ without_zero-zero text =
 pub scattered_more : (text : List ℕ) (k : ℕ) → text_sectors text (k + 1) ≡ text_sectors text k ++ text_sector text k ∷ []
 scattered_more text k = map-range_with_len_more (text_sector text) 0 k k (omega arith)
 
--- one byte more is taken
-pub taken_more : (sectors : List (List ℕ)) (skip j : ℕ) → map (λ m. byte_in sectors (skip + m)) (range_with_len 0 (j + 1)) ≡ map (λ m. byte_in sectors (skip + m)) (range_with_len 0 j) ++ byte_in sectors (skip + j) ∷ []
-taken_more sectors skip j = map-range_with_len_more (λ m. byte_in sectors (skip + m)) 0 j j (omega arith)
-
 -- bytes that are put over zeros are filled up
 pub with_zeros-put : (zeros bytes : List ℕ) (k start m : ℕ) → start ≡ min (512 * k) (length bytes) → zeros ≡ replicate 512 0 → m ≡ min (length (take (length bytes - start) (drop start bytes))) 512
     → with_bytes zeros 0 (take m (take (length bytes - start) (drop start bytes))) ≡ text_sector bytes k

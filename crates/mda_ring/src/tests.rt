@@ -3,7 +3,10 @@ ghost use Rattle.std.specs.Prelude.{◌≡◌};
 ghost use Rattle.mda_header.specs.Header.{IsInside};
 
 use crate::counts::touched_sectors;
-use crate::{Area, Areas, Place, RingRefusal, gather, plan_next, scatter, spans};
+use crate::{
+    Area, Areas, Place, RingRefusal, gather, gather_bytes, is_stored_as, plan_next, scatter, spans,
+    stored_text,
+};
 use mda_header::Locn;
 use sector_base::{Bytes512, Sectors, Span, Text};
 use std::alloc::{AllocError, Global};
@@ -130,6 +133,20 @@ fn gathered(
     gather(alloc, &AREA, text, sectors)
 }
 
+// What is stored in these sectors, if they are as many as the entry's text touches.
+fn stored(
+    rt: &impl Abort,
+    alloc: Global,
+    text: Locn,
+    sectors: &Sectors,
+) -> Result<Vec<u8>, AllocError>
+    requires { IsInside 4096 text }
+{
+    let touched_count = touched_sectors(4_096, text.offset, text.size);
+    assert!(rt; sectors.len() as u64 == touched_count);
+    gather_bytes(alloc, &AREA, text, sectors)
+}
+
 // Sector number `k` of so many bytes of the pattern and zeros behind them.
 fn pattern_sector(k: usize, count: usize) -> Bytes512 {
     let mut bytes = [0; 512];
@@ -184,7 +201,8 @@ fn bytes_of_a_text_come_round(rt: HostRuntime) -> Result<(), Fail> {
             list.push(pattern_sector(*k, 4_096))?;
         }
         let stands = entry(&rt, offset, size, sum);
-        let text = gathered(&rt, rt.alloc(), stands, &Sectors::from_vec(list))?;
+        let bytes = stored(&rt, rt.alloc(), stands, &Sectors::from_vec(list))?;
+        let text = stored_text(bytes, stands)?;
         assert_eq!(rt; text.as_bytes().len() as u64, size);
         for (j, byte) in text.as_bytes().iter().enumerate() {
             let place = (offset as usize).wrapping_add(j);
@@ -210,18 +228,40 @@ fn gathers_what_has_the_checksum(rt: HostRuntime) -> Result<(), Fail> {
         (b"vg {}", 0x182F_C4C4, differs(0x182F_C4C4, 0x9883_B3D7)),
         (b"vg {}\0", 0x9883_B3D7, differs(0x9883_B3D7, 0x182F_C4C4)),
     ];
-    for (stored, sum, want) in rows {
-        assert!(rt; stored.len() <= 512);
+    for (bytes, sum, want) in rows {
+        assert!(rt; bytes.len() <= 512);
         let mut sector = Bytes512::new([0xAA; 512]);
-        sector.put(0, stored);
+        sector.put(0, bytes);
         let sectors = Sectors::from_vec(vec![in rt.alloc(); sector]?);
-        let stands = entry(&rt, 512, stored.len() as u64, sum);
+        let stands = entry(&rt, 512, bytes.len() as u64, sum);
+        assert_eq!(rt;
+            stored(&rt, rt.alloc(), stands, &sectors)?.as_slice(),
+            bytes
+        );
         match gathered(&rt, rt.alloc(), stands, &sectors) {
             Ok(text) => assert_eq!(rt; Ok(text.as_bytes()), want),
             Err(refusal) => assert_eq!(rt; Err(refusal), want),
         }
     }
     Ok(())
+}
+
+#[test]
+fn a_text_is_compared_without_its_zero_byte(rt: HostRuntime) {
+    let rows: [(&[u8], &[u8], bool); 9] = [
+        (b"vg {}", b"vg {}", true),
+        (b"vg {}", b"vg {}\0", true),
+        (b"vg {}", b"vg {}\0\0", false),
+        (b"vg {}\0", b"vg {}\0", false),
+        (b"vg {}\0", b"vg {}\0\0", true),
+        (b"wg {}", b"vg {}\0", false),
+        (b"vg {", b"vg {}", false),
+        (b"", b"\0", true),
+        (b"", b"", true),
+    ];
+    for (text, bytes, want) in rows {
+        assert_eq!(rt; is_stored_as(text, bytes), want);
+    }
 }
 
 #[test]

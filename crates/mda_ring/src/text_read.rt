@@ -1,5 +1,5 @@
 //! Reading a text from sectors.
-ghost use Rattle.std.specs.Prelude.{◌≡◌, ℕ, ◌+◌, ◌%◌, ◌^◌, ◌<◌, List, [], ◌∷◌, ◌++◌, length, map, IfOk, MatchResult};
+ghost use Rattle.std.specs.Prelude.{◌≡◌, ℕ, ◌+◌, ◌%◌, ◌^◌, ◌<◌, ◌≤◌, ◌≢◌, ◌↔◌, IsTrue, List, [], ◌∷◌, ◌++◌, length, map, IfErr, IfOk, MatchResult};
 ghost use Rattle.std.specs.List.{range_with_len};
 ghost use Rattle.sector_base.specs.Checksum.{checksum};
 ghost use Rattle.mda_header.specs.Header.{IsInside};
@@ -34,8 +34,41 @@ pub fn gather(
         → locn.offset % 512 ≡ 0 → locn.size ≡ length text + 1 → locn.sum ≡ checksum LVM_CRC_START (text ++ 0 ∷ [])
         → MatchResult result (λ gathered. gathered ≡ text) (λ refusal. refusal ≡ NoMemory) }
 {
+    let bytes = gather_bytes(alloc, area, locn, sectors)?;
+    stored_text(bytes, locn)
+}
+
+/// The bytes of the entry's text as they are stored, where these are the sectors of its spans, in order.
+///
+/// # Errors
+///
+/// Where memory is wanting.
+pub fn gather_bytes(
+    alloc: Global,
+    area: &Area,
+    locn: Locn,
+    sectors: &Sectors,
+) -> Result<Vec<u8>, AllocError>
+    requires area { IsArea area.now }
+    requires entry { IsInside area.now.size locn }
+    requires sectors { length sectors.now ≡ touched_count area.now.size locn.offset locn.size }
+    ensures gathered { (sector_at : ℕ → List ℕ) → AreRead sector_at area.now.size locn.offset sectors.now
+        → IfOk result (λ bytes. bytes.items ≡ text_at sector_at area.now.size locn.offset locn.size) }
+    // A text that was put into the sectors is stored with a zero byte.
+    ensures text_sectors { (text : List ℕ) → sectors.now ≡ text_sectors text (need (length text + 1))
+        → locn.offset % 512 ≡ 0 → locn.size ≡ length text + 1 → IfOk result (λ bytes. bytes.items ≡ text ++ 0 ∷ []) }
+    ensures count { IfOk result (λ bytes. length bytes.items ≡ locn.size) }
+{
     let skip = (locn.offset % 512) as usize;
-    let bytes = bytes_from(alloc, sectors.as_slice(), skip, locn.size as usize)?;
+    bytes_from(alloc, sectors.as_slice(), skip, locn.size as usize)
+}
+
+/// The text that is stored as these bytes, one final zero byte dropped where it stands. It is refused as `SumDiffers`
+/// exactly where their checksum, the zero byte among them, isn't that of the entry.
+pub fn stored_text(bytes: Vec<u8>, locn: Locn) -> Result<Text, RingRefusal>
+    ensures text { MatchResult result (IsTextOf locn bytes.items) (IsDamaged locn bytes.items) }
+    ensures damaged { IfErr result (λ refusal. refusal ≢ NoMemory) }
+{
     let found = crc(LVM_CRC_START, &bytes);
     if found != locn.sum {
         return Err(RingRefusal::SumDiffers {
@@ -44,6 +77,13 @@ pub fn gather(
         });
     }
     Ok(Text::from_vec(drop_zero(bytes)))
+}
+
+/// Whether the text is what is stored as these bytes, one final zero byte dropped where it stands.
+pub fn is_stored_as(text: &[u8], bytes: &[u8]) -> bool
+    ensures { IsTrue result ↔ (text.now ≡ without_zero bytes.now) }
+{
+    text == before_zero(bytes)
 }
 
 // So many bytes of the sectors, one behind the other, from the byte `skip` on; behind the last comes the first.
@@ -59,21 +99,25 @@ fn bytes_from(
     ensures { IfOk result (λ bytes. bytes.items ≡ map (λ j. byte_in sectors.now (skip + j)) (range_with_len 0 count)) }
 {
     let mut bytes = Vec::with_capacity(alloc, count)?;
-    for j in 0..count {
-        bytes.push(byte_at(sectors, skip + j))?;
+    while bytes.len() < count {
+        let part = part_at(sectors, skip + bytes.len(), count - bytes.len());
+        bytes.extend_from_slice(part)?;
     }
     Ok(bytes)
 }
 
-// The byte at this place of the sectors, one behind the other; behind the last comes the first.
-fn byte_at(sectors: &[Bytes512], at: usize) -> u8
+// The bytes from this place of the sectors to the end of its sector, but no more than `most`; behind the last sector
+// comes the first.
+fn part_at(sectors: &[Bytes512], at: usize, most: usize) -> &[u8]
     requires some { 0 < length sectors.now }
     requires few { length sectors.now < 2 ^ 48 }
-    ensures { result ≡ byte_in sectors.now at }
+    ensures bytes { result.now ≡ map (λ j. byte_in sectors.now (at + j)) (range_with_len 0 (length result.now)) }
+    ensures more { 0 < most → 0 < length result.now }
+    ensures most { length result.now ≤ most }
 {
-    let at = at % (512 * sectors.len());
-    let sector = &sectors[at / 512];
-    sector.as_bytes()[at % 512]
+    let place = at % (512 * sectors.len());
+    let rest = &sectors[place / 512].as_bytes()[place % 512..];
+    &rest[..rest.len().min(most)]
 }
 
 // The bytes without one final zero byte.
@@ -84,4 +128,15 @@ fn drop_zero(mut bytes: Vec<u8>) -> Vec<u8>
         bytes.pop();
     }
     bytes
+}
+
+// The bytes without one final zero byte, where they are.
+fn before_zero(bytes: &[u8]) -> &[u8]
+    ensures { result.now ≡ without_zero bytes.now }
+{
+    if bytes.last() == Some(&0) {
+        &bytes[..bytes.len() - 1]
+    } else {
+        bytes
+    }
 }
