@@ -1,3 +1,4 @@
 pub mod Covered
+pub mod FreeCount
 pub mod FreeRuns
 pub mod Gaps

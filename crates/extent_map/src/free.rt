@@ -1,6 +1,7 @@
 //! Free extents.
 ghost use Rattle.std.specs.Prelude.{◌≡◌, ◌<◌, length, sum_by, List, IfOk};
 ghost use Rattle.extent_map.specs.declared.extent_run.ExtentRun.{ExtentRun as RunOf};
+ghost use Rattle.extent_map.specs.FreeCount.{free_extents};
 ghost use Rattle.extent_map.specs.FreeRuns.{AreFreeRuns};
 ghost use Rattle.volume_rules.specs.Rules.{IsAccepted};
 
@@ -32,7 +33,8 @@ pub fn free_runs(alloc: Global, group: &Group, pv: u32) -> Result<ExtentRuns, Al
 pub fn free_count(group: &Group, pv: u32) -> u64
     requires accepted { IsAccepted group.now }
     requires stands { pv < length group.now.pvs }
-    ensures { (runs : List RunOf) × AreFreeRuns group.now pv runs × (result ≡ sum_by (λ (run : RunOf). run.count) runs) }
+    ensures runs { (runs : List RunOf) × AreFreeRuns group.now pv runs × (result ≡ sum_by (λ (run : RunOf). run.count) runs) }
+    ensures count { result ≡ free_extents group.now pv }
 {
     let (_, volume) = group.pvs.get(pv as usize);
     volume.pe_count - covered_there(&group.lvs, pv)
