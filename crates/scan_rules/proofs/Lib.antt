@@ -1,0 +1,11 @@
+pub mod Answering
+pub mod FlatLists
+pub mod Greatest
+pub mod Members
+pub mod OlderCopies
+pub mod Repairs
+pub mod SameLists
+pub mod SameShape
+pub mod Scanning
+pub mod Silent
+pub mod Steps

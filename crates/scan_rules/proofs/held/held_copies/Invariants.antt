@@ -1,0 +1,6 @@
+use Rattle.std.proofs.Common.{◌≡◌, ◌≤◌, ℕ, ◌+◌, ◌*◌, ◌++◌, ◌&&◌, [], List, length, drop, find}
+use Rattle.scan_rules.specs.Flat.{held_on}
+use Rattle.scan_rules.proofs.held.held_copies.Given as goal
+
+abbrev pub invariant-loop-number : goal.invariant-loop-number
+invariant-loop-number l = l.held.items ++ held_on l.number (drop l.number l.disks) ≡ held_on 0 l.disks

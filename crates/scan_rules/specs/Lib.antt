@@ -1,0 +1,7 @@
+pub mod Copies
+pub mod Decision
+pub mod Answers
+pub mod Flat
+pub mod Found
+pub mod Laws
+pub mod Readings
