@@ -1,5 +1,5 @@
 -- The sectors of a text, which are read as one span or two.
-use Rattle.std.proofs.Common.{◌≡◌, ◌<◌, ◌≤◌, ℕ, ◌+◌, ◌-◌, ◌/◌, ◌++◌, List, [], ◌∷◌, length, slice_index_or, Option, None, Some, IfSome, inl, inr, refl, sym, ap, subst, ◌∙◌, arith, length-append}
+use Rattle.std.proofs.Common.{◌≡◌, ◌<◌, ◌≤◌, ℕ, ◌+◌, ◌-◌, ◌/◌, ◌++◌, List, [], ◌∷◌, length, slice_index_or, Option, Some, IfSome, inl, inr, refl, sym, ap, subst, ◌∙◌, arith, length-append}
 use Rattle.std.specs.Option.{option_map_or}
 use Rattle.std.proofs.lemmas.Bool.{cases_lt}
 use Rattle.std.proofs.lemmas.Bool.Decides.{nat_tests}
@@ -10,11 +10,10 @@ use Rattle.mda_ring.specs.declared.area.Area.{Area}
 use Rattle.mda_ring.specs.Ring.{ring_sector, touched_count}
 use Rattle.mda_ring.specs.RingSpans.{IsInArea, nth_sector, ring_spans, spans_count}
 use Rattle.disk_model.specs.State.{State}
-use Rattle.vg_scan.specs.declared.read_refusal.ReadRefusal.{ReadRefusal}
-use Rattle.vg_scan.specs.Copies.{text_spans}
-use Rattle.vg_scan.specs.EntryTexts.{AreTextSectors}
-use Rattle.vg_scan.specs.Parts.{ReadsUntil, ReadsWell}
-use Rattle.vg_scan.proofs.ReadingParts.{until_after, until_sooner, well_both}
+use Rattle.disk_contents.specs.declared.read_refusal.ReadRefusal.{ReadRefusal}
+use Rattle.vg_scan.specs.Texts.{AreTextSectors, text_spans}
+use Rattle.disk_contents.specs.Parts.{ReadsUntil, ReadsWell}
+use Rattle.disk_contents.proofs.ReadingParts.{until_after, until_sooner, well_both}
 
 -- the spans have the sectors that the text touches, in the order of its bytes
 pub record AreSpansOf (area : Area) (locn : Locn) (spans : Span × Option Span) : Type 0 where
@@ -30,18 +29,6 @@ nth-first first rest k lt = grind (arith, nat_tests)
 
 nth-rest : (first rest : Span) (k : ℕ) → first.count ≤ k → nth_sector (first, Some rest) k ≡ rest.first + (k - first.count)
 nth-rest first rest k le = grind (arith, nat_tests)
-
--- one span was read
-pub read_alone : (area : Area) (locn : Locn) (first : Span) (sectors : List (List ℕ)) → AreSpansOf area locn (first, None) → length sectors ≡ first.count
-    → (sector_at : ℕ → List ℕ) → IsSpanRead first sectors sector_at → AreTextSectors sector_at area locn sectors
-read_alone area locn first sectors spans long sector_at read = record {
-  read = record {
-    each = λ k lt.
-        let here : k < first.count = omega arith in
-        let count : first.count + 0 ≡ touched_count area.size locn.offset locn.size = spans.count_xl in
-        read k here ∙ ap sector_at (sym (nth-first first None k here) ∙ spans.order k (omega arith));
-  };
-}
 
 -- two were read
 pub read_joined : (area : Area) (locn : Locn) (first rest : Span) (sectors more all : List (List ℕ)) → AreSpansOf area locn (first, Some rest) → length sectors ≡ first.count → length more ≡ rest.count → all ≡ sectors ++ more
@@ -66,18 +53,6 @@ read_joined area locn first rest sectors more all spans long long' joined sector
               ∙ read' (k - length sectors) (omega arith)
               ∙ ap sector_at (ap (λ (n : ℕ). rest.first + (k - n)) long ∙ sym (nth-rest first rest k (omega arith)) ∙ spans.order k (omega arith))
         ]
-
--- so many they are
-pub count_alone : (area : Area) (locn : Locn) (first : Span) (sectors : List (List ℕ)) → AreSpansOf area locn (first, None) → length sectors ≡ first.count → length sectors ≡ touched_count area.size locn.offset locn.size
-count_alone area locn first sectors spans long =
-    let count : first.count + 0 ≡ touched_count area.size locn.offset locn.size = spans.count_xl in
-    omega arith
-
-pub count_joined : (area : Area) (locn : Locn) (first rest : Span) (sectors more all : List (List ℕ)) → AreSpansOf area locn (first, Some rest) → length sectors ≡ first.count → length more ≡ rest.count → all ≡ sectors ++ more
-    → length all ≡ touched_count area.size locn.offset locn.size
-count_joined area locn first rest sectors more all spans long long' joined =
-    let count : first.count + rest.count ≡ touched_count area.size locn.offset locn.size = spans.count_xl in
-    ap length joined ∙ length-append sectors more ∙ omega arith
 
 -- ---- the parts of the call
 

@@ -1,74 +1,70 @@
--- What single areas and their texts give, on the way to the scan of a disk.
-use Rattle.std.specs.Prelude.{◌≡◌, ◌≢◌, ◌≤◌, ◌<◌, ◌⊎◌, ℕ, List, [], ◌∷◌, length, flat_map, Contains, Result, Ok, Err, Option, None, Some}
-use Rattle.std.specs.Option.{option_map_or}
-use Rattle.sector_base.specs.declared.spans.Span.{Span}
-use Rattle.mda_header.specs.declared.header.Locn.{Locn}
+-- How the disks of an image read: what a scan decides over.
+use Rattle.std.specs.Prelude.{◌≡◌, ℕ, ◌+◌, ◌/◌, List, [], ◌∷◌, map, Option, Some, None}
+use Rattle.std.specs.FinSet as set
+use Rattle.std.specs.Ordering.{nat_cmp}
+use Rattle.disk_model.specs.Steps.{Image}
+use Rattle.mda_header.specs.declared.entry.Entry.{Entry}
+use Rattle.mda_header.specs.declared.entry.Entry.TheVariants.{Ignored, Nothing, Text, Refused as RefusedFor}
 use Rattle.mda_ring.specs.declared.area.Area.{Area}
-use Rattle.conf_text.specs.Entries.{Conf}
-use Rattle.conf_text.specs.Grammar.{IsTextOf}
-use Rattle.conf_text.specs.Refusals.{IsCause}
-use Rattle.conf_text.specs.declared.refusal.ConfRefusal.TheVariants.{NoMemory}
-use Rattle.meta_model.specs.Standing.{HasTree, group_of}
-use Rattle.meta_model.specs.declared.group.Group.{Group}
-use Rattle.vg_scan.specs.declared.contents.AreaFound.{AreaFound}
-use Rattle.vg_scan.specs.declared.copy_refusal.CopyRefusal.{CopyRefusal}
-use Rattle.vg_scan.specs.declared.copy_refusal.CopyRefusal.TheVariants.{TextRefused, GroupRefused}
-use Rattle.vg_scan.specs.declared.disk_scan.AreaReading.{AreaReading}
-use Rattle.vg_scan.specs.declared.disk_scan.AreaReading.TheVariants.{Nothing, Copy, Refused}
-use Rattle.vg_scan.specs.declared.disk_scan.DiskScan.{DiskScan}
-use Rattle.vg_scan.specs.declared.disk_scan.DiskScan.TheVariants as scan
-use Rattle.vg_scan.specs.Copies.{IsCopyFound, text_spans}
-use Rattle.vg_scan.specs.DiskScan.{AreReadings, area_on, committed_in, decided, entries_in, groups_of, refusals_of}
+use Rattle.disk_contents.specs.declared.contents.AreaFound.{AreaFound}
+use Rattle.disk_contents.specs.declared.contents.PvFound.{PvFound}
+use Rattle.disk_contents.specs.declared.contents.PvFound.TheVariants.{NoLabel, NoHeader, Whole}
+use Rattle.disk_contents.specs.Contents.{IsFound}
+use Rattle.disk_contents.specs.Standing.{area_on}
+use Rattle.scan_rules.specs.Decision.{Area as AreaOf, AreaReading, Found as PvOf, HoldsNone, Reading, Refused}
+use Rattle.scan_rules.specs.declared.copy_refusal.CopyRefusal.TheVariants.{HeaderRefused}
+use Rattle.vg_found.specs.declared.disk.Disk.{Disk}
+use Rattle.vg_found.specs.Shape.{IsUnread}
+use Rattle.vg_scan.specs.Texts.{IsStored, stored_bytes}
 
--- what a tree stands for: the group, or the first key that is refused
-abbrev pub IsGroupIn : Conf → Result Group CopyRefusal → Type 0
-IsGroupIn tree (Ok group) = group_of tree ≡ Ok group
-IsGroupIn tree (Err (GroupRefused refusal)) = group_of tree ≡ Err refusal
-IsGroupIn tree (Err refusal) = ⊥
+-- what an area gives, by what its header sector says of the committed text: nothing is read of one that is ignored
+abbrev pub IsGiven : (ℕ → List ℕ) → Area → Entry → Option AreaReading → Type 0
+IsGiven sector_at area Ignored reading = reading ≡ None
+IsGiven sector_at area Nothing reading = reading ≡ Some HoldsNone
+IsGiven sector_at area (Text locn) reading = (given : AreaReading) × (reading ≡ Some given) × IsStored locn (stored_bytes sector_at area locn) given
+IsGiven sector_at area (RefusedFor refusal) reading = reading ≡ Some (Refused (HeaderRefused refusal))
 
--- what a text stands for: the group of its tree, why it has no tree, or why the tree stands for no group
-abbrev pub IsGroupOfText : List ℕ → Result Group CopyRefusal → Type 0
-IsGroupOfText text (Ok group) = (tree : Conf) × IsTextOf text tree × (group_of tree ≡ Ok group)
-IsGroupOfText text (Err (TextRefused refusal)) = IsCause text refusal × (refusal ≢ NoMemory)
-IsGroupOfText text (Err (GroupRefused refusal)) = (tree : Conf) × IsTextOf text tree × (group_of tree ≡ Err refusal)
-IsGroupOfText text (Err refusal) = ⊥
+-- an area that was found, as it reads
+pub record IsAreaReading (pv : ℕ) (sector_at : ℕ → List ℕ) (found : AreaFound) (area : AreaOf) : Type 0 where
+  pub start_xl : area.start ≡ found.area.offset / 512
+  pub sectors_xl : area.sectors ≡ found.area.size / 512
+  pub given : IsGiven sector_at (area_on pv found.area) found.entry area.reading
 
--- what the committed text of an area gives: its group, or why it is none
-abbrev pub IsTextReading : (ℕ → List ℕ) → Area → Locn → AreaReading → Type 0
-IsTextReading sector_at area locn Nothing = ⊥
-IsTextReading sector_at area locn (Copy group) = IsCopyFound sector_at area locn (Ok group)
-IsTextReading sector_at area locn (Refused refusal) = IsCopyFound sector_at area locn (Err refusal)
+-- areas in their order
+abbrev pub AreAreaReadings : ℕ → (ℕ → List ℕ) → List AreaFound → List AreaOf → Type 0
+AreAreaReadings pv sector_at [] [] = Unit {0}
+AreAreaReadings pv sector_at [] (area ∷ areas) = ⊥
+AreAreaReadings pv sector_at (found ∷ more) [] = ⊥
+AreAreaReadings pv sector_at (found ∷ more) (area ∷ areas) = IsAreaReading pv sector_at found area × AreAreaReadings pv sector_at more areas
 
--- what these areas come to, as in the scan of their disk
-abbrev pub IsScanOfAreas : ℕ → (ℕ → List ℕ) → List AreaFound → DiskScan → Type 0
-IsScanOfAreas pv sector_at areas scan.NotYet = 2 ≤ length (entries_in areas)
-IsScanOfAreas pv sector_at areas result =
-    (length (entries_in areas) < 2) × ((readings : List AreaReading) × AreReadings pv sector_at areas readings × (result ≡ decided (groups_of readings) (refusals_of readings)))
+-- the physical volume that was found, as it reads; none without a header, and none where the disk is unread
+abbrev pub IsPvReading : ℕ → (ℕ → List ℕ) → Option PvFound → Option PvOf → Type 0
+IsPvReading pv sector_at None reading = reading ≡ None
+IsPvReading pv sector_at (Some (NoLabel refusal)) reading = reading ≡ None
+IsPvReading pv sector_at (Some (NoHeader label refusal)) reading = reading ≡ None
+IsPvReading pv sector_at (Some (Whole label header areas)) None = ⊥
+IsPvReading pv sector_at (Some (Whole label header areas)) (Some reading) = (reading.id ≡ header.id) × AreAreaReadings pv sector_at areas reading.areas
 
--- the first of these groups
-abbrev pub first_of : List Group → Option Group
-first_of [] = None
-first_of (group ∷ groups) = Some group
+-- what stands on a disk that was read
+abbrev pub IsContents : (ℕ → List ℕ) → ℕ → Option PvFound → Type 0
+IsContents sector_at sectors None = Unit {0}
+IsContents sector_at sectors (Some contents) = IsFound sector_at sectors contents
 
--- what the first group, if there is one, and the refusals come to
-abbrev pub IsDecided : Option Group → List CopyRefusal → DiskScan → Type 0
-IsDecided group refusals result = (groups : List Group) → first_of groups ≡ group → result ≡ decided groups refusals
+-- a disk with these sectors: what stands there, and how it reads
+pub record IsDiskReading (pv : ℕ) (sector_at : ℕ → List ℕ) (disk : Disk) (reading : Reading) : Type 0 where
+  pub contents : IsContents sector_at disk.sectors disk.contents
+  pub sectors_xl : reading.sectors ≡ disk.sectors
+  pub pv_xl : IsPvReading pv sector_at disk.contents reading.pv
 
--- the group that an area gives, if it gives one, has a tree
-abbrev pub HasStanding : AreaReading → Type 0
-HasStanding (Copy group) = HasTree group
-HasStanding reading = Unit {0}
+-- the disks of an image, where the first has this number, but those that are unread
+abbrev pub AreDiskReadings : Image → set.FinSet nat_cmp → ℕ → List Disk → List Reading → Type 0
+AreDiskReadings image unread pv [] [] = Unit {0}
+AreDiskReadings image unread pv [] (reading ∷ readings) = ⊥
+AreDiskReadings image unread pv (disk ∷ disks) [] = ⊥
+AreDiskReadings image unread pv (disk ∷ disks) (reading ∷ readings) =
+    IsUnread unread pv disk × IsDiskReading pv (image pv) disk reading × AreDiskReadings image unread (pv + 1) disks readings
 
--- the spans of the committed text of an area that isn't ignored
-abbrev pub spans_in : ℕ → AreaFound → List Span
-spans_in pv found = option_map_or (text_spans (area_on pv found.area)) (committed_in found.header) []
-
--- the same of these areas, in their order
-abbrev pub text_spans_in : ℕ → List AreaFound → List Span
-text_spans_in pv areas = flat_map (spans_in pv) areas
-
--- the text of one of these areas, or none
-abbrev pub AreTextsOf : ℕ → List AreaFound → List Span → Type 0
-AreTextsOf pv areas texts =
-    (texts ≡ [])
-    ⊎ ((found : AreaFound) × (locn : Locn) × Contains areas found × (committed_in found.header ≡ Some locn) × (texts ≡ text_spans (area_on pv found.area) locn))
+-- the disks of these sizes in an image, but those that are unread: what stands on them, and how they read
+pub record AreReadings (image : Image) (sizes : List ℕ) (unread : set.FinSet nat_cmp) (disks : List Disk) (readings : List Reading) : Type 0 where
+  pub sizes_xl : map (λ (disk : Disk). disk.sectors) disks ≡ sizes
+  pub each : AreDiskReadings image unread 0 disks readings

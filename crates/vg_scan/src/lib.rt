@@ -1,30 +1,21 @@
-//! What stands on one disk of lvm2's: its label, its physical volume header, the headers of its metadata areas and the
-//! group of its committed text, as the readers of the crates below tell it.
+//! The scan of disks: the group in force by the copies of its metadata that the disks hold, and what is stale, stray, missing
+//! or unread.
 //!
-//! It reads and never writes. What it finds is plain data, which the sectors determine.
+//! What a scan finds is a function of the disks' sectors: how each metadata area reads, and the decision over all readings. A
+//! scan reads and never writes, and goes on with the other disks where a read fails.
 #![tactic(auto)]
 
-mod area_headers;
-mod area_readings;
-mod contents;
-mod copies;
-mod copy_refusal;
-mod decision;
-mod disk_scan;
-mod entry_text;
-mod find;
+mod area;
+mod collected;
+mod disk;
+mod judge;
 mod laws;
-mod read_refusal;
-mod reading;
-mod scan;
+mod outcome;
+mod scanning;
+mod text_bytes;
 
-pub use contents::{AreaFound, AreasFound, PvFound};
-pub use copy_refusal::CopyRefusal;
-pub use disk_scan::{AreaReading, CopyRefusals, DiskScan};
-pub use find::find_pv;
-pub use laws::one_scan;
-pub use read_refusal::ReadRefusal;
-pub use scan::scan_disk;
+pub use laws::one_reading;
+pub use scanning::{ScanStopped, scan};
 
 #[cfg(test)]
 mod tests;

@@ -1,0 +1,5 @@
+pub mod Causes
+pub mod Contents
+pub mod Parts
+pub mod Reads
+pub mod Standing

@@ -1,0 +1,5 @@
+pub mod AllRead
+pub mod BareDisks
+pub mod HeaderDisks
+pub mod KeptLists
+pub mod ShapedAreas

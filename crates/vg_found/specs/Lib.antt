@@ -1,0 +1,4 @@
+pub mod Disks
+pub mod Laws
+pub mod Shape
+pub mod Whole

@@ -1,0 +1,59 @@
+//! The metadata areas of all disks.
+ghost use Rattle.std.specs.Prelude.{◌≡◌, ◌≤◌, ◌++◌, length, IfOk, filter_map};
+ghost use Rattle.vg_found.specs.Disks.{held_area, held_areas};
+
+use crate::Disk;
+use disk_contents::{AreaFound, PvFound};
+use mda_header::{Entry, Locn};
+use mda_ring::{Area, Areas};
+use std::alloc::{AllocError, Global};
+
+/// The metadata areas of the disks that aren't ignored, in their order, each with the entry of its committed text.
+///
+/// # Errors
+///
+/// Where memory is wanting.
+pub fn held_areas(alloc: Global, disks: &[Disk]) -> Result<Areas, AllocError>
+    requires few { length disks.now ≤ 64 }
+    ensures { IfOk result (λ areas. areas ≡ held_areas 0 disks.now) }
+{
+    let mut held = Vec::new(alloc);
+    for (number, disk) in disks.iter().enumerate() {
+        if let Some(PvFound::Whole { areas, .. }) = &disk.contents {
+            push_held(&mut held, number as u32, areas.as_slice())?;
+        }
+    }
+    Ok(Areas::from_vec(held))
+}
+
+// Puts the areas of the disk that aren't ignored behind the others.
+fn push_held(
+    held: &mut Vec<(Area, Option<Locn>)>,
+    pv: u32,
+    areas: &[AreaFound],
+) -> Result<(), AllocError>
+    ensures { IfOk result (λ _. held.new.items ≡ held.old.items ++ filter_map (held_area pv) areas.now) }
+{
+    for found in areas {
+        if let Some(area) = held_area(pv, found) {
+            held.push(area)?;
+        }
+    }
+    Ok(())
+}
+
+// The area on this disk with the entry of its committed text, where it isn't ignored.
+fn held_area(pv: u32, found: &AreaFound) -> Option<(Area, Option<Locn>)>
+    ensures { result ≡ held_area pv found.now }
+{
+    let area = Area {
+        pv,
+        start: found.area.offset,
+        size: found.area.size,
+    };
+    match found.entry {
+        Entry::Ignored => None,
+        Entry::Text(locn) => Some((area, Some(locn))),
+        Entry::Nothing | Entry::Refused(_) => Some((area, None)),
+    }
+}

@@ -1,0 +1,102 @@
+//! What was read of the disks so far. A text that was read before is known again by its bytes, and neither summed nor parsed.
+ghost use Rattle.std.specs.Prelude.{◌≡◌, ◌<◌, ◌++◌, [], ◌∷◌, length, IsTrue, IfSome, MatchResult};
+ghost use Rattle.scan_rules.specs.Readings.{DiskIsOf, copied, gives_of, reading_of};
+ghost use Rattle.scan_rules.specs.declared.readings.AreaGives.TheVariants.{Copy as Numbered};
+ghost use Rattle.vg_scan.specs.Collected.{IsKnown};
+ghost use Rattle.vg_scan.specs.Texts.{IsStored};
+
+use mda_header::Locn;
+use mda_ring::is_stored_as;
+use scan_rules::{DiskRead, GroupCopy, Readings};
+use std::alloc::{AllocError, Global};
+use std::marker::Model;
+
+// What was read of the disks so far. Contracts see it as its readings.
+#[derive(Debug, Drop)]
+pub(crate) struct Collected {
+    readings: Readings,
+    // The entry at which the text of each copy stood first.
+    entries: Vec<Locn>,
+}
+
+impl Model for Collected {
+    ghost use Rattle.scan_rules.specs.Readings.{AllRead};
+    ghost use Rattle.vg_scan.specs.Collected.{AreKnown};
+
+    ghost Value = { AllRead };
+
+    ghost view = { λ c. c.readings };
+
+    ghost invariant = { λ c. AreKnown c.entries.items c.readings.copies };
+}
+
+impl Collected {
+    // Before any disk is read.
+    pub(crate) fn new(alloc: Global) -> Self
+        ensures copies { result.copies ≡ [] }
+        ensures disks { result.disks ≡ [] }
+    {
+        Collected {
+            readings: Readings::new(alloc),
+            entries: Vec::new(alloc),
+        }
+    }
+
+    // The number of a copy whose text is stored as these bytes, at an entry of this size and sum.
+    pub(crate) fn find(&self, locn: Locn, bytes: &[u8]) -> Option<usize>
+        requires { length bytes.now ≡ locn.size }
+        ensures { IfSome result (λ number. (number < length self.now.copies) × IsStored locn bytes.now (gives_of self.now.copies (Numbered number))) }
+    {
+        let copies = self.readings.copies();
+        for (number, entry) in self.entries.iter().enumerate() {
+            if let Some(copy) = copies.get(number) {
+                if is_same_text(*entry, copy, locn, bytes) {
+                    return Some(number);
+                }
+            }
+        }
+        None
+    }
+
+    // Takes in a copy that was read at the entry, and answers its number. Only memory can be wanting; all stays then.
+    pub(crate) fn push_copy(&mut self, locn: Locn, copy: GroupCopy) -> Result<usize, AllocError>
+        requires known { IsKnown locn copy }
+        ensures copies { MatchResult result
+            (λ number. (number ≡ length self.old.copies) × (self.new.copies ≡ self.old.copies ++ copy ∷ []))
+            (λ _. self.new.copies ≡ self.old.copies) }
+        ensures disks { self.new.disks ≡ self.old.disks }
+    {
+        self.entries.reserve(1)?;
+        let number = self.readings.push_copy(copy)?;
+        self.entries.push(locn)?;
+        Ok(number)
+    }
+
+    // Takes in what was read of the next disk, one of at most 64. Only memory can be wanting; all stays then.
+    pub(crate) fn push_disk(&mut self, disk: DiskRead) -> Result<(), AllocError>
+        requires room { length self.old.disks < 64 }
+        requires numbers { DiskIsOf (length self.old.copies) disk }
+        ensures copies { self.new.copies ≡ self.old.copies }
+        ensures disks { MatchResult result
+            (λ _. self.new.disks ≡ self.old.disks ++ reading_of self.old.copies disk ∷ [])
+            (λ _. self.new.disks ≡ self.old.disks) }
+    {
+        self.readings.push_disk(disk)
+    }
+
+    // The readings of all disks.
+    pub(crate) fn into_readings(self) -> Readings
+        ensures { result ≡ self }
+    {
+        self.readings
+    }
+}
+
+// Whether the text of a copy, which stood first at `entry`, is stored as these bytes at an entry of this size and sum.
+fn is_same_text(entry: Locn, copy: &GroupCopy, locn: Locn, bytes: &[u8]) -> bool
+    requires known { IsKnown entry copy.now }
+    requires size { length bytes.now ≡ locn.size }
+    ensures { IsTrue result → IsStored locn bytes.now (copied copy.now) }
+{
+    entry.size == locn.size && entry.sum == locn.sum && is_stored_as(copy.text.as_bytes(), bytes)
+}
