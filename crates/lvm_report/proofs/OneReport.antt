@@ -1,6 +1,6 @@
 -- A disk has one report.
 use Rattle.std.proofs.Common.{◌≡◌, ℕ, List, sym, ap, ◌∙◌}
-use Rattle.vg_scan.proofs.OneFinding.{one_finding}
+use Rattle.disk_contents.proofs.OneFinding.{one_finding}
 use Rattle.lvm_report.specs.Report.{IsReport, report_of}
 
 -- a disk has one report

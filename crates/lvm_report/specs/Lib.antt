@@ -1,2 +1,8 @@
+pub mod Columns
 pub mod Lines
+pub mod Marks
 pub mod Report
+pub mod Reports
+pub mod StaleAreas
+pub mod VolumeLine
+pub mod Volumes

@@ -7,10 +7,10 @@ use Rattle.mda_header.specs.ShownMda.{shown_mda}
 use Rattle.pv_header.specs.declared.header.PvHeader.{PvHeader}
 use Rattle.pv_header.specs.ShownPv.{shown_pv}
 use Rattle.pv_label.specs.ShownLabel.{shown_label}
-use Rattle.vg_scan.specs.declared.contents.AreaFound.{AreaFound}
-use Rattle.vg_scan.specs.declared.contents.PvFound.{PvFound}
-use Rattle.vg_scan.specs.declared.contents.PvFound.TheVariants.{NoLabel, NoHeader, Whole}
-use Rattle.vg_scan.specs.Contents.{IsFound}
+use Rattle.disk_contents.specs.declared.contents.AreaFound.{AreaFound}
+use Rattle.disk_contents.specs.declared.contents.PvFound.{PvFound}
+use Rattle.disk_contents.specs.declared.contents.PvFound.TheVariants.{NoLabel, NoHeader, Whole}
+use Rattle.disk_contents.specs.Contents.{IsFound}
 use Rattle.lvm_report.specs.Lines.{area_line, committed_line, data_line, extension_line, id_line, label_line, precommitted_line, refusal_line, size_line}
 
 -- the line on a text where there is one

@@ -3,15 +3,15 @@ ghost use Rattle.std.specs.Prelude.{◌≡◌, ◌≤◌, ◌<◌, ◌^◌, ℕ,
 ghost use Rattle.disk_model.specs.Steps.{now_after};
 ghost use Rattle.disk_model.specs.Faults.{HasSameFaults};
 ghost use Rattle.disk_model.specs.Idle.{IsIdleAgain};
-ghost use Rattle.vg_scan.specs.Causes.{IsReadCause};
-ghost use Rattle.vg_scan.specs.Reads.{ReadsAllOf, ReadsFirstOf};
+ghost use Rattle.disk_contents.specs.Causes.{IsReadCause};
+ghost use Rattle.disk_contents.specs.Reads.{ReadsAllOf, ReadsFirstOf};
 ghost use Rattle.lvm_report.specs.Report.{IsReport};
 
 use crate::report::report;
+use disk_contents::{ReadRefusal, find_pv};
 use disk_model::Shelf;
 use sector_base::Text;
 use std::alloc::Global;
-use vg_scan::{ReadRefusal, find_pv};
 
 /// Reads lvm2's sectors of the disk, and answers the report on what stands there, one item a line. Each line ends with
 /// a line feed.

@@ -6,11 +6,11 @@ use crate::lines::{
     put_area, put_committed, put_data_areas, put_extension, put_id, put_label, put_precommitted,
     put_refusal, put_size,
 };
+use disk_contents::{AreaFound, PvFound};
 use mda_header::MdaHeader;
 use pv_header::PvHeader;
 use sector_base::Text;
 use std::alloc::{AllocError, Global};
-use vg_scan::{AreaFound, PvFound};
 
 /// The report on what was found. Only memory can be wanting.
 pub fn report(alloc: Global, found: &PvFound) -> Result<Text, AllocError>

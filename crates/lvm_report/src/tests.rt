@@ -2,9 +2,11 @@
 ghost use Rattle.std.specs.Prelude.{◌≡◌, ◌≤◌, ◌<◌, ◌^◌, [], ◌∷◌, length, IfOk};
 ghost use Rattle.dev_shelf.specs.DiskRow.{new_state};
 
+use crate::columns::{put_last, put_left, put_right};
 use crate::lines::put_refusal;
 use crate::pvck;
 use dev_shelf::{Fail as Failure, Images, MemShelf, Shelf, ShelfPlan};
+use disk_contents::ReadRefusal;
 use disk_model::DiskFault;
 use lvm_id::parse_plain;
 use mda_header::{Locn, MdaHeader, MdaRefusal, write_mda};
@@ -13,7 +15,6 @@ use pv_label::{LabelRefusal, seal_label};
 use sector_base::{Bytes512, Sectors, Text};
 use std::alloc::{AllocError, Global};
 use std::test::Fail;
-use vg_scan::ReadRefusal;
 
 const ID: &[u8; 32] = b"00000000100000000100000030000000";
 
@@ -325,5 +326,20 @@ fn says_why(rt: HostRuntime) -> Result<(), Fail> {
         let said = format!(in alloc; "{refusal}")?;
         assert_eq!(rt; said.as_str(), text);
     }
+    Ok(())
+}
+
+#[test]
+fn columns_are_filled_and_not_cut(rt: HostRuntime) -> Result<(), Fail> {
+    let mut text = Vec::new(rt.alloc());
+    for (word, number) in [(b"vg0".as_slice(), 7), (b"longer".as_slice(), 12_345)] {
+        put_left(&mut text, 4, word)?;
+        put_right(&mut text, 4, number)?;
+        put_last(&mut text, 4, number)?;
+    }
+    assert_eq!(rt;
+        text.as_slice(),
+        b"vg0     7    7\nlonger 12345 12345\n".as_slice()
+    );
     Ok(())
 }

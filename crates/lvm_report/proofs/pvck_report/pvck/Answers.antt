@@ -1,10 +1,10 @@
 -- The report is the only one.
 use Rattle.std.proofs.Common.{◌≡◌, ℕ, List, slice_index_or}
-use Rattle.vg_scan.specs.Contents.{IsFound}
+use Rattle.disk_contents.specs.Contents.{IsFound}
 use Rattle.lvm_report.specs.Report.{IsReport}
 use Rattle.lvm_report.proofs.OneReport.{one_report}
 use Rattle.std.proofs.lemmas.Result.{err_from_is_err_and}
-use Rattle.vg_scan.proofs.ReadsAll.{reads_first}
+use Rattle.disk_contents.proofs.ReadsAll.{reads_first}
 use Rattle.disk_model.proofs.ReadingAlone.{holds_weaker}
 use Rattle.lvm_report.proofs.pvck_report.pvck.Goals as goal
 

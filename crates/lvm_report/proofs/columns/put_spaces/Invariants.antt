@@ -1,0 +1,6 @@
+-- As many spaces as turns were made.
+use Rattle.std.proofs.Common.{◌≡◌, ◌++◌, replicate}
+use Rattle.lvm_report.proofs.columns.put_spaces.Given as goal
+
+abbrev pub invariant-loop : goal.invariant-loop
+invariant-loop l = l.text.items ≡ l.fn.text.items ++ replicate l.counter 32
