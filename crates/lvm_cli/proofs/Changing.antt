@@ -1,6 +1,11 @@
 -- What a line does to the disks: nothing but a look, the puts after it, or reads.
 use Rattle.std.proofs.Common.{◌≡◌, ℕ, Bool, true, false, List, [], ◌++◌, length, map, take, Option, None, Some, IfSome, refl, sym, ap, subst, ◌∙◌, arith}
 use Rattle.sector_base.specs.declared.spans.Span.{Span}
+use Rattle.std.proofs.lemmas.Bool.{false≢true}
+use Rattle.std.specs.FinSet as set
+use Rattle.std.specs.Ordering.{nat_cmp}
+use Rattle.disk_model.specs.State.{State}
+use Rattle.disk_model.specs.Faults.{HasSameFaults}
 use Rattle.disk_model.specs.Durability.{IsBase}
 use Rattle.disk_model.specs.Moments.{EveryImageSince}
 use Rattle.disk_model.specs.Puts.{HasFirst, Put, PutsAll, with_puts, write_of_put}
@@ -17,7 +22,8 @@ use Rattle.lvm_cli.specs.declared.outcome.Outcome.{Outcome}
 use Rattle.lvm_cli.specs.declared.outcome.Outcome.TheVariants.{Ended, Answered, Reported}
 use Rattle.lvm_cli.specs.CommandSpec.{CommandSpec, Context}
 use Rattle.lvm_cli.specs.Meets.{ChangesDisks, IsDone, IsUnwritten}
-use Rattle.lvm_cli.specs.Scan.{HoldsNow, OpensDisks, label_spans}
+use Rattle.vg_scan.specs.Scans.{FailedOn, HoldsNow}
+use Rattle.lvm_cli.specs.Scan.{OpensDisks, label_spans}
 use Rattle.lvm_cli.proofs.Opening.{no_writes, reads_later}
 
 not_done : (outcome : Outcome) → IsUnwritten outcome → IsDone outcome → ⊥
@@ -164,3 +170,7 @@ holds_now_weaker (Some t) P Q more h = more (now_after t.opened t.steps) h
 pub holds_now_anyway : (told : Option Told) (P : Image → Type 0) → ((image : Image) → P image) → HoldsNow told P
 holds_now_anyway None P all = tt
 holds_now_anyway (Some t) P all = all (now_after t.opened t.steps)
+
+-- nothing failed on any disk
+pub none_failed : (old new : State) → HasSameFaults old new → FailedOn set.empty old new
+none_failed old new same = record { rose = λ pv there. absurd (false≢true (sym (set.contains-empty nat_cmp pv) ∙ there)); same = λ pv none. same pv }

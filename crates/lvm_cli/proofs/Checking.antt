@@ -1,5 +1,6 @@
 -- pvck: judged, and then a report or none.
-use Rattle.std.proofs.Common.{◌≡◌, ℕ, List, [], ◌∷◌, ◌++◌, slice_index_or, Option, Some, None, IfSome, refl, sym, ap, subst, inl, inr, append-nil}
+use Rattle.std.proofs.Common.{◌≡◌, ℕ, Bool, true, List, [], ◌∷◌, ◌++◌, slice_index_or, Option, Some, None, IfSome, refl, sym, ap, subst, inl, inr, append-nil}
+use Rattle.std.specs.FinSet as set
 use Rattle.std.specs.Prelude.{unwrap_or}
 use Rattle.sector_base.specs.declared.spans.Span.{Span}
 use Rattle.disk_model.specs.Faults.{HasSameFaults, IsLastFault}
@@ -8,11 +9,11 @@ use Rattle.disk_model.specs.Since.{BetweenTold}
 use Rattle.disk_model.specs.State.{State}
 use Rattle.disk_model.specs.Steps.{Image, Reading, now_after}
 use Rattle.pv_header.specs.declared.extent_list.Extent.{Extent}
-use Rattle.vg_scan.specs.declared.contents.PvFound.{PvFound}
-use Rattle.vg_scan.specs.declared.contents.PvFound.TheVariants.{NoLabel, NoHeader, Whole}
-use Rattle.vg_scan.specs.Contents.{IsFound}
+use Rattle.disk_contents.specs.declared.contents.PvFound.{PvFound}
+use Rattle.disk_contents.specs.declared.contents.PvFound.TheVariants.{NoLabel, NoHeader, Whole}
+use Rattle.disk_contents.specs.Contents.{IsFound}
 use Rattle.pv_label.specs.LabelSectors.{label_span}
-use Rattle.vg_scan.specs.Reads.{AreAreasOf, ReadsAllOf, ReadsFirstOf, area_spans, areas_found}
+use Rattle.disk_contents.specs.Reads.{AreAreasOf, ReadsAllOf, ReadsFirstOf, area_spans, areas_found}
 use Rattle.lvm_report.specs.Report.{IsReport}
 use Rattle.lvm_script.specs.Options.{Word, number_named}
 use Rattle.lvm_script.specs.declared.answer.Answer.TheVariants.{Refused}
@@ -23,7 +24,7 @@ use Rattle.lvm_cli.specs.declared.outcome.Outcome.TheVariants.{Ended, Answered, 
 use Rattle.lvm_cli.specs.CommandSpec.{Context, Finds, number_in, refusal_of}
 use Rattle.lvm_cli.specs.Commands.Pvck.{pvck}
 use Rattle.lvm_cli.specs.Meets.{ChangesDisks, IsScanned, IsUnwritten, Meets}
-use Rattle.lvm_cli.proofs.Changing.{between_reading, changes_by_reading, holds_now_anyway}
+use Rattle.lvm_cli.proofs.Changing.{between_reading, changes_by_reading, holds_now_anyway, none_failed}
 
 -- the metadata areas of what was found are those that the header names
 areas_of_found : (sector_at : ℕ → List ℕ) (disk : ℕ) (found : PvFound) → IsFound sector_at disk found → AreAreasOf sector_at disk (areas_found found)
@@ -36,7 +37,7 @@ module _ (names : List Word) (id : Option (List ℕ)) (pv : List ℕ) (time : �
   context = record { names = names; sizes = old.sizes; id = id; now = time }
 
   -- it has no scan
-  no_scan : IsScanned (pvck pv) context old (Finds None)
+  no_scan : IsScanned (pvck pv) context set.empty old (Finds None)
   no_scan = holds_now_anyway old.told (λ image. Finds None ≡ Finds None) (λ image. refl)
 
   -- no disk has the name
@@ -92,11 +93,21 @@ module _ (names : List Word) (id : Option (List ℕ)) (pv : List ℕ) (time : �
         (λ before after reads are. changes_by_reading (pvck pv) context refl outcome unwritten before after r.read r.rest reads
         (reads_named (now_after before.opened before.steps) (r.read ++ r.rest) (r.areas, are, r.front)))
 
-    pub meets_reported : (text : List ℕ) → HasSameFaults old new → IsIdleAgain old new → ReadsAllOf disk (slice_index_or old.sizes disk 0) old new
-        → IfSome old.told (λ told. IsReport (now_after told.opened told.steps disk) (slice_index_or old.sizes disk 0) text) → Meets (pvck pv) context old (Reported text) new
-    meets_reported text same again reads report = record {
-      cause = (refl, same, (None, no_scan, passes, subst (λ (n : ℕ). IfSome old.told (λ told. IsReport (now_after told.opened told.steps n) (slice_index_or old.sizes n 0) text)) (sym number_is) report));
-      told = told_all (Reported text) tt reads;
+    pub meets_reported : (text : List ℕ) (all : Bool) → all ≡ true → HasSameFaults old new → IsIdleAgain old new → ReadsAllOf disk (slice_index_or old.sizes disk 0) old new
+        → IfSome old.told (λ told. IsReport (now_after told.opened told.steps disk) (slice_index_or old.sizes disk 0) text) → Meets (pvck pv) context old (Reported text all) new
+    meets_reported text all whole same again reads report = record {
+      cause = (
+        refl,
+        (
+          set.empty,
+          None,
+          record { failed = none_failed old new same; all = (λ yes. refl, λ none. whole) },
+          no_scan,
+          passes,
+          subst (λ (n : ℕ). IfSome old.told (λ told. IsReport (now_after told.opened told.steps n) (slice_index_or old.sizes n 0) text)) (sym number_is) report,
+        ),
+      );
+      told = told_all (Reported text all) tt reads;
       again = again;
     }
 

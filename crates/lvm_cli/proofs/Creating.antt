@@ -1,4 +1,5 @@
 -- pvcreate: a look at the disk, and then the puts or none.
+use Rattle.std.specs.FinSet as set
 use Rattle.std.proofs.Common.{◌≡◌, ◌≤◌, ℕ, Bool, true, false, nat_lt, List, [], length, Option, Some, None, refl, sym, ap, subst, ◌∙◌, inl, inr, ◌⊎◌}
 use Rattle.std.proofs.lemmas.Bool.{cases_Bool, ltb-false}
 use Rattle.std.specs.Prelude.{is_none}
@@ -18,14 +19,15 @@ use Rattle.lvm_script.specs.declared.answer.Answer.TheVariants.{Fine, Refused, P
 use Rattle.lvm_script.specs.declared.op_refusal.OpRefusal.{OpRefusal}
 use Rattle.lvm_cli.specs.declared.ending.Ending.{Ending}
 use Rattle.lvm_cli.specs.declared.ending.Ending.TheVariants.{WordsRefused, NoMemory, OpenFailed, ScanReadFailed, ScanRefused}
-use Rattle.lvm_cli.specs.declared.ending.ScanRefusal.TheVariants.{NotYet, NoCopy}
+use Rattle.lvm_cli.specs.declared.scan_refusal.ScanRefusal.TheVariants.{NotYet, Disks, Partial}
 use Rattle.lvm_cli.specs.declared.outcome.Outcome.TheVariants.{Ended, Answered}
 use Rattle.lvm_cli.specs.CommandSpec.{Context, Finds, number_in, refusal_of, size_in}
 use Rattle.lvm_cli.specs.Commands.Pvcreate.{pvcreate}
+use Rattle.vg_scan.specs.Scans.{HoldsNow}
 use Rattle.lvm_cli.specs.Meets.{ChangesDisks, IsCause, IsFaultOf, IsScanned, Meets}
 use Rattle.lvm_cli.specs.NewPv.{IsFoundWherePut, IsNewLabel, IsNewPv, empty_area, new_puts}
-use Rattle.lvm_cli.specs.Scan.{HasLabel, HasNoLabels, HoldsNow, IsOpenCause, LooksForLabels, OpensDisks}
-use Rattle.lvm_cli.proofs.Changing.{changes_nothing, changes_puts, holds_now_weaker, unopened}
+use Rattle.lvm_cli.specs.Scan.{HasLabel, HasNoLabels, IsOpenCause, LooksForLabels, OpensDisks}
+use Rattle.lvm_cli.proofs.Changing.{changes_nothing, changes_puts, holds_now_weaker, none_failed, unopened}
 use Rattle.lvm_cli.proofs.Faults.{put_fault_after}
 
 -- where no row holds the disk is large enough
@@ -65,16 +67,20 @@ module _ (names : List Word) (id pv : List ℕ) (copies now : ℕ) (s0 s1 : Stat
     opens passes told = subst (λ (n : ℕ). BetweenTold (λ old new. OpensDisks n old passes new) s0.told s2.told) (sym one)
         (subst (λ (o : Option Told). BetweenTold (λ old new. OpensDisks 1 old passes new) o s2.told) same_told told)
 
-    scanned : HoldsNow s1.told (HasNoLabels 1) → IsScanned (pvcreate pv copies) context s0 (Finds None)
+    scanned : HoldsNow s1.told (HasNoLabels 1) → IsScanned (pvcreate pv copies) context set.empty s0 (Finds None)
     scanned none = holds_now_weaker s0.told (HasNoLabels (length s0.sizes)) (λ image. LooksForLabels (length s0.sizes) image (Finds None)) (λ image h. (refl, h))
         (subst (λ (n : ℕ). HoldsNow s0.told (HasNoLabels n)) (sym one) (subst (λ (o : Option Told). HoldsNow o (HasNoLabels 1)) same_told none))
 
     ended_cause : (ending : Ending) → IsOpenCause s1 s2 ending → IsCause (pvcreate pv copies) context s0 s2 (Ended ending)
     ended_cause (OpenFailed disk) fault = (refl, last_fault_after s0 s1 s2 disk _ same_before fault)
     ended_cause (ScanReadFailed disk) fault = (λ e. absurd (cc), (label_span disk, last_fault_after s0 s1 s2 disk _ same_before fault))
-    ended_cause (ScanRefused (NotYet disk)) cause =
-        (refl, same_faults_both s0 s1 s2 same_before cause.0, subst (λ (o : Option Told). HoldsNow o (HasLabel disk)) same_told cause.1)
-    ended_cause (ScanRefused (NoCopy disk refusals)) cause = absurd cause
+    ended_cause (ScanRefused (NotYet disk) whole) cause = (
+      set.empty,
+      record { failed = none_failed s0 s2 (same_faults_both s0 s1 s2 same_before cause.1); all = (λ yes. refl, λ none. cause.0) },
+      subst (λ (o : Option Told). HoldsNow o (HasLabel disk)) same_told cause.2,
+    )
+    ended_cause (ScanRefused (Disks refusal) whole) cause = absurd cause
+    ended_cause (ScanRefused (Partial ids) whole) cause = absurd cause
     ended_cause WordsRefused cause = absurd cause
     ended_cause NoMemory cause = absurd cause
 

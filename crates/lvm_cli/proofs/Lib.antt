@@ -3,8 +3,10 @@ pub mod Changing
 pub mod Checking
 pub mod Creating
 pub mod Faults
+pub mod NamedDisks
 pub mod NewPvs
 pub mod OpenedDisks
 pub mod Opening
-pub mod RefusedAreas
+pub mod Reporting
 pub mod Undone
+pub mod ValuesWritten

@@ -16,7 +16,8 @@ use Rattle.disk_model.proofs.ReadingAlone.{reads_write_nothing, same_now}
 use Rattle.disk_model.proofs.StepsSince.{spans_read-append, steps_joined}
 use Rattle.pv_label.specs.Label.{BeginsLikeLabel}
 use Rattle.pv_label.specs.LabelSectors.{label_span}
-use Rattle.lvm_cli.specs.Scan.{FlushesBeforeReads, HasLabel, HasNoLabels, HoldsNow, OpensDisks, label_spans}
+use Rattle.lvm_cli.specs.Scan.{FlushesBeforeReads, HasLabel, HasNoLabels, OpensDisks, label_spans}
+use Rattle.vg_scan.specs.Scans.{HoldsNow}
 
 -- steps that write nothing submit no write
 pub no_writes : (steps : List Step) → WritesNothing steps → writes_submitted steps ≡ []

@@ -1,13 +1,16 @@
 -- All that is said of a command.
 use Rattle.std.specs.Prelude.{ℕ, Bool, if◌then◌else◌, List, [], ◌∷◌, Option, Some, None, is_none, slice_index_or, unwrap_or}
+use Rattle.std.specs.FinSet as set
+use Rattle.std.specs.Ordering.{nat_cmp}
 use Rattle.sector_base.specs.declared.spans.Span.{Span}
 use Rattle.disk_model.specs.Puts.{Put}
 use Rattle.disk_model.specs.Steps.{Image}
 use Rattle.meta_model.specs.declared.group.Group.{Group}
+use Rattle.vg_found.specs.declared.found.Found.{Found}
 use Rattle.lvm_script.specs.Options.{Word, number_named}
 use Rattle.lvm_script.specs.declared.op_refusal.OpRefusal.{OpRefusal}
 use Rattle.lvm_script.specs.declared.op_refusal.OpRefusal.TheVariants.{UnknownPv}
-use Rattle.lvm_cli.specs.declared.ending.ScanRefusal.{ScanRefusal}
+use Rattle.lvm_cli.specs.declared.scan_refusal.ScanRefusal.{ScanRefusal}
 
 -- what a line is judged against, beside what a scan finds
 pub record Context : Type 0 where
@@ -19,29 +22,42 @@ pub record Context : Type 0 where
   -- the time of the run, in seconds since 1970
   pub now : ℕ
 
--- what a scan of the disks comes to: a group or none, or why the disks aren't taken as they are
+-- what a look at the disks comes to: what a scan found, where there was one, or why the disks aren't taken as they are
 pub data Scanned : Type 0 where
-  Finds : Option Group → Scanned
+  Finds : Option Found → Scanned
   Refuses : ScanRefusal → Scanned
+
+-- what is looked at before a command is judged
+pub data Looks : Type 0 where
+  -- nothing: it reads for itself, once it was judged
+  AtNothing : Looks
+  -- the sectors where labels may be
+  AtLabels : Looks
+  -- all disks are scanned, and the scan goes on where a read fails
+  AtDisks : Looks
 
 -- all that a reader has to believe of a command
 pub record CommandSpec : Type 1 where
   -- it changes something: the disks are opened for that, and flushed before anything else is done
   pub flushes : Bool
-  -- the disks are scanned before it is judged; another command is judged first, and reads for itself
-  pub scans : Bool
-  -- what the scan comes to, by what stands on the disks
-  pub scan : Context → Image → Scanned → Type 0
-  -- its refusals in the order of their tests, each with its test, by the group that the scan finds
-  pub rows : Context → Option Group → List (Bool × OpRefusal)
+  pub looks : Looks
+  -- what the look comes to, by what stands on the disks and by which of them are unread
+  pub scan : Context → Image → set.FinSet nat_cmp → Scanned → Type 0
+  -- its refusals in the order of their tests, each with its test, by what the scan finds
+  pub rows : Context → Option Found → List (Bool × OpRefusal)
   -- the sectors that it may put, in their order, where no row holds
   pub change : Context → List Put → Type 0
   -- the spans that it may read, in their order, by what stands on the disks
   pub reads : Context → Image → List Span → Type 0
   -- what a reader finds on the disks once it was answered as done
   pub finds : Context → Image → Type 0
-  -- its report, by the group that the scan finds and by what stands on the disks
-  pub reports : Context → Option Group → Image → List ℕ → Type 0
+  -- its report, by what the scan finds and by what stands on the disks
+  pub reports : Context → Option Found → Image → List ℕ → Type 0
+
+-- the group in force
+abbrev pub group_in : Option Found → Option Group
+group_in None = None
+group_in (Some found) = found.group
 
 -- the first refusal whose test holds
 abbrev pub refusal_of : List (Bool × OpRefusal) → Option OpRefusal

@@ -1,28 +1,45 @@
 -- What is said of each command: a row for each of them, and a file.
+pub mod Lvs
 pub mod Pvck
 pub mod Pvcreate
+pub mod Pvs
 pub mod Vgcfgbackup
+pub mod Vgck
+pub mod Vgs
 use Rattle.std.specs.Prelude.{Bool, true, false, []}
 use Rattle.lvm_script.specs.declared.command.Command.{Command}
 use Rattle.lvm_script.specs.declared.command.Command.TheVariants as command
-use Rattle.lvm_cli.specs.CommandSpec.{CommandSpec}
+use Rattle.lvm_cli.specs.CommandSpec.{CommandSpec, AtNothing}
+use Rattle.lvm_cli.specs.Commands.Lvs.{lvs}
 use Rattle.lvm_cli.specs.Commands.Pvck.{pvck}
 use Rattle.lvm_cli.specs.Commands.Pvcreate.{pvcreate}
+use Rattle.lvm_cli.specs.Commands.Pvs.{pvs}
 use Rattle.lvm_cli.specs.Commands.Vgcfgbackup.{vgcfgbackup}
+use Rattle.lvm_cli.specs.Commands.Vgck.{vgck}
+use Rattle.lvm_cli.specs.Commands.Vgs.{vgs}
 
 -- the commands that are built; words that ask for another are refused until it is
 abbrev pub is_built : Command → Bool
 is_built (command.Pvcreate pv metadata_copies) = true
 is_built (command.Pvck pv) = true
 is_built (command.Vgcfgbackup vg) = true
+is_built command.Pvs = true
+is_built command.Vgs = true
+is_built command.Lvs = true
+is_built command.Vgck = true
 is_built _ = false
+
+-- those that run on one disk alone so far
+abbrev pub takes_one_disk : Command → Bool
+takes_one_disk (command.Pvcreate pv metadata_copies) = true
+takes_one_disk _ = false
 
 -- of a command that isn't built nothing is said, so that nothing meets it
 abbrev unbuilt : CommandSpec
 unbuilt = record {
   flushes = false;
-  scans = false;
-  scan = λ context image scanned. ⊥;
+  looks = AtNothing;
+  scan = λ context image unread scanned. ⊥;
   rows = λ context found. [];
   change = λ context puts. ⊥;
   reads = λ context image spans. ⊥;
@@ -35,4 +52,8 @@ abbrev pub spec_of : Command → CommandSpec
 spec_of (command.Pvcreate pv metadata_copies) = pvcreate pv metadata_copies
 spec_of (command.Pvck pv) = pvck pv
 spec_of (command.Vgcfgbackup vg) = vgcfgbackup vg
+spec_of command.Pvs = pvs
+spec_of command.Vgs = vgs
+spec_of command.Lvs = lvs
+spec_of command.Vgck = vgck
 spec_of _ = unbuilt

@@ -8,5 +8,7 @@ pub mod NewPv
 pub mod Outcomes
 pub mod Runs
 pub mod Scan
+pub mod ScanEndings
+pub mod ScanReport
 pub mod Seed
 pub mod Startup

@@ -1,5 +1,7 @@
 -- What a line does, by all that is said of its command.
-use Rattle.std.specs.Prelude.{◌≡◌, ◌≤◌, ℕ, false, IsTrue, List, [], ◌++◌, length, map, take, Contains, Option, Some, None}
+use Rattle.std.specs.Prelude.{◌≡◌, ◌≤◌, ◌↔◌, ℕ, Bool, false, IsTrue, List, [], ◌++◌, length, map, take, Contains, Option, Some, None}
+use Rattle.std.specs.FinSet as set
+use Rattle.std.specs.Ordering.{nat_cmp}
 use Rattle.sector_base.specs.declared.spans.Span.{Span}
 use Rattle.disk_model.specs.Durability.{IsBase}
 use Rattle.disk_model.specs.Faults.{HasSameFaults, IsLastFault}
@@ -10,26 +12,43 @@ use Rattle.disk_model.specs.Puts.{HasFirst, IsPutFault, Put, with_puts, write_of
 use Rattle.disk_model.specs.Since.{BetweenTold, ReadsAlone, spans_read, writes_submitted}
 use Rattle.disk_model.specs.State.{State}
 use Rattle.disk_model.specs.Steps.{Image, IsSame, Reading, Flushing, Step, Told, now_after, steps_on}
-use Rattle.meta_model.specs.declared.group.Group.{Group}
+use Rattle.vg_found.specs.declared.found.Found.{Found}
+use Rattle.vg_found.specs.Whole.{first_of}
+use Rattle.vg_scan.specs.Scans.{FailedOn, HoldsNow}
 use Rattle.lvm_script.specs.declared.op_refusal.OpRefusal.{OpRefusal}
 use Rattle.lvm_script.specs.declared.answer.Answer.TheVariants.{Fine, Refused, PvFailed}
 use Rattle.lvm_cli.specs.declared.ending.Ending.TheVariants.{WordsRefused, NoMemory, OpenFailed, ScanReadFailed, ScanRefused}
 use Rattle.lvm_cli.specs.declared.outcome.Outcome.{Outcome}
 use Rattle.lvm_cli.specs.declared.outcome.Outcome.TheVariants.{Ended, Answered, Reported}
-use Rattle.lvm_cli.specs.CommandSpec.{CommandSpec, Context, Scanned, Finds, Refuses, refusal_of}
-use Rattle.lvm_cli.specs.Scan.{FlushesBeforeReads, HoldsNow}
+use Rattle.lvm_cli.specs.CommandSpec.{CommandSpec, Context, Looks, AtNothing, AtDisks, Scanned, Finds, Refuses, refusal_of}
+use Rattle.lvm_cli.specs.Scan.{FlushesBeforeReads}
 
--- the scan of the disks came to this
-abbrev pub IsScanned : CommandSpec → Context → State → Scanned → Type 0
-IsScanned spec context old scanned = HoldsNow old.told (λ image. spec.scan context image scanned)
+-- the look at the disks came to this, where these were unread
+abbrev pub IsScanned : CommandSpec → Context → set.FinSet nat_cmp → State → Scanned → Type 0
+IsScanned spec context unread old scanned = HoldsNow old.told (λ image. spec.scan context image unread scanned)
 
--- judged by the group that the scan found, the line has this refusal or none
+-- all disks were read, and judged by what was found the line has this refusal or none
 abbrev pub IsJudged : CommandSpec → Context → State → Option OpRefusal → Type 0
-IsJudged spec context old refusal = (found : Option Group) × IsScanned spec context old (Finds found) × (refusal_of (spec.rows context found) ≡ refusal)
+IsJudged spec context old refusal = (found : Option Found) × IsScanned spec context set.empty old (Finds found) × (refusal_of (spec.rows context found) ≡ refusal)
 
 -- no refusal comes before a read, where the command reads for itself
 abbrev pub IsJudgedFirst : CommandSpec → Context → Type 0
-IsJudgedFirst spec context = spec.scans ≡ false → refusal_of (spec.rows context None) ≡ None
+IsJudgedFirst spec context = spec.looks ≡ AtNothing → refusal_of (spec.rows context None) ≡ None
+
+-- a read of the disk failed: of all that a scan left unread it is the first, and any other read that fails is the last step
+abbrev pub IsReadFault : Looks → State → State → ℕ → Type 0
+IsReadFault AtDisks old new pv = (unread : set.FinSet nat_cmp) × FailedOn unread old new × (first_of unread ≡ Some pv)
+IsReadFault _ old new pv = (span : Span) × IsLastFault old new pv (Reading span)
+
+-- where memory was wanting no operation had failed, but for reads of a scan
+abbrev pub FailedForWant : Looks → State → State → Type 0
+FailedForWant AtDisks old new = Unit {0}
+FailedForWant _ old new = HasSameFaults old new
+
+-- reads failed on these disks, and on none where it is whole
+pub record IsUnreadBy (whole : Bool) (unread : set.FinSet nat_cmp) (old new : State) : Type 0 where
+  pub failed : FailedOn unread old new
+  pub all : IsTrue whole ↔ (unread ≡ set.empty)
 
 -- a write of one of these puts failed, or the flush after it
 abbrev pub IsFaultOf : List Put → State → State → ℕ → Type 0
@@ -38,10 +57,11 @@ IsFaultOf puts old new pv = (put : Put) × Contains puts put × IsPutFault old n
 -- the cause of each outcome of line 1
 abbrev pub IsCause : CommandSpec → Context → State → State → Outcome → Type 0
 IsCause spec context old new (Ended WordsRefused) = ⊥
-IsCause spec context old new (Ended NoMemory) = HasSameFaults old new × (IsTrue spec.flushes → new ≡ old)
+IsCause spec context old new (Ended NoMemory) = FailedForWant spec.looks old new × (IsTrue spec.flushes → new ≡ old)
 IsCause spec context old new (Ended (OpenFailed pv)) = IsTrue spec.flushes × IsLastFault old new pv (Flushing pv)
-IsCause spec context old new (Ended (ScanReadFailed pv)) = IsJudgedFirst spec context × ((span : Span) × IsLastFault old new pv (Reading span))
-IsCause spec context old new (Ended (ScanRefused refusal)) = IsTrue spec.scans × HasSameFaults old new × IsScanned spec context old (Refuses refusal)
+IsCause spec context old new (Ended (ScanReadFailed pv)) = IsJudgedFirst spec context × IsReadFault spec.looks old new pv
+IsCause spec context old new (Ended (ScanRefused refusal whole)) =
+    (unread : set.FinSet nat_cmp) × IsUnreadBy whole unread old new × IsScanned spec context unread old (Refuses refusal)
 IsCause spec context old new (Answered line Fine) =
     (line ≡ 1) × IsTrue spec.flushes × HasSameFaults old new × IsJudged spec context old None
 IsCause spec context old new (Answered line (Refused refusal)) =
@@ -49,9 +69,10 @@ IsCause spec context old new (Answered line (Refused refusal)) =
 IsCause spec context old new (Answered line (PvFailed pv)) =
     (line ≡ 1) × IsJudged spec context old None × ((puts : List Put) × spec.change context puts × IsFaultOf puts old new pv)
 IsCause spec context old new (Answered line _) = ⊥
-IsCause spec context old new (Reported text) =
-    (spec.flushes ≡ false) × HasSameFaults old new
-    × ((found : Option Group) × IsScanned spec context old (Finds found) × (refusal_of (spec.rows context found) ≡ None) × HoldsNow old.told (λ image. spec.reports context found image text))
+IsCause spec context old new (Reported text whole) =
+    (spec.flushes ≡ false)
+    × ((unread : set.FinSet nat_cmp) × (found : Option Found) × IsUnreadBy whole unread old new × IsScanned spec context unread old (Finds found)
+    × (refusal_of (spec.rows context found) ≡ None) × HoldsNow old.told (λ image. spec.reports context found image text))
 
 -- an outcome that comes before anything is written
 abbrev pub IsUnwritten : Outcome → Type 0

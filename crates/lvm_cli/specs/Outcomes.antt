@@ -14,7 +14,7 @@ use Rattle.lvm_cli.specs.Endings.{ending_text, status_of_ending}
 abbrev pub output_of : List Word → Outcome → List ℕ
 output_of names (Ended ending) = ending_text names ending
 output_of names (Answered line answer) = decimal line ++ codes ": " ++ answer_text names answer ++ codes "\n"
-output_of names (Reported text) = text
+output_of names (Reported text whole) = text
 
 -- the exit status of a line that answered, where the output was printed whole: 6 for the answers of a disk's failure
 abbrev pub status_of_answer : Answer → ℕ
@@ -26,11 +26,12 @@ status_of_answer (Stopped pv) = 6
 status_of_answer NoMemory = 2
 status_of_answer _ = 0
 
--- the exit status where the output was printed whole
+-- the exit status where the output was printed whole; 6 where a report stands over a disk that wasn't read
 abbrev pub status_of : Outcome → ℕ
 status_of (Ended ending) = status_of_ending ending
 status_of (Answered line answer) = status_of_answer answer
-status_of (Reported text) = 0
+status_of (Reported text true) = 0
+status_of (Reported text false) = 6
 
 -- the exit status where the sink failed: words without a meaning come first
 abbrev pub status_unprinted : Outcome → ℕ

@@ -1,5 +1,5 @@
 -- What a run does.
-use Rattle.std.specs.Prelude.{◌≡◌, ◌⊎◌, ⊤, ℕ, Bool, ◌==◌, ◌&&◌, List, [], length, Option, Some, None, is_some}
+use Rattle.std.specs.Prelude.{◌≡◌, ◌⊎◌, ⊤, ℕ, Bool, not, ◌==◌, ◌&&◌, ◌||◌, List, [], length, Option, Some, None, is_some}
 use Rattle.std.specs.Bool.{MatchBool}
 use Rattle.std.specs.Option.{option_map_or}
 use Rattle.disk_model.specs.State.{State}
@@ -16,12 +16,12 @@ use Rattle.lvm_cli.specs.declared.ending.Ending.TheVariants.{WordsRefused, NoMem
 use Rattle.lvm_cli.specs.declared.outcome.Outcome.{Outcome}
 use Rattle.lvm_cli.specs.declared.outcome.Outcome.TheVariants.{Ended}
 use Rattle.lvm_cli.specs.CommandSpec.{Context}
-use Rattle.lvm_cli.specs.Commands.{is_built, spec_of}
+use Rattle.lvm_cli.specs.Commands.{is_built, spec_of, takes_one_disk}
 use Rattle.lvm_cli.specs.Meets.{Meets}
 
--- a command runs where it is built, on one disk so far
+-- a command runs where it is built; some take one disk alone so far
 abbrev pub runs_on : List Word → Command → Bool
-runs_on names command = is_built command && length names == 1
+runs_on names command = is_built command && (not (takes_one_disk command) || length names == 1)
 
 -- what a line is judged against that has this id
 abbrev pub context_with : List Word → Option (List ℕ) → ℕ → State → Context

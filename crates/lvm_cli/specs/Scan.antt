@@ -1,5 +1,7 @@
 -- The disks are flushed, for a command that changes something, and looked at.
-use Rattle.std.specs.Prelude.{◌≡◌, ◌<◌, ℕ, Bool, IsTrue, List, [], ◌∷◌, ◌++◌, map, Option, None, IfSome}
+use Rattle.std.specs.Prelude.{◌≡◌, ◌≢◌, ◌<◌, ℕ, Bool, IsTrue, List, [], ◌∷◌, ◌++◌, map, Some, None}
+use Rattle.std.specs.FinSet as set
+use Rattle.std.specs.Ordering.{nat_cmp}
 use Rattle.std.specs.List.{range_with_len}
 use Rattle.sector_base.specs.declared.spans.Span.{Span}
 use Rattle.disk_model.specs.Faults.{HasSameFaults, IsLastFault}
@@ -9,10 +11,13 @@ use Rattle.disk_model.specs.State.{State}
 use Rattle.disk_model.specs.Steps.{Image, IsSame, Reading, Flushing, Step, Submitted, Told, now_after, steps_on}
 use Rattle.pv_label.specs.Label.{BeginsLikeLabel}
 use Rattle.pv_label.specs.LabelSectors.{label_span}
+use Rattle.vg_found.specs.declared.found.Found.{Found}
+use Rattle.vg_found.specs.Whole.{IsWhole}
+use Rattle.vg_scan.specs.Scans.{HoldsNow, IsRefusalOfScan, IsScanOf}
 use Rattle.lvm_cli.specs.CommandSpec.{Scanned, Finds, Refuses}
 use Rattle.lvm_cli.specs.declared.ending.Ending.{Ending}
 use Rattle.lvm_cli.specs.declared.ending.Ending.TheVariants.{OpenFailed, ScanReadFailed, ScanRefused}
-use Rattle.lvm_cli.specs.declared.ending.ScanRefusal.TheVariants.{NotYet, NoCopy}
+use Rattle.lvm_cli.specs.declared.scan_refusal.ScanRefusal.TheVariants.{NotYet, Disks, Partial}
 
 -- one of the first four sectors of the disk begins like a label
 abbrev pub HasLabel : ℕ → Image → Type 0
@@ -26,11 +31,20 @@ HasNoLabels disks image = (pv : ℕ) → pv < disks → ¬ HasLabel pv image
 abbrev pub LooksForLabels : ℕ → Image → Scanned → Type 0
 LooksForLabels disks image (Finds found) = (found ≡ None) × HasNoLabels disks image
 LooksForLabels disks image (Refuses (NotYet pv)) = HasLabel pv image
-LooksForLabels disks image (Refuses (NoCopy pv refusals)) = ⊥
+LooksForLabels disks image (Refuses _) = ⊥
 
--- what holds of the disks as reads give them, where they tell their record
-abbrev pub HoldsNow : Option Told → (Image → Type 0) → Type 0
-HoldsNow told P = IfSome told (λ told. P (now_after told.opened told.steps))
+-- what a scan of disks of these sizes finds, whatever is missing and whichever are unread
+abbrev pub FindsAnything : Image → List ℕ → set.FinSet nat_cmp → Scanned → Type 0
+FindsAnything image sizes unread (Finds (Some found)) = IsScanOf image sizes found × (found.unread ≡ unread)
+FindsAnything image sizes unread (Refuses (Disks refusal)) = IsRefusalOfScan image sizes unread refusal
+FindsAnything image sizes unread _ = ⊥
+
+-- the same where the group has to be whole: with a physical volume missing it is refused
+abbrev pub FindsWhole : Image → List ℕ → set.FinSet nat_cmp → Scanned → Type 0
+FindsWhole image sizes unread (Finds (Some found)) = IsScanOf image sizes found × (found.unread ≡ unread) × IsWhole found
+FindsWhole image sizes unread (Refuses (Partial ids)) = (found : Found) × IsScanOf image sizes found × (found.unread ≡ unread) × (unread ≡ set.empty) × (ids ≡ found.missing) × (ids ≢ [])
+FindsWhole image sizes unread (Refuses (Disks refusal)) = IsRefusalOfScan image sizes unread refusal
+FindsWhole image sizes unread _ = ⊥
 
 -- the sectors where a label may be, of each of so many disks
 abbrev pub label_spans : ℕ → List Span
@@ -57,5 +71,5 @@ pub record OpensDisks (disks : ℕ) (old : Told) (passes : Bool) (new : Told) : 
 abbrev pub IsOpenCause : State → State → Ending → Type 0
 IsOpenCause old new (OpenFailed pv) = IsLastFault old new pv (Flushing pv)
 IsOpenCause old new (ScanReadFailed pv) = IsLastFault old new pv (Reading (label_span pv))
-IsOpenCause old new (ScanRefused (NotYet pv)) = HasSameFaults old new × HoldsNow old.told (HasLabel pv)
+IsOpenCause old new (ScanRefused (NotYet pv) whole) = IsTrue whole × HasSameFaults old new × HoldsNow old.told (HasLabel pv)
 IsOpenCause old new _ = ⊥

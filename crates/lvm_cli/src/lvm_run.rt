@@ -1,5 +1,5 @@
 //! All that the program does, over any row of disks, streams and sources of ids.
-ghost use Rattle.std.specs.Prelude.{◌≡◌, ◌<◌, ◌^◌, true, [], length};
+ghost use Rattle.std.specs.Prelude.{◌≡◌, ◌≤◌, ◌<◌, ◌^◌, true, [], length};
 ghost use Rattle.std.specs.Option.{is_some};
 ghost use Rattle.lvm_script.specs.Lines.{draws};
 ghost use Rattle.lvm_script.specs.Options.{words_of};
@@ -13,6 +13,7 @@ ghost use Rattle.lvm_cli.specs.Runs.{HasDrawn, RunsLine, RunsTask, RunsWords, co
 use crate::built::runs_on;
 use crate::commands::pvck::run_pvck;
 use crate::commands::pvcreate::run_pvcreate;
+use crate::commands::scan_report::{ScanReport, run_scan_report};
 use crate::commands::vgcfgbackup::run_vgcfgbackup;
 use crate::ending::Ending;
 use crate::gate::Gate;
@@ -108,6 +109,8 @@ fn run_task<S: Shelf>(
     now: u64,
 ) -> Outcome
     requires disks { AreDisks (length names.now) (S.state shelf.old) }
+    requires some { 1 ≤ length names.now }
+    requires few { length names.now ≤ 64 }
     requires drawn { HasDrawn task }
     ensures { RunsTask names.now task now (S.state shelf.old) result (S.state shelf.new) }
 {
@@ -126,6 +129,8 @@ fn run_line<S: Shelf>(
     now: u64,
 ) -> Outcome
     requires disks { AreDisks (length names.now) (S.state shelf.old) }
+    requires some { 1 ≤ length names.now }
+    requires few { length names.now ≤ 64 }
     requires drawn { is_some line.id ≡ draws line.command }
     ensures { RunsLine names.now line.command line.id now (S.state shelf.old) result (S.state shelf.new) }
 {
@@ -136,7 +141,7 @@ fn run_line<S: Shelf>(
     }
 }
 
-// Does what the line asks for on the one disk, at this time.
+// Does what the line asks for on these disks, at this time.
 fn run_built<S: Shelf>(
     alloc: Global,
     shelf: &mut S,
@@ -145,6 +150,8 @@ fn run_built<S: Shelf>(
     now: u64,
 ) -> Outcome
     requires disks { AreDisks (length names.now) (S.state shelf.old) }
+    requires some { 1 ≤ length names.now }
+    requires few { length names.now ≤ 64 }
     requires built { runs_on names.now line.command ≡ true }
     requires drawn { is_some line.id ≡ draws line.command }
     ensures { Meets (spec_of line.command) (context_with names.now line.id now (S.state shelf.old)) (S.state shelf.old) result (S.state shelf.new) }
@@ -164,6 +171,10 @@ fn run_built<S: Shelf>(
         },
         Command::Pvck { pv } => run_pvck(alloc, shelf, names, pv),
         Command::Vgcfgbackup { vg } => run_vgcfgbackup(alloc, shelf, names, vg, now),
+        Command::Pvs => run_scan_report(alloc, shelf, names, ScanReport::Pvs),
+        Command::Vgs => run_scan_report(alloc, shelf, names, ScanReport::Vgs),
+        Command::Lvs => run_scan_report(alloc, shelf, names, ScanReport::Lvs),
+        Command::Vgck => run_scan_report(alloc, shelf, names, ScanReport::Vgck),
         _ => unreachable!(),
     }
 }

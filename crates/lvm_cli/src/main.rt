@@ -17,6 +17,8 @@ mod lvm_run;
 mod new_pv;
 mod open_disk;
 mod outcome;
+mod scan_refusal;
+mod scanned;
 mod seed;
 mod startup;
 #[cfg(test)]

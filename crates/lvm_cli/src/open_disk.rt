@@ -5,9 +5,11 @@ ghost use Rattle.disk_model.specs.Idle.{SpendsAtMost};
 ghost use Rattle.disk_model.specs.Since.{BetweenTold};
 ghost use Rattle.pv_label.specs.Label.{BeginsLikeLabel};
 ghost use Rattle.lvm_cli.specs.Disks.{AreDisks};
-ghost use Rattle.lvm_cli.specs.Scan.{HasNoLabels, HoldsNow, IsOpenCause, OpensDisks};
+ghost use Rattle.lvm_cli.specs.Scan.{HasNoLabels, IsOpenCause, OpensDisks};
+ghost use Rattle.vg_scan.specs.Scans.{HoldsNow};
 
-use crate::ending::{Ending, ScanRefusal};
+use crate::ending::Ending;
+use crate::scan_refusal::ScanRefusal;
 use disk_model::{Shelf, flush, read_span};
 use pv_label::{LABEL_SECTORS, begins_like_label};
 use sector_base::{Sectors, Span};
@@ -32,7 +34,10 @@ pub fn open_disk<S: Shelf>(shelf: &mut S, buffer: Sectors) -> Result<(), Ending>
         count: LABEL_SECTORS,
     };
     match read_span(shelf, span, buffer) {
-        Ok(read) if has_label(&read) => Err(Ending::ScanRefused(ScanRefusal::NotYet(0))),
+        Ok(read) if has_label(&read) => Err(Ending::ScanRefused {
+            refusal: ScanRefusal::NotYet(0),
+            whole: true,
+        }),
         Ok(_) => Ok(()),
         Err(fault) => Err(Ending::ScanReadFailed(fault.pv)),
     }

@@ -16,8 +16,8 @@ pub enum Outcome {
     Ended(Ending),
     /// The line with this number answered.
     Answered(u64, Answer),
-    /// The command's report.
-    Reported(Text),
+    /// The command's report. Whether each disk was read.
+    Reported { text: Text, whole: bool },
 }
 
 impl Outcome {
@@ -39,7 +39,7 @@ impl Outcome {
         match self {
             Outcome::Ended(ending) => ending.status(),
             Outcome::Answered(_, answer) => status_of(answer),
-            Outcome::Reported(_) => 0,
+            Outcome::Reported { whole, .. } => { if *whole { 0 } else { 6 } }
         }
     }
 
@@ -58,7 +58,7 @@ impl Outcome {
         ensures { WritesText (W.written out.old) (W.fault_count out.old) (output_of names.now self.now)
             (is_ok result) (W.written out.new) (W.fault_count out.new) }
     {
-        if let Outcome::Reported(text) = self {
+        if let Outcome::Reported { text, .. } = self {
             return write_all(out, text);
         }
         let mut line = TextSink::new(alloc);
@@ -76,7 +76,7 @@ impl Outcome {
         match self {
             Outcome::Ended(ending) => ending.write(out, names),
             Outcome::Answered(line, answer) => write_answered(out, *line, answer, names),
-            Outcome::Reported(text) => write_all(out, text),
+            Outcome::Reported { text, .. } => write_all(out, text),
         }
     }
 }

@@ -18,6 +18,7 @@ use std::test::Fail;
 use std::thread::Threads;
 
 mod backups;
+mod reports;
 
 /// Creates a physical volume without a metadata area.
 const PVCREATE: [&str; 6] = ["-d", "a", "pvcreate", "--metadatacopies", "0", "a"];
@@ -118,7 +119,7 @@ fn words_that_ask_for_nothing_built_are_refused(rt: HostRuntime) -> Result<(), F
     let alloc = rt.alloc();
     let refused: [&[&str]; 11] = [
         &["-d", "a", "lvcreate", "vg0"],
-        &["-d", "a", "lvs"],
+        &["-d", "a", "vgremove", "vg0"],
         &["-d", "a", "vgcreate", "vg0", "a"],
         &["-d", "a", "session", "--workers", "1", "vg0"],
         &["-d", "a", "demo", "1", "1", "1"],

@@ -2,19 +2,19 @@
 use Rattle.std.specs.Prelude.{◌≡◌, false, List, [], ◌∷◌, None}
 use Rattle.pv_header.specs.declared.extent_list.Extent.{Extent}
 use Rattle.pv_label.specs.LabelSectors.{label_span}
-use Rattle.vg_scan.specs.Reads.{AreAreasOf, area_spans}
+use Rattle.disk_contents.specs.Reads.{AreAreasOf, area_spans}
 use Rattle.lvm_report.specs.Report.{IsReport}
 use Rattle.lvm_script.specs.Lines.{changes}
 use Rattle.lvm_script.specs.Options.{Word}
 use Rattle.lvm_script.specs.declared.command.Command.TheVariants as command
-use Rattle.lvm_cli.specs.CommandSpec.{CommandSpec, Finds, number_in, size_in, unknown_pv}
+use Rattle.lvm_cli.specs.CommandSpec.{CommandSpec, AtNothing, Finds, number_in, size_in, unknown_pv}
 
 -- it reads the sectors where the label may be, and then the header sector of each metadata area
 abbrev pub pvck : Word → CommandSpec
 pvck pv = record {
   flushes = changes (command.Pvck pv);
-  scans = false;
-  scan = λ context image scanned. scanned ≡ Finds None;
+  looks = AtNothing;
+  scan = λ context image unread scanned. scanned ≡ Finds None;
   rows = λ context found. unknown_pv context pv ∷ [];
   change = λ context puts. puts ≡ [];
   reads = λ context image spans. (areas : List Extent) × AreAreasOf (image (number_in context pv)) (size_in context pv) areas

@@ -5,7 +5,7 @@ use Rattle.lvm_script.specs.Options.{Word}
 use Rattle.lvm_script.specs.declared.command.Command.TheVariants as command
 use Rattle.lvm_script.specs.declared.op_refusal.OpRefusal.{OpRefusal}
 use Rattle.lvm_script.specs.declared.op_refusal.OpRefusal.TheVariants.{TooSmall}
-use Rattle.lvm_cli.specs.CommandSpec.{CommandSpec, Context, id_in, number_in, size_in, unknown_pv}
+use Rattle.lvm_cli.specs.CommandSpec.{CommandSpec, Context, AtLabels, id_in, number_in, size_in, unknown_pv}
 use Rattle.lvm_cli.specs.NewPv.{IsNewPv, new_puts}
 use Rattle.lvm_cli.specs.Scan.{LooksForLabels, label_spans}
 
@@ -17,8 +17,8 @@ too_small context pv = (nat_lt (size_in context pv) 2056, TooSmall (size_in cont
 abbrev pub pvcreate : Word → ℕ → CommandSpec
 pvcreate pv metadata_copies = record {
   flushes = changes (command.Pvcreate pv metadata_copies);
-  scans = true;
-  scan = λ context image scanned. LooksForLabels (length context.sizes) image scanned;
+  looks = AtLabels;
+  scan = λ context image unread scanned. LooksForLabels (length context.sizes) image scanned;
   rows = λ context found. unknown_pv context pv ∷ too_small context pv ∷ [];
   change = λ context puts. puts ≡ new_puts (number_in context pv) (id_in context) (size_in context pv) metadata_copies;
   reads = λ context image spans. spans ≡ label_spans (length context.sizes);

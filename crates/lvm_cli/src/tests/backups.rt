@@ -46,22 +46,27 @@ creation_host = \"localhost\"
 creation_time = 0
 ";
 
+/// How many sectors its disk has.
+pub(super) const DISK_SECTORS: usize = 131_072;
+
 /// Backs the group up.
 const BACKUP: [&str; 4] = ["-d", "a", "vgcfgbackup", "vg0"];
 
 // A disk with a physical volume, in whose metadata area this text is committed, with a zero byte behind it.
-fn disk_with<T: Threads + Wait + Sync + Abort>(
+pub(super) fn disk_with<T: Threads + Wait + Sync + Abort>(
     rt: &T,
     alloc: Global,
     text: &[u8],
-) -> Result<Sectors, Fail> {
+) -> Result<Sectors, Fail>
+    ensures { IfOk result (λ disk. length disk ≡ DISK_SECTORS) }
+{
     let mut out = MemSink::new(alloc, 100, Vec::new(alloc))?;
-    let shelf = blank(alloc, 8192, Vec::new(alloc))?;
+    let shelf = blank(alloc, DISK_SECTORS as u32, Vec::new(alloc))?;
     let shelf = run(rt, alloc, &WITH_AREA, 1, shelf, &mut out)?.shelf;
     let images = shelf.images_at(shelf.moments(), &Vec::new(alloc))?;
     assert!(rt; images.len() == 1 && text.len() < 512);
     let mut disk = images.get(0).try_copy(alloc)?;
-    assert!(rt; disk.len() == 8192);
+    assert!(rt; disk.len() == DISK_SECTORS);
     let mut sector = Bytes512::zeroed();
     sector.put(0, text);
     let header = MdaHeader {
@@ -83,7 +88,7 @@ fn disk_with<T: Threads + Wait + Sync + Abort>(
 }
 
 // The whole text of the group.
-fn text_of_group(alloc: Global) -> Result<Vec<u8>, Fail> {
+pub(super) fn text_of_group(alloc: Global) -> Result<Vec<u8>, Fail> {
     let mut text = Vec::from_slice(alloc, GROUP.as_bytes())?;
     text.extend_from_slice(TRAILER.as_bytes())?;
     Ok(text)
@@ -99,7 +104,6 @@ fn a_group_is_backed_up(rt: HostRuntime) -> Result<(), Fail> {
     let committed = text_of_group(alloc)?;
     for text in [committed.as_slice(), backup.as_slice()] {
         let disk = disk_with(&rt, alloc, text)?;
-        assert!(rt; disk.len() == 8192);
         let shelf = shelf_of(alloc, disk, Vec::new(alloc))?;
         let mut out = MemSink::new(alloc, 1000, Vec::new(alloc))?;
         let ended = run(&rt, alloc, &BACKUP, 1, shelf, &mut out)?;
@@ -163,7 +167,7 @@ fn what_is_no_copy_is_refused(rt: HostRuntime) -> Result<(), Fail> {
                 text.as_bytes()
             },
         )?;
-        assert!(rt; disk.len() == 8192 && changed.len() <= 512);
+        assert!(rt; changed.len() <= 512);
         if !agrees {
             let mut sector = Bytes512::zeroed();
             sector.put(0, changed.as_bytes());
@@ -194,7 +198,6 @@ fn a_failed_read_ends_the_backup(rt: HostRuntime) -> Result<(), Fail> {
     let alloc = rt.alloc();
     for tag in 0..3u64 {
         let disk = disk_with(&rt, alloc, &text_of_group(alloc)?)?;
-        assert!(rt; disk.len() == 8192);
         let mut fails = Vec::new(alloc);
         fails.push(Failure { tag, fresh: 0 })?;
         let shelf = shelf_of(alloc, disk, fails)?;

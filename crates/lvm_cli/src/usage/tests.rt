@@ -62,14 +62,14 @@ fn the_faulty_word_is_told_with_the_usage_of_its_command(rt: HostRuntime) -> Res
             lvs,
         ),
         (
-            &["-d", "a", "lvs"],
+            &["-d", "a", "vgremove", "vg0"],
             "lvm: this doesn't run yet\n",
-            "So far pvcreate, pvck and vgcfgbackup run, each on one disk.\n",
+            "So far pvs, vgs, lvs, vgck, pvck and vgcfgbackup run, and pvcreate on one disk.\n",
         ),
         (
-            &["-d", "a", "-d", "b", "pvck", "a"],
+            &["-d", "a", "-d", "b", "pvcreate", "a"],
             "lvm: this doesn't run yet\n",
-            "So far pvcreate, pvck and vgcfgbackup run, each on one disk.\n",
+            "So far pvs, vgs, lvs, vgck, pvck and vgcfgbackup run, and pvcreate on one disk.\n",
         ),
     ];
     for (words, first, second) in rows {
@@ -108,7 +108,7 @@ fn all_commands_are_told_where_there_is_none(rt: HostRuntime) -> Result<(), Fail
         assert!(rt; text.as_str().starts_with(front.as_str()), "{text}");
         assert!(rt;
             text.as_str().ends_with(
-                "\nSo far pvcreate, pvck and vgcfgbackup run, each on one disk.\n"
+                "\nSo far pvs, vgs, lvs, vgck, pvck and vgcfgbackup run, and pvcreate on one disk.\n"
             ),
             "{text}"
         );

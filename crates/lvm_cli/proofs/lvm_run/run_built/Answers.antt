@@ -8,3 +8,15 @@ returns-in-Vgcfgbackup g c = rw c.in-Vgcfgbackup.is (c.run_vgcfgbackup.ensures c
 
 pub returns-in-Some : goal.returns-in-Some
 returns-in-Some g c = rw (c.in-Pvcreate.is, c.in-Some.is) (c.run_pvcreate.ensures c.args.now)
+
+pub returns-in-Pvs : goal.returns-in-Pvs
+returns-in-Pvs g c = rw c.in-Pvs.is (c.run_scan_report.ensures c.args.line.id c.args.now)
+
+pub returns-in-Vgs : goal.returns-in-Vgs
+returns-in-Vgs g c = rw c.in-Vgs.is (c.run_scan_report-in-Vgs.ensures c.args.line.id c.args.now)
+
+pub returns-in-Lvs : goal.returns-in-Lvs
+returns-in-Lvs g c = rw c.in-Lvs.is (c.run_scan_report-in-Lvs.ensures c.args.line.id c.args.now)
+
+pub returns-in-Vgck : goal.returns-in-Vgck
+returns-in-Vgck g c = rw c.in-Vgck.is (c.run_scan_report-in-Vgck.ensures c.args.line.id c.args.now)

@@ -14,6 +14,7 @@ returns-in-Ok-clause-cause g c =
     let s0 = g.S.Shelf.state c.args.shelf.now in
     let s1 = g.S.Shelf.state c.flush.new.shelf in
     let f = c.in_default.ensures.carried_out in (
+      refl,
       same_faults_both s0 s1 (g.S.Shelf.state c.read_span.new.shelf) c.in_default.ensures.fault c.in-Ok.ensures.fault,
       label_found s0 s1 f.0 c.in-Ok.read f.1 c.in-Ok.ensures.len c.in-Ok.ensures.read (c.if-has_label.ensures.0 refl),
     )

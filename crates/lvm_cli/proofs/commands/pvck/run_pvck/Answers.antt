@@ -1,6 +1,6 @@
-use Rattle.std.proofs.Common.{ap, sym, subst, ◌∙◌}
-use Rattle.vg_scan.specs.Causes.{IsReadCause}
-use Rattle.vg_scan.specs.declared.read_refusal.ReadRefusal.TheVariants.{NoMemory, ReadFailed}
+use Rattle.std.proofs.Common.{ap, refl, sym, true, subst, ◌∙◌}
+use Rattle.disk_contents.specs.Causes.{IsReadCause}
+use Rattle.disk_contents.specs.declared.read_refusal.ReadRefusal.TheVariants.{NoMemory, ReadFailed}
 use Rattle.lvm_script.specs.Options.{number_named}
 use Rattle.lvm_cli.proofs.Checking.{meets_read_failed, meets_reported, meets_unknown, meets_without_memory}
 use Rattle.lvm_cli.proofs.commands.pvck.run_pvck.Goals as goal
@@ -14,7 +14,7 @@ pub returns-in-Ok : goal.returns-in-Ok
 returns-in-Ok g c = λ id now.
     let e = c.in-Ok.ensures in
     meets_reported c.args.names.now id c.args.pv now (g.S.Shelf.state c.args.shelf.now) (g.S.Shelf.state c.pvck.new.shelf) c.in-Some.disk
-    (ap (number_named c.args.names.now) (sym c.as_bytes.ensures) ∙ sym c.in-Some.ensures.number) c.in-Ok.text e.cause e.again e.reads e.report
+    (ap (number_named c.args.names.now) (sym c.as_bytes.ensures) ∙ sym c.in-Some.ensures.number) c.in-Ok.text true refl e.cause e.again e.reads e.report
 
 pub returns-in-Err-ReadFailed : goal.returns-in-Err-ReadFailed
 returns-in-Err-ReadFailed g c = λ id now.

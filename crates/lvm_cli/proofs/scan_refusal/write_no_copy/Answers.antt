@@ -1,8 +1,9 @@
 use Rattle.std.proofs.Common.{codes}
 use Rattle.std.proofs.lemmas.Result.{err_from_is_err_and}
 use Rattle.lvm_script.proofs.TextsWritten.{failed_before}
-use Rattle.lvm_cli.proofs.RefusedAreas.{stopped_at}
-use Rattle.lvm_cli.proofs.ending.write_no_copy.Goals as goal
+use Rattle.lvm_cli.specs.Endings.{refused_values}
+use Rattle.lvm_cli.proofs.ValuesWritten.{stopped_at}
+use Rattle.lvm_cli.proofs.scan_refusal.write_no_copy.Goals as goal
 
 pub returns-in_err-write_bytes : goal.returns-in_err-write_bytes
 returns-in_err-write_bytes g c =
@@ -12,4 +13,4 @@ returns-in_err-write_bytes g c =
 pub returns-in_err-write_refused : goal.returns-in_err-write_refused
 returns-in_err-write_refused g c =
     let p = err_from_is_err_and c.from_residual-in_err-write_refused.result c.from_residual-in_err-write_refused.ensures.1 in
-    rw p.1 (stopped_at _ _ _ _ _ _ _ _ _ _ c.loop-refusal-test.true c.refusal-item.is c.loop-refusal.invariant c.in_err-write_refused.ensures)
+    rw p.1 (stopped_at (codes "NoCopy") (refused_values c.args.names.now) _ _ _ _ _ _ _ _ _ c.loop-area-test.true c.area-item.is c.loop-area.invariant c.in_err-write_refused.ensures)

@@ -1,0 +1,125 @@
+-- A report on a scan, and the ends of a run whose scan was refused.
+use Rattle.std.proofs.Common.{◌≡◌, ◌≢◌, ℕ, Bool, true, false, List, [], ◌++◌, Option, Some, refl, sym, ap, subst, ◌∙◌, inl, arith}
+use Rattle.std.proofs.lemmas.List.{append-nil}
+use Rattle.std.specs.FinSet as set
+use Rattle.std.specs.Ordering.{nat_cmp}
+use Rattle.std.specs.Prelude.{◌↔◌, IsTrue}
+use Rattle.sector_base.specs.declared.spans.Span.{Span}
+use Rattle.disk_model.specs.Idle.{IsIdleAgain}
+use Rattle.disk_model.specs.Since.{BetweenTold, spans_read}
+use Rattle.disk_model.specs.State.{State}
+use Rattle.disk_model.specs.Steps.{Image, Told, now_after}
+use Rattle.scan_rules.specs.declared.decision.ScanRefusal.{ScanRefusal}
+use Rattle.scan_rules.specs.declared.decision.ScanRefusal.TheVariants as refusals
+use Rattle.vg_found.specs.declared.found.Found.{Found}
+use Rattle.vg_scan.specs.Scans.{AreFewReads, FailedOn, HoldsNow, IsRefusalOfScan, IsScan, IsScanOf, IsScanRefused, ReadsFew}
+use Rattle.lvm_script.specs.Options.{Word}
+use Rattle.lvm_cli.specs.declared.commands.scan_report.ScanReport.{ScanReport}
+use Rattle.lvm_cli.specs.declared.commands.scan_report.ScanReport.TheVariants.{Pvs, Vgs, Lvs, Vgck}
+use Rattle.lvm_cli.specs.declared.ending.Ending.{Ending}
+use Rattle.lvm_cli.specs.declared.ending.Ending.TheVariants.{NoMemory, ScanRefused}
+use Rattle.lvm_cli.specs.declared.outcome.Outcome.{Outcome}
+use Rattle.lvm_cli.specs.declared.outcome.Outcome.TheVariants.{Ended, Reported}
+use Rattle.lvm_cli.specs.declared.scan_refusal.ScanRefusal.TheVariants.{Disks}
+use Rattle.lvm_cli.specs.CommandSpec.{CommandSpec, Context, Finds, Refuses}
+use Rattle.lvm_cli.specs.Meets.{ChangesDisks, IsScanned, IsUnreadBy, IsUnwritten, Meets}
+use Rattle.lvm_cli.specs.ScanEndings.{IsEndingOf}
+use Rattle.lvm_cli.specs.ScanReport.{IsReported, command_of, scan_report, text_of}
+use Rattle.lvm_script.specs.Lines.{changes}
+use Rattle.lvm_cli.proofs.Changing.{changes_by_reading, holds_now_anyway, holds_now_weaker}
+
+-- what a scan reads is what the command may read
+pub scan_reads : (spec : CommandSpec) (context : Context) (old new : State) → spec.flushes ≡ false
+    → ((image : Image) (spans : List Span) → AreFewReads image old.sizes spans → spec.reads context image spans)
+    → BetweenTold (ReadsFew old.sizes) old.told new.told → (outcome : Outcome) → IsUnwritten outcome → BetweenTold (ChangesDisks spec context outcome) old.told new.told
+scan_reads spec context old new alone may told outcome unwritten before e =
+    let r = told before e in (
+      r.0,
+      r.1,
+      changes_by_reading spec context alone outcome unwritten before r.0 (spans_read r.2.since) []
+          (record { since = r.2.since; steps = r.2.steps; reads = r.2.reads; spans_are = refl })
+          (may (now_after before.opened before.steps) (spans_read r.2.since ++ [])
+          (subst (λ (l : List Span). AreFewReads (now_after before.opened before.steps) old.sizes l) (sym (append-nil (spans_read r.2.since))) r.2.few)),
+    )
+
+-- a refusal of the scan, unless memory was wanting
+pub refused_is : (old new : State) (why : ScanRefusal) (unread : set.FinSet nat_cmp) → why ≢ refusals.NoMemory → IsScanRefused old why unread new
+    → HoldsNow old.told (λ image. IsRefusalOfScan image old.sizes unread why) × FailedOn unread old new
+refused_is old new refusals.NoMemory unread some is = absurd (some refl)
+refused_is old new (refusals.DuplicatePv first second) unread some is = is
+refused_is old new (refusals.NoCopy refused) unread some is = is
+refused_is old new (refusals.Unsupported pv) unread some is = is
+refused_is old new (refusals.TwoGroups first second) unread some is = is
+refused_is old new (refusals.Conflict first second seqno) unread some is = is
+refused_is old new (refusals.PvShape pv) unread some is = is
+
+reads_alone : (report : ScanReport) → changes (command_of report) ≡ false
+reads_alone Pvs = refl
+reads_alone Vgs = refl
+reads_alone Lvs = refl
+reads_alone Vgck = refl
+
+module _ (report : ScanReport) (names : List Word) (id : Option (List ℕ)) (time : ℕ) (old new : State) (again : IsIdleAgain old new)
+    (told : BetweenTold (ReadsFew old.sizes) old.told new.told) where
+  abbrev context : Context
+  context = record { names = names; sizes = old.sizes; id = id; now = time }
+
+  changed : (outcome : Outcome) → IsUnwritten outcome → BetweenTold (ChangesDisks (scan_report report) context outcome) old.told new.told
+  changed = scan_reads (scan_report report) context old new (reads_alone report) (λ image spans few. few) told
+
+  reads_only : (scan_report report).flushes ≡ true → ⊥
+  reads_only flushes = let no : false ≡ true = sym (reads_alone report) ∙ flushes in cc
+
+  without_memory : Meets (scan_report report) context old (Ended NoMemory) new
+  without_memory = record {
+    cause = (tt, λ flushes. absurd (reads_only flushes));
+    told = changed (Ended NoMemory) tt;
+    again = again;
+  }
+
+  -- the report on what was found
+  pub report_meets : (found : Found) (outcome : Outcome) → IsScan old found new → IsReported report found names outcome → Meets (scan_report report) context old outcome new
+  report_meets found (Reported text whole) is reported = record {
+    cause = (
+      reads_alone report,
+      (
+        found.unread,
+        Some found,
+        record { failed = is.faults; all = reported.1 },
+        holds_now_weaker old.told (λ image. IsScanOf image old.sizes found) (λ image. IsScanOf image old.sizes found × (found.unread ≡ found.unread)) (λ image h. (h, refl)) is.now,
+        refl,
+        holds_now_anyway old.told (λ image. (f : Found) × (Some found ≡ Some f) × (text ≡ text_of report f names)) (λ image. (found, refl, reported.0)),
+      ),
+    );
+    told = changed (Reported text whole) tt;
+    again = again;
+  }
+  report_meets found (Ended NoMemory) is reported = without_memory
+  report_meets found _ is reported = absurd reported
+
+  refused_meets : (why : ScanRefusal) (unread : set.FinSet nat_cmp) (whole : Bool)
+      → HoldsNow old.told (λ image. IsRefusalOfScan image old.sizes unread why) → FailedOn unread old new → IsTrue whole ↔ (unread ≡ set.empty)
+      → Meets (scan_report report) context old (Ended (ScanRefused (Disks why) whole)) new
+  refused_meets why unread whole now failed all = record {
+    cause = (unread, record { failed = failed; all = all }, now);
+    told = changed (Ended (ScanRefused (Disks why) whole)) tt;
+    again = again;
+  }
+
+  -- the ending where the scan was refused
+  pub ending_meets : (why : ScanRefusal) (unread : set.FinSet nat_cmp) (ending : Ending) → IsScanRefused old why unread new → IsEndingOf why unread ending
+      → Meets (scan_report report) context old (Ended ending) new
+  ending_meets why unread NoMemory is ends = without_memory
+  ending_meets why unread (ScanRefused (Disks refusal) whole) is ends =
+      let r = refused_is old new why unread ends.1 is in
+      subst (λ (w : ScanRefusal). Meets (scan_report report) context old (Ended (ScanRefused (Disks w) whole)) new) (sym ends.0) (refused_meets why unread whole r.0 r.1 ends.2)
+  ending_meets why unread _ is ends = absurd ends
+
+-- nothing was read yet
+pub nothing_read : (state : State) → BetweenTold (ReadsFew state.sizes) state.told state.told
+nothing_read state told e = (told, e, record { since = []; steps = refl; reads = tt; few = λ pv. ([], inl refl, omega arith) })
+
+-- memory was wanting before anything was done
+pub report_undone : (report : ScanReport) (names : List Word) (id : Option (List ℕ)) (time : ℕ) (state : State) → state.in_flight ≡ []
+    → Meets (scan_report report) (record { names = names; sizes = state.sizes; id = id; now = time }) state (Ended NoMemory) state
+report_undone report names id time state idle = without_memory report names id time state state (record { idle = idle; sizes = refl }) (nothing_read state)
