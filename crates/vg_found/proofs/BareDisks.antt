@@ -13,8 +13,9 @@ use Rattle.scan_rules.specs.Found.{missing_of}
 use Rattle.vg_found.specs.declared.disk.Disk.{Disk}
 use Rattle.vg_found.specs.declared.found.Found.{Found}
 use Rattle.vg_found.specs.Disks.{areas_on, disks_of, header_on, held_area, held_areas, pv_shape, shapes}
-use Rattle.vg_found.specs.Shape.{CanTake, HasShape, IsDisk, IsUnread, LieApart}
+use Rattle.vg_found.specs.Shape.{HasShape, IsDisk, IsUnread}
 use Rattle.vg_found.proofs.ShapedAreas.{areas_shaped}
+use Rattle.mda_ring.specs.Areas.{CanTake, LieApart}
 
 abbrev pub IsBare : Disk → Type 0
 IsBare disk = (header_on disk.contents ≡ None) × (areas_on disk.contents ≡ [])

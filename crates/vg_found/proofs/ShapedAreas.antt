@@ -14,7 +14,7 @@ use Rattle.mda_header.specs.declared.entry.Entry.TheVariants.{Ignored, Nothing, 
 use Rattle.mda_header.specs.declared.header.Locn.{Locn}
 use Rattle.mda_header.specs.Header.{IsInside}
 use Rattle.mda_ring.specs.declared.area.Area.{Area}
-use Rattle.mda_ring.specs.Areas.{IsArea}
+use Rattle.mda_ring.specs.Areas.{CanTake, IsArea, LieApart}
 use Rattle.pv_header.specs.declared.extent_list.Extent.{Extent}
 use Rattle.pv_header.specs.declared.header.PvHeader.{PvHeader}
 use Rattle.pv_header.specs.Areas.{end_of, first_overlap, pairs_of, shares_byte}
@@ -24,7 +24,7 @@ use Rattle.disk_contents.specs.declared.contents.PvFound.TheVariants.{NoLabel, N
 use Rattle.disk_contents.specs.Standing.{IsUsable, LiesInside, area_on}
 use Rattle.vg_found.specs.declared.disk.Disk.{Disk}
 use Rattle.vg_found.specs.Disks.{areas_on, held_area, held_areas, held_by}
-use Rattle.vg_found.specs.Shape.{CanTake, ContentsCanStand, IsDisk, LieApart}
+use Rattle.vg_found.specs.Shape.{ContentsCanStand, IsDisk}
 use Rattle.vg_found.proofs.KeptLists.{all_kept}
 
 -- ---- lists

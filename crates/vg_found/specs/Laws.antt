@@ -6,8 +6,9 @@ use Rattle.pv_header.specs.declared.header.PvHeader.{PvHeader}
 use Rattle.vg_found.specs.declared.disk.Disk.{Disk}
 use Rattle.vg_found.specs.declared.found.Found.{Found}
 use Rattle.vg_found.specs.Disks.{header_on, held_areas}
-use Rattle.vg_found.specs.Shape.{CanTake, HasShape, IsDisk, LieApart}
+use Rattle.vg_found.specs.Shape.{HasShape, IsDisk}
 use Rattle.vg_found.specs.Whole.{IsWhole}
+use Rattle.mda_ring.specs.Areas.{CanTake, LieApart}
 
 -- on disks that can stand, the next text can be placed in each area that isn't ignored, and no two of these share a sector
 abbrev pub AreasAreShaped : Type 0

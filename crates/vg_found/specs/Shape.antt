@@ -1,11 +1,8 @@
 -- What holds of all that a scan finds, whatever stands on the disks.
-use Rattle.std.specs.Prelude.{◌≡◌, ◌≤◌, ◌<◌, ◌↔◌, ◌⊎◌, ◌≢◌, ℕ, ◌+◌, ◌^◌, true, Option, Some, None, is_none, slice_get, List, [], length, All, AllPairs, IfSome}
+use Rattle.std.specs.Prelude.{◌≡◌, ◌≤◌, ◌<◌, ◌↔◌, ℕ, ◌^◌, true, Option, Some, None, is_none, slice_get, List, [], length, All, AllPairs, IfSome}
 use Rattle.std.specs.FinSet as set
 use Rattle.std.specs.Ordering.{nat_cmp}
-use Rattle.mda_header.specs.declared.header.Locn.{Locn}
-use Rattle.mda_header.specs.Header.{IsInside}
-use Rattle.mda_ring.specs.declared.area.Area.{Area}
-use Rattle.mda_ring.specs.Areas.{IsArea}
+use Rattle.mda_ring.specs.Areas.{CanTake, LieApart}
 use Rattle.meta_model.specs.declared.group.Group.{Group}
 use Rattle.disk_contents.specs.declared.contents.PvFound.{PvFound}
 use Rattle.disk_contents.specs.Standing.{CanStand}
@@ -29,14 +26,6 @@ pub record IsDisk (pv : ℕ) (disk : Disk) : Type 0 where
 -- the disk is unread exactly where it is named so
 abbrev pub IsUnread : set.FinSet nat_cmp → ℕ → Disk → Type 0
 IsUnread unread pv disk = (disk.contents ≡ None) ↔ (set.contains unread pv ≡ true)
-
--- two areas share no sector
-abbrev pub LieApart : Area × Option Locn → Area × Option Locn → Type 0
-LieApart a b = (a.0.pv ≢ b.0.pv) ⊎ ((a.0.start + a.0.size ≤ b.0.start) ⊎ (b.0.start + b.0.size ≤ a.0.start))
-
--- an area that the next text can be placed in
-abbrev pub CanTake : Area × Option Locn → Type 0
-CanTake area = IsArea area.0 × IfSome area.1 (IsInside area.0.size)
 
 -- what was found, whatever the shelf tells
 pub record HasShape (found : Found) : Type 0 where

@@ -19,11 +19,12 @@ use Rattle.vg_found.specs.declared.disk.Disk.{Disk}
 use Rattle.vg_found.specs.declared.found.Found.{Found}
 use Rattle.vg_found.specs.Disks.{disks_of, held_areas, shapes}
 use Rattle.vg_found.specs.Laws.{AreasAreShaped}
-use Rattle.vg_found.specs.Shape.{CanTake, HasShape, IsDisk, IsUnread, LieApart}
+use Rattle.vg_found.specs.Shape.{HasShape, IsDisk, IsUnread}
 use Rattle.vg_scan.specs.Scanned.{HaveShapes}
 use Rattle.vg_scan.specs.Scans.{IsFoundBy}
 use Rattle.vg_scan.specs.Outcome.{IsOutcome}
 use Rattle.vg_scan.proofs.Deciding.{HasPlaces, answer_places, no_duplicate}
+use Rattle.mda_ring.specs.Areas.{CanTake, LieApart}
 
 -- ---- the parts of what was found are those of what was decided
 
