@@ -27,7 +27,7 @@ use Rattle.lvm_cli.specs.declared.outcome.Outcome.{Outcome}
 use Rattle.lvm_cli.specs.declared.outcome.Outcome.TheVariants.{Ended, Answered, Reported}
 use Rattle.lvm_cli.specs.declared.scan_refusal.ScanRefusal.TheVariants.{Disks, Partial}
 use Rattle.lvm_cli.specs.Backup.{IsBackedUp, IsGroupBackedUp, IsWholeBackedUp}
-use Rattle.lvm_cli.specs.CommandSpec.{Context, Finds, Refuses, group_in}
+use Rattle.lvm_cli.specs.CommandSpec.{Context, Finds, Refuses, Lacks, group_in}
 use Rattle.lvm_cli.specs.Commands.Vgcfgbackup.{vgcfgbackup}
 use Rattle.lvm_cli.specs.Meets.{ChangesDisks, IsScanned, IsUnwritten, Meets}
 use Rattle.lvm_cli.specs.Scan.{FindsWhole}
@@ -67,7 +67,14 @@ module _ (names : List Word) (id : Option (List ℕ)) (vg : List ℕ) (time : �
     -- what was found isn't whole
     not_whole : (why : NotWhole) → IsNotWhole found why → Meets (vgcfgbackup vg) context old (Ended (partial_ending found why)) new
     not_whole (ReadFailed pv) unread = record {
-      cause = (λ judged. absurd (cc), (found.unread, is.faults, unread));
+      cause = (
+        λ judged. absurd (cc),
+        (
+          found.unread,
+          is.faults,
+          holds_now_weaker old.told (λ image. IsScanOf image old.sizes found) (λ image. FindsWhole image old.sizes found.unread (Lacks pv)) (λ image h. (found, h, refl, unread)) is.now,
+        ),
+      );
       told = changed (Ended (ScanReadFailed pv)) tt;
       again = again;
     }

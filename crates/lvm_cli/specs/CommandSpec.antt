@@ -22,10 +22,12 @@ pub record Context : Type 0 where
   -- the time of the run, in seconds since 1970
   pub now : ℕ
 
--- what a look at the disks comes to: what a scan found, where there was one, or why the disks aren't taken as they are
+-- what a look at the disks comes to: what a scan found, where there was one; why the disks aren't taken as they are; or the
+-- disk that wasn't read, where nothing is taken without it
 pub data Scanned : Type 0 where
   Finds : Option Found → Scanned
   Refuses : ScanRefusal → Scanned
+  Lacks : ℕ → Scanned
 
 -- what is looked at before a command is judged
 pub data Looks : Type 0 where

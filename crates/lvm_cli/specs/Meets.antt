@@ -13,14 +13,13 @@ use Rattle.disk_model.specs.Since.{BetweenTold, ReadsAlone, spans_read, writes_s
 use Rattle.disk_model.specs.State.{State}
 use Rattle.disk_model.specs.Steps.{Image, IsSame, Reading, Flushing, Step, Told, now_after, steps_on}
 use Rattle.vg_found.specs.declared.found.Found.{Found}
-use Rattle.vg_found.specs.Whole.{first_of}
 use Rattle.vg_scan.specs.Scans.{FailedOn, HoldsNow}
 use Rattle.lvm_script.specs.declared.op_refusal.OpRefusal.{OpRefusal}
 use Rattle.lvm_script.specs.declared.answer.Answer.TheVariants.{Fine, Refused, PvFailed}
 use Rattle.lvm_cli.specs.declared.ending.Ending.TheVariants.{WordsRefused, NoMemory, OpenFailed, ScanReadFailed, ScanRefused}
 use Rattle.lvm_cli.specs.declared.outcome.Outcome.{Outcome}
 use Rattle.lvm_cli.specs.declared.outcome.Outcome.TheVariants.{Ended, Answered, Reported}
-use Rattle.lvm_cli.specs.CommandSpec.{CommandSpec, Context, Looks, AtNothing, AtDisks, Scanned, Finds, Refuses, refusal_of}
+use Rattle.lvm_cli.specs.CommandSpec.{CommandSpec, Context, Looks, AtNothing, AtDisks, Scanned, Finds, Refuses, Lacks, refusal_of}
 use Rattle.lvm_cli.specs.Scan.{FlushesBeforeReads}
 
 -- the look at the disks came to this, where these were unread
@@ -35,10 +34,10 @@ IsJudged spec context old refusal = (found : Option Found) × IsScanned spec con
 abbrev pub IsJudgedFirst : CommandSpec → Context → Type 0
 IsJudgedFirst spec context = spec.looks ≡ AtNothing → refusal_of (spec.rows context None) ≡ None
 
--- a read of the disk failed: of all that a scan left unread it is the first, and any other read that fails is the last step
-abbrev pub IsReadFault : Looks → State → State → ℕ → Type 0
-IsReadFault AtDisks old new pv = (unread : set.FinSet nat_cmp) × FailedOn unread old new × (first_of unread ≡ Some pv)
-IsReadFault _ old new pv = (span : Span) × IsLastFault old new pv (Reading span)
+-- a read of the disk failed: in a scan that isn't taken without it, and any other read that fails is the last step
+abbrev pub IsReadFault : CommandSpec → Context → Looks → State → State → ℕ → Type 0
+IsReadFault spec context AtDisks old new pv = (unread : set.FinSet nat_cmp) × FailedOn unread old new × IsScanned spec context unread old (Lacks pv)
+IsReadFault spec context _ old new pv = (span : Span) × IsLastFault old new pv (Reading span)
 
 -- where memory was wanting no operation had failed, but for reads of a scan
 abbrev pub FailedForWant : Looks → State → State → Type 0
@@ -59,7 +58,7 @@ abbrev pub IsCause : CommandSpec → Context → State → State → Outcome →
 IsCause spec context old new (Ended WordsRefused) = ⊥
 IsCause spec context old new (Ended NoMemory) = FailedForWant spec.looks old new × (IsTrue spec.flushes → new ≡ old)
 IsCause spec context old new (Ended (OpenFailed pv)) = IsTrue spec.flushes × IsLastFault old new pv (Flushing pv)
-IsCause spec context old new (Ended (ScanReadFailed pv)) = IsJudgedFirst spec context × IsReadFault spec.looks old new pv
+IsCause spec context old new (Ended (ScanReadFailed pv)) = IsJudgedFirst spec context × IsReadFault spec context spec.looks old new pv
 IsCause spec context old new (Ended (ScanRefused refusal whole)) =
     (unread : set.FinSet nat_cmp) × IsUnreadBy whole unread old new × IsScanned spec context unread old (Refuses refusal)
 IsCause spec context old new (Answered line Fine) =

@@ -12,9 +12,9 @@ use Rattle.disk_model.specs.Steps.{Image, IsSame, Reading, Flushing, Step, Submi
 use Rattle.pv_label.specs.Label.{BeginsLikeLabel}
 use Rattle.pv_label.specs.LabelSectors.{label_span}
 use Rattle.vg_found.specs.declared.found.Found.{Found}
-use Rattle.vg_found.specs.Whole.{IsWhole}
+use Rattle.vg_found.specs.Whole.{IsWhole, first_of}
 use Rattle.vg_scan.specs.Scans.{HoldsNow, IsRefusalOfScan, IsScanOf}
-use Rattle.lvm_cli.specs.CommandSpec.{Scanned, Finds, Refuses}
+use Rattle.lvm_cli.specs.CommandSpec.{Scanned, Finds, Refuses, Lacks}
 use Rattle.lvm_cli.specs.declared.ending.Ending.{Ending}
 use Rattle.lvm_cli.specs.declared.ending.Ending.TheVariants.{OpenFailed, ScanReadFailed, ScanRefused}
 use Rattle.lvm_cli.specs.declared.scan_refusal.ScanRefusal.TheVariants.{NotYet, Disks, Partial}
@@ -31,7 +31,7 @@ HasNoLabels disks image = (pv : ℕ) → pv < disks → ¬ HasLabel pv image
 abbrev pub LooksForLabels : ℕ → Image → Scanned → Type 0
 LooksForLabels disks image (Finds found) = (found ≡ None) × HasNoLabels disks image
 LooksForLabels disks image (Refuses (NotYet pv)) = HasLabel pv image
-LooksForLabels disks image (Refuses _) = ⊥
+LooksForLabels disks image _ = ⊥
 
 -- what a scan of disks of these sizes finds, whatever is missing and whichever are unread
 abbrev pub FindsAnything : Image → List ℕ → set.FinSet nat_cmp → Scanned → Type 0
@@ -39,11 +39,13 @@ FindsAnything image sizes unread (Finds (Some found)) = IsScanOf image sizes fou
 FindsAnything image sizes unread (Refuses (Disks refusal)) = IsRefusalOfScan image sizes unread refusal
 FindsAnything image sizes unread _ = ⊥
 
--- the same where the group has to be whole: with a physical volume missing it is refused
+-- the same where the group has to be whole: with a physical volume missing it is refused, and with a disk unread it isn't
+-- taken
 abbrev pub FindsWhole : Image → List ℕ → set.FinSet nat_cmp → Scanned → Type 0
 FindsWhole image sizes unread (Finds (Some found)) = IsScanOf image sizes found × (found.unread ≡ unread) × IsWhole found
 FindsWhole image sizes unread (Refuses (Partial ids)) = (found : Found) × IsScanOf image sizes found × (found.unread ≡ unread) × (unread ≡ set.empty) × (ids ≡ found.missing) × (ids ≢ [])
 FindsWhole image sizes unread (Refuses (Disks refusal)) = IsRefusalOfScan image sizes unread refusal
+FindsWhole image sizes unread (Lacks pv) = (found : Found) × IsScanOf image sizes found × (found.unread ≡ unread) × (first_of unread ≡ Some pv)
 FindsWhole image sizes unread _ = ⊥
 
 -- the sectors where a label may be, of each of so many disks
