@@ -1,0 +1,3 @@
+pub mod Places
+pub mod Orderly
+pub mod Rows
