@@ -1,0 +1,4 @@
+pub mod Passing
+pub mod Laws
+pub mod Apart
+pub mod Rows

@@ -1,0 +1,10 @@
+use Rattle.std.proofs.Common.{◌==◌}
+use Rattle.claim_table.specs.declared.claim.Claim.{Claim}
+use Rattle.claim_table.proofs.Passing.{placed}
+use Rattle.claim_table.proofs.search.place_of.Goals as goal
+
+pub returns-clause-place : goal.returns-clause-place
+returns-clause-place c = (placed (λ (d : Claim). d.number == c.args.number) c.args.claims.now c.find_piece.result c.unwrap_or.result c.find_piece.ensures c.unwrap_or.ensures c.requires).0
+
+pub returns-clause-within : goal.returns-clause-within
+returns-clause-within c = (placed (λ (d : Claim). d.number == c.args.number) c.args.claims.now c.find_piece.result c.unwrap_or.result c.find_piece.ensures c.unwrap_or.ensures c.requires).1

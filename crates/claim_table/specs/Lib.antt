@@ -1,0 +1,4 @@
+pub mod Extents
+pub mod Conflict
+pub mod Claims
+pub mod Steps
