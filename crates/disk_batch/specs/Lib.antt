@@ -1,0 +1,12 @@
+pub mod Writes
+pub mod Views
+pub mod Submits
+pub mod Batches
+pub mod WriteAll
+pub mod Progress
+pub mod Rounds
+pub mod Flushed
+pub mod Faults
+pub mod Laws
+pub mod Alone
+pub mod InTurn

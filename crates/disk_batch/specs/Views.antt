@@ -1,0 +1,41 @@
+-- A batch on its way, as the layers above see it, and what it does when one of its operations completes.
+use Rattle.std.specs.Prelude.{ℕ, Bool, true, false, not, ◌==◌, if◌then◌else◌, List, [], ◌∷◌, length, filter, Option, Some, None}
+
+-- a batch on its way
+pub record View : Type 0 where
+  -- the tags of its operations that haven't completed
+  pub tags : List ℕ
+  -- the disks that it flushes
+  pub flush : List ℕ
+  -- whether the flushes have been submitted
+  pub flushing : Bool
+  -- the disk of the last operation of the batch that failed, if one did
+  pub lost : Option ℕ
+
+-- how many flushes are still to be submitted
+abbrev pub to_come : View → ℕ
+to_come view = if view.flushing then 0 else length view.flush
+
+-- an operation of the batch, with this tag and on this disk, has completed, well or not
+abbrev pub done_on : ℕ → ℕ → Bool → View → View
+done_on tag pv well view = record view {
+  tags = filter (λ (t : ℕ). not (t == tag)) view.tags;
+  lost = if well then view.lost else Some pv;
+}
+
+-- what a batch does when one of its operations has completed
+pub data Turn : Type 0 where
+  Waits : Turn
+  Flushes : Turn
+  IsWell : Turn
+  IsLost : ℕ → Turn
+
+-- after the last completion it has lost an operation, or is through, or submits its flushes
+abbrev pub last_turn : Bool → Option ℕ → Turn
+last_turn flushing (Some pv) = IsLost pv
+last_turn true None = IsWell
+last_turn false None = Flushes
+
+-- it waits for the others, and after the last one does what follows
+abbrev pub turn_of : View → Turn
+turn_of view = elim view.tags as (λ _. Turn) [ [] ↦ last_turn view.flushing view.lost | (t ∷ ts) ↦ Waits ]

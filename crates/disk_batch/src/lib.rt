@@ -1,0 +1,31 @@
+//! Batches: writes of many spans, all in flight at once, and flushes behind them.
+//!
+//! A batch submits all its writes, which complete in any order among other operations. Once every one has completed
+//! well it submits a flush of each of its disks, and it is through once these have completed well. Where one of its
+//! operations fails it submits nothing more, and says so once all that it submitted has completed.
+//!
+//! In `specs/`, `Writes` has what is written, `Views` a batch on its way as the layers above see it, `Submits` and
+//! `Batches` what its calls do to the shelf, and `WriteAll` what a whole batch does where nothing else is in flight.
+//! `Progress`, `Rounds`, `Flushed` and `Faults` say what a batch has made sure of among other operations, step by step:
+//! which values a crash may leave, which disks are flushed, and which counts of faults have risen. Their laws stand in
+//! `Laws`, and for any property of values in `proofs/`: `Rounding`, `Calling`, `Beside`, `Flushing`, `Faulting` and
+//! `Written`. `InTurn` has batches that are carried out one after another, each lasting before the next begins: a crash
+//! leaves the first so many of them whole, and of the next one each sector old or new.
+#![tactic(auto)]
+
+mod alone;
+mod batch;
+mod batching;
+mod in_turn;
+mod laws;
+mod submitting;
+#[cfg(test)]
+mod tests;
+mod writes;
+
+pub use alone::write_all;
+pub use batch::{Batch, BatchRefused};
+pub use batching::{BatchStep, Batching};
+pub use in_turn::{reserve_all, write_in_turn};
+pub use laws::batch_laws;
+pub use writes::Writes;
