@@ -1,6 +1,6 @@
-mod EntryBytes
-mod NextPlace
-mod RingPlaces
-mod SectorParts
-mod SpanLaws
-mod TextBytes
+pub mod EntryBytes
+pub mod NextPlace
+pub mod RingPlaces
+pub mod SectorParts
+pub mod SpanLaws
+pub mod TextBytes

@@ -90,7 +90,7 @@ get_or-with_zeros bytes i small =
           ∙ sym (get_or_past bytes i 0 high)
     ]
 
-get_or-text_sector : (text : List ℕ) (j : ℕ) → get_or (text_sector text (j / 512)) (j % 512) 0 ≡ get_or text j 0
+pub get_or-text_sector : (text : List ℕ) (j : ℕ) → get_or (text_sector text (j / 512)) (j % 512) 0 ≡ get_or text j 0
 get_or-text_sector text j =
     get_or-with_zeros (take 512 (drop (512 * (j / 512)) text)) (j % 512) (omega arith)
     ∙ get_or-take 512 (drop (512 * (j / 512)) text) (j % 512) 0 (omega arith)
@@ -106,14 +106,14 @@ byte_in-text_sectors text total j within =
     ∙ ap (λ (l : List ℕ). get_or l (j % 512) 0) (get_or-map-range_with_len (text_sector text) 0 total (j / 512) (j / 512) [] (omega arith) (omega arith))
     ∙ get_or-text_sector text j
 
-get_or-with_zero : (text : List ℕ) (j : ℕ) → j < length text + 1 → get_or (text ++ 0 ∷ []) j 0 ≡ get_or text j 0
+pub get_or-with_zero : (text : List ℕ) (j : ℕ) → j < length text + 1 → get_or (text ++ 0 ∷ []) j 0 ≡ get_or text j 0
 get_or-with_zero text j within =
     elim (cases_lt j (length text)) [
       | inl low ↦ get_or_append_left text (0 ∷ []) 0 j low
       | inr high ↦ get_or_at text 0 [] 0 j (omega arith) ∙ sym (get_or_past text j 0 high)
     ]
 
-length-with_zero : (text : List ℕ) → length (text ++ 0 ∷ []) ≡ length text + 1
+pub length-with_zero : (text : List ℕ) → length (text ++ 0 ∷ []) ≡ length text + 1
 length-with_zero text = length-append text (0 ∷ [])
 
 -- what is taken from the sectors of a text is the text and its zero byte
