@@ -1,0 +1,14 @@
+pub mod FrontBatches
+pub mod Moments
+pub mod Committing
+pub mod ShownSectors
+pub mod AreaPuts
+pub mod AreasCommit
+pub mod Disks
+pub mod Lying
+pub mod AloneCommitting
+pub mod Planning
+pub mod CommitInTurn
+pub mod CommitImages
+pub mod WritesApart
+pub mod CommitCanRun

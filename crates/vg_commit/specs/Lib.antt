@@ -1,0 +1,9 @@
+pub mod Written
+pub mod TooLarge
+pub mod ShownRefusal
+pub mod Showing
+pub mod SectorReading
+pub mod Commits
+pub mod Plans
+pub mod Preparing
+pub mod AloneCommit
