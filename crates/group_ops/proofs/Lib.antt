@@ -1,0 +1,17 @@
+pub mod Inserted
+pub mod Pushed
+pub mod PushedRules
+pub mod Contents
+pub mod FreeNames
+pub mod PushedPrintable
+pub mod Disks
+pub mod DataPlaces
+pub mod AddedFacts
+pub mod EmptyGroup
+pub mod ExtendedGroup
+pub mod Passed
+pub mod FewAdded
+pub mod Accepted
+pub mod Chained
+pub mod WholeState
+pub mod StateFacts

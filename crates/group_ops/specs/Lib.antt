@@ -1,0 +1,10 @@
+pub mod Added
+pub mod Ids
+pub mod Judging
+pub mod Laws
+pub mod NewGroup
+pub mod Planning
+pub mod Pvcreate
+pub mod State
+pub mod Vgcreate
+pub mod Vgextend

@@ -1,0 +1,59 @@
+-- vgextend(8): the rows of its refusals, and its change.
+use Rattle.std.specs.Prelude.{ℕ, ◌+◌, ◌==◌, not, List, [], ◌∷◌, ◌++◌, length, find, Option, None, Some, option_map}
+use Rattle.std.specs.Option.{option_map_or}
+use Rattle.lvm_script.specs.declared.op_refusal.OpRefusal.{OpRefusal}
+use Rattle.lvm_script.specs.declared.op_refusal.OpRefusal.TheVariants.{IdTaken, NotResizeable, ReadOnly, SeqnoEnd, UnknownGroup}
+use Rattle.meta_model.specs.declared.group.Group.{Group}
+use Rattle.scan_rules.specs.Decision.{same_bytes}
+use Rattle.group_ops.specs.Added.{added_of, disks_added}
+use Rattle.group_ops.specs.Ids.{has_other_id}
+use Rattle.group_ops.specs.Judging.{area_row, many_row, refused_if, small_row, unknown_row, used_row}
+use Rattle.group_ops.specs.NewGroup.{change_with, text_row}
+use Rattle.group_ops.specs.declared.added.Added.{Added}
+use Rattle.group_ops.specs.declared.state.Change.{Change}
+use Rattle.group_ops.specs.declared.state.GroupState.{GroupState}
+
+-- the next version of a group
+abbrev pub next_version : Group → Group
+next_version group = record group { seqno = group.seqno + 1 }
+
+-- the first physical volume whose id is that of the group or of a logical volume
+unfoldable pub other_id_row : Group → List Added → Option OpRefusal
+other_id_row group all = option_map (λ (added : Added). IdTaken added.header.id) (find (λ (added : Added). has_other_id group added.header.id) all)
+
+-- the group has another name, may not be changed, or takes no further physical volume
+abbrev pub group_rows : Group → List ℕ → List (Option OpRefusal)
+group_rows group vg =
+    refused_if (not (same_bytes group.name vg)) (UnknownGroup vg)
+    ∷ refused_if (not group.status.write) ReadOnly
+    ∷ refused_if (not group.status.resizeable) NotResizeable
+    ∷ []
+
+-- the rows on the physical volumes that are added
+abbrev pub extend_rows : GroupState → Group → List Added → List (Option OpRefusal)
+extend_rows state group all =
+    used_row state.disk_of all
+    ∷ area_row state.areas (state.disk_of ++ disks_added all)
+    ∷ small_row group.extent_size all
+    ∷ many_row group.max_pv (length group.pvs + length all)
+    ∷ refused_if (group.seqno == 4294967295) SeqnoEnd
+    ∷ other_id_row group all
+    ∷ []
+
+-- the rows where this group was found: those on the group; a disk isn't known; those on the physical volumes; and the text is
+-- too long
+abbrev pub found_rows : GroupState → List ℕ → List (List ℕ) → ℕ → Group → List (Option OpRefusal)
+found_rows state vg names now group =
+    group_rows group vg
+    ++ unknown_row state names
+    ∷ extend_rows state group (added_of state names)
+    ++ text_row state (next_version group) state.disk_of (added_of state names) now
+    ∷ []
+
+-- no group was found, or the rows where one was
+abbrev pub vgextend_rows : GroupState → List ℕ → List (List ℕ) → ℕ → List (Option OpRefusal)
+vgextend_rows state vg names now = option_map_or (found_rows state vg names now) state.group (Some (UnknownGroup vg) ∷ [])
+
+-- the physical volumes follow those of the group, and its next version is committed
+abbrev pub vgextend_change : GroupState → Group → List (List ℕ) → Change
+vgextend_change state group names = change_with (next_version group) state.disk_of (added_of state names)

@@ -1,0 +1,25 @@
+//! What a command changes: each line is judged against the group in force, the disks and their metadata areas, and answered
+//! by its first refusal, or by the new group and the labels that it writes.
+//!
+//! Both are functions of what was found, of the line and of the time; nothing is written here. Each command has a file of
+//! its own for its refusals, in their order, and its change.
+#![tactic(auto)]
+
+mod added;
+mod ids;
+mod judging;
+mod laws;
+mod naming;
+mod new_group;
+mod planning;
+mod pvcreate;
+mod refusal;
+mod state;
+mod vgcreate;
+mod vgextend;
+
+pub use added::Added;
+pub use laws::whole_is_state;
+pub use planning::plan;
+pub use refusal::PlanRefusal;
+pub use state::{Change, GroupState, Labels, NewLabel};

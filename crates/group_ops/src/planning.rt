@@ -1,0 +1,60 @@
+//! Judging a line.
+ghost use Rattle.std.specs.Prelude.{◌≡◌, ◌<◌, ◌^◌, [], IsSomeAnd, unwrap_or};
+ghost use Rattle.lvm_id.specs.LvmId.{IsId};
+ghost use Rattle.group_ops.specs.Planning.{IsPlanned, Plans, change_of, rows_of};
+ghost use Rattle.group_ops.specs.State.{IsState};
+
+use crate::pvcreate::plan_pvcreate;
+use crate::vgcreate::plan_vgcreate;
+use crate::vgextend::plan_vgextend;
+use crate::{Change, GroupState, PlanRefusal};
+use lvm_id::LvmId;
+use lvm_script::{Command, Line};
+use std::alloc::Global;
+
+/// What the line changes at this time, in seconds since 1970, by lvm2's rules for its command. Sizes and extents are counted
+/// in sectors of 512 bytes, but for a header's numbers, which are bytes.
+///
+/// # Errors
+///
+/// The first refusal of its command, in the order of the rows, exactly where one holds; `NoMemory` where memory is wanting.
+pub fn plan(alloc: Global, state: &GroupState, line: &Line, now: u64) -> Result<Change, PlanRefusal>
+    requires state { IsState state.now }
+    requires planned { IsPlanned line.now.id line.now.command }
+    requires time { now < 2 ^ 48 }
+    ensures { Plans (rows_of state.now line.now now) (change_of state.now line.now) result }
+{
+    match &line.command {
+        Command::Pvcreate {
+            pv,
+            metadata_copies,
+        } => plan_pvcreate(alloc, state, &drawn(line.id), pv, *metadata_copies),
+        Command::Vgcreate {
+            vg,
+            extent_size,
+            pvs,
+        } => plan_vgcreate(
+            alloc,
+            state,
+            &drawn(line.id),
+            vg,
+            *extent_size,
+            pvs.as_slice(),
+            now,
+        ),
+        Command::Vgextend { vg, pvs } => plan_vgextend(alloc, state, vg, pvs.as_slice(), now),
+        _ => unreachable!(),
+    }
+}
+
+// The id that the line has drawn.
+fn drawn(id: Option<LvmId>) -> LvmId
+    requires { IsSomeAnd id IsId }
+    ensures value { result ≡ unwrap_or id [] }
+    ensures valid { IsId result }
+{
+    match id {
+        Some(id) => id,
+        None => unreachable!(),
+    }
+}

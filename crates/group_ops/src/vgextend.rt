@@ -1,0 +1,150 @@
+//! vgextend(8): its refusals, in their order, and its change.
+ghost use Rattle.std.specs.Prelude.{◌≡◌, ◌==◌, ◌≤◌, ◌<◌, ◌^◌, Some, All, IfOk, length};
+ghost use Rattle.lvm_script.specs.declared.op_refusal.OpRefusal.TheVariants.{SeqnoEnd};
+ghost use Rattle.scan_rules.specs.Decision.{same_bytes};
+ghost use Rattle.group_ops.specs.Added.{IsAdded};
+ghost use Rattle.group_ops.specs.Judging.{Judges, first_refusal, refused_if};
+ghost use Rattle.group_ops.specs.Planning.{Plans, extend_by};
+ghost use Rattle.group_ops.specs.State.{IsState};
+ghost use Rattle.group_ops.specs.Vgextend.{extend_rows, found_rows, group_rows, next_version, other_id_row, vgextend_change, vgextend_rows};
+
+use crate::added::{copied_text, find_all_added};
+use crate::ids::has_other_id;
+use crate::judging::{judge_areas, judge_count, judge_sizes, judge_used};
+use crate::new_group::{commit, disks_with};
+use crate::{Added, Change, GroupState, PlanRefusal};
+use lvm_script::OpRefusal;
+use meta_model::Group;
+use sector_base::Text;
+use std::alloc::{AllocError, Global};
+use vg_check::Checked;
+
+// The last number of a version.
+const LAST_SEQNO: u64 = 4_294_967_295;
+
+/// The change of a vgextend of the group of this name by the physical volumes on the disks with these names.
+///
+/// # Errors
+///
+/// `UnknownGroup` where no group, or one of another name, was found; `ReadOnly`, `NotResizeable`, `UnknownPv`, `PvUsed`,
+/// `NoArea`, `TooSmall`, `TooMany`, `SeqnoEnd`, `IdTaken` with the first id that is the group's or a logical volume's, or
+/// `TooLarge`: the first of these. `NoMemory` where memory is wanting.
+pub(crate) fn plan_vgextend(
+    alloc: Global,
+    state: &GroupState,
+    vg: &Text,
+    names: &[Text],
+    now: u64,
+) -> Result<Change, PlanRefusal>
+    requires { IsState state.now }
+    ensures { Plans (vgextend_rows state.now vg.now names.now now) (extend_by state.now state.now.group names.now) result }
+{
+    match &state.group {
+        Some(group) => extend(alloc, state, group, vg, names, now),
+        None => {
+            let name = copied_text(alloc, vg)?;
+            Err(PlanRefusal::Refused(OpRefusal::UnknownGroup(name)))
+        }
+    }
+}
+
+// The change where this group was found.
+fn extend(
+    alloc: Global,
+    state: &GroupState,
+    group: &Checked,
+    vg: &Text,
+    names: &[Text],
+    now: u64,
+) -> Result<Change, PlanRefusal>
+    requires state { IsState state.now }
+    requires found { state.now.group ≡ Some group.now }
+    ensures { Plans (found_rows state.now vg.now names.now now group.now) (vgextend_change state.now group.now names.now) result }
+{
+    let found = group.group();
+    judge_group(alloc, found, vg)?;
+    let all = find_all_added(alloc, state, names)?;
+    judge_added(alloc, state, found, &all)?;
+    let base = next_version(alloc, group)?;
+    commit(alloc, state, base, state.disk_of.as_slice(), all, now)
+}
+
+// The next version of the group.
+fn next_version(alloc: Global, group: &Checked) -> Result<Group, AllocError>
+    requires { group.now.seqno ≤ 4294967295 }
+    ensures { IfOk result (λ next. next ≡ next_version group.now) }
+{
+    let mut next = group.copy(alloc)?.into_group();
+    next.seqno += 1;
+    Ok(next)
+}
+
+// The rows on the group.
+fn judge_group(alloc: Global, group: &Group, vg: &Text) -> Result<(), PlanRefusal>
+    ensures { Judges result (first_refusal (group_rows group.now vg.now)) }
+{
+    if !is_named(group, vg) {
+        let name = copied_text(alloc, vg)?;
+        return Err(PlanRefusal::Refused(OpRefusal::UnknownGroup(name)));
+    }
+    if !group.status.write {
+        return Err(PlanRefusal::Refused(OpRefusal::ReadOnly));
+    }
+    if !group.status.resizeable {
+        return Err(PlanRefusal::Refused(OpRefusal::NotResizeable));
+    }
+    Ok(())
+}
+
+// Whether the group has the name.
+fn is_named(group: &Group, vg: &Text) -> bool
+    ensures { result ≡ same_bytes group.now.name vg.now }
+{
+    group.name.as_bytes() == vg.as_bytes()
+}
+
+// The rows on the physical volumes that are added to the group.
+fn judge_added(
+    alloc: Global,
+    state: &GroupState,
+    group: &Group,
+    all: &[Added],
+) -> Result<(), PlanRefusal>
+    requires listed { All (λ number. number < 64) state.now.disk_of }
+    requires added { All IsAdded all.now }
+    requires size { group.now.extent_size ≤ 2 ^ 31 }
+    requires few { length group.now.pvs ≤ 64 }
+    ensures { Judges result (first_refusal (extend_rows state.now group.now all.now)) }
+{
+    judge_used(alloc, state.disk_of.as_slice(), all)?;
+    let disks = disks_with(alloc, state.disk_of.as_slice(), all)?;
+    judge_areas(state.areas.as_slice(), disks.as_slice())?;
+    judge_sizes(group.extent_size, all)?;
+    let count = group.pvs.len() + all.len();
+    judge_count(group.max_pv, count as u64)?;
+    judge_seqno(group.seqno)?;
+    judge_ids(group, all)
+}
+
+// There is a number for a further version.
+fn judge_seqno(seqno: u64) -> Result<(), PlanRefusal>
+    ensures { Judges result (refused_if (seqno == 4294967295) SeqnoEnd) }
+{
+    if seqno == LAST_SEQNO {
+        return Err(PlanRefusal::Refused(OpRefusal::SeqnoEnd));
+    }
+    Ok(())
+}
+
+// None of these has an id of the group or of a logical volume.
+#[tactic(auto, unfolding(crate::specs::Vgextend::other_id_row))]
+fn judge_ids(group: &Group, all: &[Added]) -> Result<(), PlanRefusal>
+    ensures { Judges result (other_id_row group.now all.now) }
+{
+    for added in all {
+        if has_other_id(group, &added.header.id) {
+            return Err(PlanRefusal::Refused(OpRefusal::IdTaken(added.header.id)));
+        }
+    }
+    Ok(())
+}
