@@ -1,0 +1,74 @@
+-- What every image on the way of a line keeps, and what is found once it is done.
+use Rattle.std.proofs.Common.{◌≡◌, ◌<◌, ℕ, List, [], ◌++◌, length, map, get_or, Option, None, Some, refl, sym, subst}
+use Rattle.disk_model.specs.Steps.{Image}
+use Rattle.disk_batch.specs.InTurn.{HasFirstBatches, Put, with_batches}
+use Rattle.meta_model.specs.declared.group.Group.{Group}
+use Rattle.pv_header.specs.PvHeader.{IsPvHeader}
+use Rattle.pv_label.specs.Label.{IsLabel}
+use Rattle.lvm_script.specs.declared.line.Line.{Line}
+use Rattle.group_ops.proofs.StateFacts.{areas_take}
+use Rattle.group_ops.specs.Planning.{IsPlanned, change_of, refusal_of}
+use Rattle.group_ops.specs.State.{IsState}
+use Rattle.group_ops.specs.declared.state.Change.{Change}
+use Rattle.group_ops.specs.declared.state.GroupState.{GroupState}
+use Rattle.group_ops.specs.declared.state.NewLabel.{NewLabel}
+use Rattle.vg_change.specs.Batches.{areas_of, batch_if, batches_of, commit_batches, label_put, new_area_puts}
+use Rattle.vg_change.specs.CarryingOut.{KeepsImages, sizes_of}
+use Rattle.vg_change.specs.Laws.{AreasAreKept, HasLabel, HoldsAfter, IsFoundAfter, ShowsEntries}
+use Rattle.vg_change.specs.Sound.{CanMake, IsReadAgain, LiesOn}
+use Rattle.vg_change.proofs.FarAreas.{areas_far}
+use Rattle.vg_change.proofs.KeptImages.{areas_shown, change_kept, labels_stand}
+use Rattle.vg_change.proofs.LabelsRead.{header_found, label_read}
+use Rattle.vg_change.proofs.LineLabels.{headers_found, new_empty, new_labels_are, new_near}
+use Rattle.vg_change.proofs.Sound.{can_make, lies_on}
+
+-- every image on the way keeps what the base holds
+pub areas_kept : (state : GroupState) (line : Line) (now : ℕ) (sizes : List ℕ) → IsState state → CanMake state.areas (change_of state line) now → LiesOn sizes state.areas (change_of state line) → IsReadAgain state.areas (change_of state line) now
+    → (base image : Image) → ShowsEntries state.areas base → HasFirstBatches (batches_of state line now) base image → AreasAreKept state line now base image
+areas_kept state line now sizes is can lies again base image names h =
+    let change : Change = change_of state line in
+    let kept = change_kept state.areas (areas_take state is) (areas_far state is) change can.labels lies.differ base names now
+    (λ none. new_near change.labels (new_labels_are state line none)) can.commit again.commit image h in
+    record { areas = kept.0; labels = kept.1 }
+
+module _ (state : GroupState) (line : Line) (now : ℕ) (sizes : List ℕ) (is : IsState state) (can : CanMake state.areas (change_of state line) now) (lies : LiesOn sizes state.areas (change_of state line)) (again : IsReadAgain state.areas (change_of state line) now)
+    (base : Image) (names : ShowsEntries state.areas base) where
+  abbrev change : Change
+  change = change_of state line
+
+  abbrev batches_for : Option Group → List (List Put)
+  batches_for g = batch_if (new_area_puts g change.labels) ++ batch_if (map label_put change.labels) ++ commit_batches g now (areas_of change state.areas)
+
+  holds : (g : Option Group) → change.group ≡ g → HoldsAfter g now change state.areas (with_batches (batches_for g) base)
+  holds None is_none = new_empty change.labels (new_labels_are state line is_none) base can.labels
+  holds (Some group) is_some =
+      areas_shown state.areas (areas_take state is) (areas_far state is) change can.labels lies.differ base names now (λ none. new_near change.labels (new_labels_are state line none)) can.commit again.commit group is_some
+
+  label_there : IsPlanned line.id line.command → (k : ℕ) (d : NewLabel) → k < length change.labels → HasLabel (with_batches (batches_of state line now) base) (get_or change.labels k d)
+  label_there planned k d within =
+      let label : NewLabel = get_or change.labels k d in
+      let there = labels_stand state.areas (areas_take state is) (areas_far state is) change can.labels lies.differ base names now (λ none. new_near change.labels (new_labels_are state line none)) can.commit again.commit k d within in
+      record {
+        label = subst (λ (l : List ℕ). IsLabel l label.sector) (sym there) (label_read label (can.labels k d within));
+        header = subst (λ (l : List ℕ). IsPvHeader l label.header []) (sym there) (header_found label (can.labels k d within) (again.labels k d within) (headers_found state line is planned k d within));
+      }
+
+-- and once all batches are written, what the line makes is found
+pub found_after : (state : GroupState) (line : Line) (now : ℕ) (sizes : List ℕ) → IsState state → IsPlanned line.id line.command → CanMake state.areas (change_of state line) now → LiesOn sizes state.areas (change_of state line)
+    → IsReadAgain state.areas (change_of state line) now → (base : Image) → ShowsEntries state.areas base → IsFoundAfter state line now (with_batches (batches_of state line now) base)
+found_after state line now sizes is planned can lies again base names = record {
+  labels = label_there state line now sizes is can lies again base names planned;
+  areas = holds state line now sizes is can lies again base names (change_of state line).group refl;
+}
+
+-- both, of a line that no row refuses, whose change is written so that it is read again as it is
+pub keeps_images : (state : GroupState) (line : Line) (now : ℕ) → IsState state → IsPlanned line.id line.command → refusal_of state line now ≡ None
+    → (made : Change) → made ≡ change_of state line → IsReadAgain state.areas made now → KeepsImages state line now
+keeps_images state line now is planned none made same again =
+    let can : CanMake state.areas (change_of state line) now = can_make state line now is planned none in
+    let lies : LiesOn (sizes_of state.disks) state.areas (change_of state line) = lies_on state line now is planned none in
+    let read : IsReadAgain state.areas (change_of state line) now = subst (λ (c : Change). IsReadAgain state.areas c now) same again in
+    record {
+      kept = λ base image names h. areas_kept state line now (sizes_of state.disks) is can lies read base image names h;
+      found = λ base names. found_after state line now (sizes_of state.disks) is planned can lies read base names;
+    }

@@ -1,0 +1,74 @@
+-- The change of a line that no row refuses can be made, and lies on the disks.
+use Rattle.std.proofs.Common.{◌≡◌, ◌<◌, ℕ, List, [], ◌∷◌, length, Option, Some, None, refl, subst}
+use Rattle.std.specs.Prelude.{All, IfSome, unwrap_or}
+use Rattle.std.specs.Option.{option_map_or}
+use Rattle.std.proofs.lemmas.List.Elements.{All-nil}
+use Rattle.lvm_script.specs.declared.command.Command.{Command}
+use Rattle.lvm_script.specs.declared.command.Command.TheVariants.{Pvcreate, Vgcreate, Vgextend}
+use Rattle.lvm_script.specs.declared.line.Line.{Line}
+use Rattle.lvm_script.specs.declared.op_refusal.OpRefusal.TheVariants.{GroupStands, UnknownGroup}
+use Rattle.meta_model.specs.declared.group.Group.{Group}
+use Rattle.group_ops.specs.Judging.{first_refusal}
+use Rattle.group_ops.specs.Planning.{IsPlanned, change_of, extend_by, refusal_of}
+use Rattle.group_ops.specs.State.{IsState}
+use Rattle.group_ops.specs.Vgcreate.{empty_group, new_rows, vgcreate_change}
+use Rattle.group_ops.specs.Vgextend.{found_rows, next_version, vgextend_change}
+use Rattle.group_ops.specs.declared.state.Change.{Change}
+use Rattle.group_ops.specs.declared.state.GroupState.{GroupState}
+use Rattle.vg_change.proofs.Rows.{none_holds}
+use Rattle.vg_change.proofs.SoundCommit.{commit_can_make, commit_lies_on}
+use Rattle.vg_change.proofs.SoundPvcreate.{pvcreate_can_make, pvcreate_lies_on}
+use Rattle.vg_change.specs.CarryingOut.{sizes_of}
+use Rattle.vg_change.specs.Sound.{CanMake, LiesOn}
+
+-- the change can be made at this time, and lies on the disks
+abbrev IsSound : GroupState → Change → ℕ → Type 0
+IsSound state change now = CanMake state.areas change now × LiesOn (sizes_of state.disks) state.areas change
+
+-- ---- vgcreate
+
+new_sound : (state : GroupState) → IsState state → (base : Group) (names : List (List ℕ)) (now : ℕ) → first_refusal (new_rows state base names now) ≡ None → IsSound state (vgcreate_change state base names) now
+new_sound state is base names now none =
+    let rows = none_holds (new_rows state base names now) none in
+    let no_disk : All (λ n. n < length state.disks) [] = All-nil (λ n. n < length state.disks) in
+    (commit_can_make state is base [] names no_disk rows.1.0 now rows.1.1.0 rows.1.1.1.1.1.1.0, commit_lies_on state is base [] names no_disk rows.1.0)
+
+vgcreate_sound : (state : GroupState) → IsState state → (base : Group) (names : List (List ℕ)) (now : ℕ) (o : Option Group)
+    → first_refusal (option_map_or (λ (group : Group). Some (GroupStands group.name) ∷ []) o (new_rows state base names now)) ≡ None → IsSound state (vgcreate_change state base names) now
+vgcreate_sound state is base names now None none = new_sound state is base names now none
+vgcreate_sound state is base names now (Some group) none = absurd cc
+
+-- ---- vgextend
+
+listed_there : (state : GroupState) (group : Group) → IsState state → state.group ≡ Some group → All (λ n. n < length state.disks) state.disk_of
+listed_there state group is found = subst (λ (o : Option Group). IfSome o (λ g. All (λ n. n < length state.disks) state.disk_of)) found is.there
+
+found_sound : (state : GroupState) → IsState state → (vg : List ℕ) (names : List (List ℕ)) (now : ℕ) (group : Group) → state.group ≡ Some group → first_refusal (found_rows state vg names now group) ≡ None
+    → IsSound state (vgextend_change state group names) now
+found_sound state is vg names now group found none =
+    let rows = none_holds (found_rows state vg names now group) none in
+    let listed : All (λ n. n < length state.disks) state.disk_of = listed_there state group is found in (
+      commit_can_make state is (next_version group) state.disk_of names listed rows.1.1.1.1.0 now rows.1.1.1.1.1.0 rows.1.1.1.1.1.1.1.1.1.1.0,
+      commit_lies_on state is (next_version group) state.disk_of names listed rows.1.1.1.1.0,
+    )
+
+vgextend_sound : (state : GroupState) → IsState state → (vg : List ℕ) (names : List (List ℕ)) (now : ℕ) (o : Option Group) → state.group ≡ o
+    → first_refusal (option_map_or (found_rows state vg names now) o (Some (UnknownGroup vg) ∷ [])) ≡ None → IsSound state (extend_by state o names) now
+vgextend_sound state is vg names now None found none = absurd cc
+vgextend_sound state is vg names now (Some group) found none = found_sound state is vg names now group found none
+
+-- ---- all commands
+
+sound_by : (state : GroupState) → IsState state → (number : ℕ) (id : Option (List ℕ)) (command : Command) (now : ℕ) → IsPlanned id command
+    → refusal_of state (record { number = number; id = id; command = command }) now ≡ None → IsSound state (change_of state (record { number = number; id = id; command = command })) now
+sound_by state is number id (Pvcreate pv copies) now planned none =
+    (pvcreate_can_make state is (unwrap_or id []) pv copies now, pvcreate_lies_on state is (unwrap_or id []) pv copies none)
+sound_by state is number id (Vgcreate vg extent_size pvs) now planned none = vgcreate_sound state is (empty_group (unwrap_or id []) vg extent_size) pvs now state.group none
+sound_by state is number id (Vgextend vg pvs) now planned none = vgextend_sound state is vg pvs now state.group refl none
+sound_by state is number id command now planned none = absurd planned
+
+pub can_make : (state : GroupState) (line : Line) (now : ℕ) → IsState state → IsPlanned line.id line.command → refusal_of state line now ≡ None → CanMake state.areas (change_of state line) now
+can_make state line now is planned none = (sound_by state is line.number line.id line.command now planned none).0
+
+pub lies_on : (state : GroupState) (line : Line) (now : ℕ) → IsState state → IsPlanned line.id line.command → refusal_of state line now ≡ None → LiesOn (sizes_of state.disks) state.areas (change_of state line)
+lies_on state line now is planned none = (sound_by state is line.number line.id line.command now planned none).1

@@ -1,0 +1,71 @@
+-- What follows of labels and metadata areas for a line that is carried out in turn.
+use Rattle.std.specs.Prelude.{◌≡◌, ◌≢◌, ◌⊎◌, ℕ, [], List, All, Option, Some, None}
+use Rattle.conf_text.specs.Printed.{printed}
+use Rattle.disk_model.specs.Steps.{Image}
+use Rattle.lvm_script.specs.declared.line.Line.{Line}
+use Rattle.mda_header.specs.Header.{IsHeader}
+use Rattle.mda_header.specs.declared.header.Locn.{Locn}
+use Rattle.mda_ring.specs.declared.area.Area.{Area}
+use Rattle.mda_ring.specs.Texts.{text_at}
+use Rattle.meta_model.specs.declared.group.Group.{Group}
+use Rattle.meta_print.specs.Layout.{tree_of}
+use Rattle.pv_header.specs.PvHeader.{IsPvHeader}
+use Rattle.pv_header.specs.declared.extent_list.Extent.{Extent}
+use Rattle.pv_label.specs.Label.{IsLabel}
+use Rattle.vg_commit.specs.SectorReading.{ShowsBy, new_reading, old_reading}
+use Rattle.vg_commit.specs.Showing.{Names, sectors_of}
+use Rattle.group_ops.specs.Planning.{change_of}
+use Rattle.group_ops.specs.declared.state.Change.{Change}
+use Rattle.group_ops.specs.declared.state.GroupState.{GroupState}
+use Rattle.group_ops.specs.declared.state.NewLabel.{NewLabel}
+use Rattle.vg_change.specs.Batches.{areas_of, empty_area, label_bytes}
+
+-- in the image the header of each area names the entry that the list has
+abbrev pub ShowsEntries : List (Area × Option Locn) → Image → Type 0
+ShowsEntries areas image = All (λ (area : Area × Option Locn). Names area.0 area.1 (sectors_of area.0 image 0)) areas
+
+-- the bytes of the committed text of an area in the image
+abbrev pub text_in : Image → Area × Option Locn → List ℕ
+text_in image (area, None) = []
+text_in image (area, Some locn) = text_at (sectors_of area image) area.size locn.offset locn.size
+
+-- the area shows, whole, what it shows in the base, or the new group's text
+abbrev pub IsKeptOrNew : List ℕ → Image → Image → Area × Option Locn → Type 0
+IsKeptOrNew text base image area = ShowsBy (old_reading (text_in base)) image area ⊎ ShowsBy (new_reading text) image area
+
+-- the area is on no disk that gets a label
+abbrev pub IsOnOther : List NewLabel → Area × Option Locn → Type 0
+IsOnOther labels area = All (λ (label : NewLabel). label.disk ≢ area.0.pv) labels
+
+-- each area does so where a group is committed; else each shows what it shows in the base, but on a disk that becomes a new
+-- physical volume
+abbrev pub AreasKeptBy : Option Group → ℕ → Change → List (Area × Option Locn) → Image → Image → Type 0
+AreasKeptBy None now change areas base image = All (λ (area : Area × Option Locn). IsOnOther change.labels area → ShowsBy (old_reading (text_in base)) image area) areas
+AreasKeptBy (Some group) now change areas base image = All (IsKeptOrNew (printed (tree_of group now)) base image) areas
+
+-- each label sector is as in the base or the new one, whole
+abbrev pub LabelsKept : List NewLabel → Image → Image → Type 0
+LabelsKept labels base image =
+    All (λ (label : NewLabel). (image label.disk label.sector ≡ base label.disk label.sector) ⊎ (image label.disk label.sector ≡ label_bytes label)) labels
+
+-- what every image on the way keeps of what the disks held before
+pub record AreasAreKept (state : GroupState) (line : Line) (now : ℕ) (base image : Image) : Type 0 where
+  pub areas : AreasKeptBy (change_of state line).group now (change_of state line) state.areas base image
+  pub labels : LabelsKept (change_of state line).labels base image
+
+-- lvm2's readers find the label and the header in its sector
+pub record HasLabel (image : Image) (new : NewLabel) : Type 0 where
+  pub label : IsLabel (image new.disk new.sector) new.sector
+  pub header : IsPvHeader (image new.disk new.sector) new.header []
+
+-- what stands there once the line is done: each label, and each area of the group with its text; where no group is committed,
+-- the areas behind the labels are empty
+abbrev pub HoldsAfter : Option Group → ℕ → Change → List (Area × Option Locn) → Image → Type 0
+HoldsAfter None now change areas image =
+    All (λ (label : NewLabel). All (λ (area : Extent). IsHeader (sectors_of (record { pv = label.disk; start = area.offset; size = area.size }) image 0) (empty_area area)) label.header.areas) change.labels
+HoldsAfter (Some group) now change areas image = All (ShowsBy (new_reading (printed (tree_of group now))) image) (areas_of change areas)
+
+-- what a reader finds once the line is done: the labels, and the areas
+pub record IsFoundAfter (state : GroupState) (line : Line) (now : ℕ) (image : Image) : Type 0 where
+  pub labels : All (HasLabel image) (change_of state line).labels
+  pub areas : HoldsAfter (change_of state line).group now (change_of state line) state.areas image

@@ -1,0 +1,19 @@
+//! A line that changes something, carried out on disks that were scanned, where nothing else is in flight.
+//!
+//! The line is judged by `group_ops`. What it changes is a list of batches of writes, each lasting before the next begins: the
+//! empty headers of a new physical volume's areas; label sectors; and the three of a commit. So at every moment a crash leaves
+//! the first so many of them whole, and of the next one each sector old or new. `specs/Batches` has the batches of a change,
+//! `specs/CarryingOut` what is promised, and `specs/Laws` what follows of the metadata areas and labels in every image.
+//!
+//! `flush_all` flushes each disk and writes nothing (`specs/Flushing`).
+#![tactic(auto)]
+
+mod batches;
+mod carrying;
+mod fault;
+mod flushing;
+mod label_sector;
+
+pub use carrying::carry_out;
+pub use fault::ChangeFault;
+pub use flushing::flush_all;
