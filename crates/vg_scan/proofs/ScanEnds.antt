@@ -90,6 +90,7 @@ all_read s0 s count disks unread readings scanned all image each = record { size
 pub scan_found : (s0 s : State) (count : ℕ) (disks : List Disk) (unread : set.FinSet nat_cmp) (readings : List Reading) (found : Found) → AreScanned s0 count disks unread readings s → length s0.sizes ≤ count
     → IsOutcome disks unread readings found → IsScan s0 found s
 scan_found s0 s count disks unread readings found scanned all is = record {
+  sizes = ap (λ (l : List Disk). sectors_of l) is.disks_are ∙ scanned.sizes ∙ take_all count s0.sizes all;
   now = holds_weaker s0.told (λ image. AreDiskReadings image unread 0 disks readings) (λ image. IsScanOf image s0.sizes found)
       (λ image each. record {
         readings = readings;

@@ -1,5 +1,5 @@
 -- What a scan of disks comes to, and what it does to them.
-use Rattle.std.specs.Prelude.{◌≡◌, ◌≤◌, ◌<◌, ℕ, ◌+◌, ◌*◌, true, false, ◌==◌, List, [], length, filter, slice_index_or, Option, Some, None, IfSome}
+use Rattle.std.specs.Prelude.{◌≡◌, ◌≤◌, ◌<◌, ℕ, ◌+◌, ◌*◌, true, false, ◌==◌, List, [], length, map, filter, slice_index_or, Option, Some, None, IfSome}
 use Rattle.std.specs.FinSet as set
 use Rattle.std.specs.Ordering.{nat_cmp}
 use Rattle.sector_base.specs.declared.spans.Span.{Span}
@@ -50,8 +50,9 @@ pub record FailedOn (pvs : set.FinSet nat_cmp) (old new : State) : Type 0 where
   pub rose : (pv : ℕ) → set.contains pvs pv ≡ true → old.faults pv < new.faults pv
   pub same : (pv : ℕ) → set.contains pvs pv ≡ false → new.faults pv ≡ old.faults pv
 
--- the disks were scanned, and this was found
+-- the disks were scanned, each of so many sectors as it has, and this was found
 pub record IsScan (old : State) (found : Found) (new : State) : Type 0 where
+  pub sizes : map (λ (disk : Disk). disk.sectors) found.disks ≡ old.sizes
   pub now : HoldsNow old.told (λ image. IsScanOf image old.sizes found)
   pub faults : FailedOn found.unread old new
   pub shape : HasShape found
