@@ -32,12 +32,9 @@ use Rattle.lvm_cli.specs.Commands.Vgcfgbackup.{vgcfgbackup}
 use Rattle.lvm_cli.specs.Meets.{ChangesDisks, IsScanned, IsUnwritten, Meets}
 use Rattle.lvm_cli.specs.Scan.{FindsWhole}
 use Rattle.lvm_cli.specs.ScanEndings.{IsEndingOf, partial_ending}
-use Rattle.lvm_cli.proofs.Changing.{holds_now_anyway, holds_now_weaker}
-use Rattle.lvm_cli.proofs.Reporting.{nothing_read, refused_is, scan_reads}
-
--- where no disk is unread nothing failed
-none_failed : (unread : set.FinSet nat_cmp) (old new : State) → unread ≡ set.empty → FailedOn unread old new → HasSameFaults old new
-none_failed unread old new none failed pv = failed.same pv (ap (λ (s : set.FinSet nat_cmp). set.contains s pv) none ∙ set.contains-empty nat_cmp pv)
+use Rattle.lvm_cli.proofs.ChangedDisks.{holds_now_anyway, holds_now_weaker}
+use Rattle.lvm_cli.proofs.Refusals.{none_failed_on, refused_is}
+use Rattle.lvm_cli.proofs.Reporting.{nothing_read, scan_reads}
 
 module _ (names : List Word) (id : Option (List ℕ)) (vg : List ℕ) (time : ℕ) (old new : State) (again : IsIdleAgain old new)
     (told : BetweenTold (ReadsFew old.sizes) old.told new.told) where
@@ -48,7 +45,7 @@ module _ (names : List Word) (id : Option (List ℕ)) (vg : List ℕ) (time : �
   changed = scan_reads (vgcfgbackup vg) context old new refl (λ image spans few. few) told
 
   without_memory : Meets (vgcfgbackup vg) context old (Ended NoMemory) new
-  without_memory = record { cause = (tt, λ flushes. absurd (cc)); told = changed (Ended NoMemory) tt; again = again }
+  without_memory = record { cause = tt; told = changed (Ended NoMemory) tt; again = again }
 
   -- the ending where the scan was refused
   pub backup_ends : (why : ScanRefusal) (unread : set.FinSet nat_cmp) (ending : Ending) → IsScanRefused old why unread new → IsEndingOf why unread ending → Meets (vgcfgbackup vg) context old (Ended ending) new
@@ -94,7 +91,7 @@ module _ (names : List Word) (id : Option (List ℕ)) (vg : List ℕ) (time : �
       scanned = holds_now_weaker old.told (λ image. IsScanOf image old.sizes found) (λ image. IsScanOf image old.sizes found × (found.unread ≡ set.empty) × IsWhole found) (λ image h. (h, whole.read, whole)) is.now
 
       no_faults : HasSameFaults old new
-      no_faults = none_failed found.unread old new whole.read is.faults
+      no_faults = none_failed_on found.unread old new whole.read is.faults
 
       -- the group in force
       of_group : (group : Group) → found.group ≡ Some group → HasTree group → (outcome : Outcome) → IsBackedUp group vg time outcome → Meets (vgcfgbackup vg) context old outcome new

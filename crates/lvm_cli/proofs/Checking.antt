@@ -21,10 +21,10 @@ use Rattle.lvm_script.specs.declared.op_refusal.OpRefusal.TheVariants.{UnknownPv
 use Rattle.lvm_cli.specs.declared.ending.Ending.TheVariants.{NoMemory, ScanReadFailed}
 use Rattle.lvm_cli.specs.declared.outcome.Outcome.{Outcome}
 use Rattle.lvm_cli.specs.declared.outcome.Outcome.TheVariants.{Ended, Answered, Reported}
-use Rattle.lvm_cli.specs.CommandSpec.{Context, Finds, number_in, refusal_of}
+use Rattle.lvm_cli.specs.CommandSpec.{Context, Finds, number_in}
 use Rattle.lvm_cli.specs.Commands.Pvck.{pvck}
 use Rattle.lvm_cli.specs.Meets.{ChangesDisks, IsScanned, IsUnwritten, Meets}
-use Rattle.lvm_cli.proofs.Changing.{between_reading, changes_by_reading, holds_now_anyway, none_failed}
+use Rattle.lvm_cli.proofs.ChangedDisks.{between_reading, changes_by_reading, holds_now_anyway, none_failed}
 
 -- the metadata areas of what was found are those that the header names
 areas_of_found : (sector_at : ℕ → List ℕ) (disk : ℕ) (found : PvFound) → IsFound sector_at disk found → AreAreasOf sector_at disk (areas_found found)
@@ -56,7 +56,7 @@ module _ (names : List Word) (id : Option (List ℕ)) (pv : List ℕ) (time : �
   -- memory was wanting before anything was done
   pub meets_undone : old.in_flight ≡ [] → Meets (pvck pv) context old (Ended NoMemory) old
   meets_undone idle = record {
-    cause = (λ disk. refl, λ flushes. refl);
+    cause = λ disk. refl;
     told = λ told e. (
       told,
       e,
@@ -70,7 +70,7 @@ module _ (names : List Word) (id : Option (List ℕ)) (pv : List ℕ) (time : �
     number_is : number_in context pv ≡ disk
     number_is = ap (λ (o : Option ℕ). unwrap_or o 0) known
 
-    passes : refusal_of ((pvck pv).rows context None) ≡ None
+    passes : (pvck pv).refusal context None ≡ None
     passes = rw known refl
 
     abbrev ReadsOn : ℕ → Image → List Span → Type 0
@@ -121,7 +121,7 @@ module _ (names : List Word) (id : Option (List ℕ)) (pv : List ℕ) (time : �
 
     pub meets_without_memory : HasSameFaults old new → IsIdleAgain old new → ReadsFirstOf disk (slice_index_or old.sizes disk 0) old new → Meets (pvck pv) context old (Ended NoMemory) new
     meets_without_memory same again reads = record {
-      cause = (same, λ flushes. absurd (cc));
+      cause = same;
       told = told_first (Ended NoMemory) tt reads;
       again = again;
     }

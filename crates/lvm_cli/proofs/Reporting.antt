@@ -22,11 +22,13 @@ use Rattle.lvm_cli.specs.declared.outcome.Outcome.{Outcome}
 use Rattle.lvm_cli.specs.declared.outcome.Outcome.TheVariants.{Ended, Reported}
 use Rattle.lvm_cli.specs.declared.scan_refusal.ScanRefusal.TheVariants.{Disks}
 use Rattle.lvm_cli.specs.CommandSpec.{CommandSpec, Context, Finds, Refuses}
-use Rattle.lvm_cli.specs.Meets.{ChangesDisks, IsScanned, IsUnreadBy, IsUnwritten, Meets}
+use Rattle.lvm_cli.specs.Meets.{ChangesDisks, IsScanned, IsUnwritten, Meets}
+use Rattle.lvm_cli.specs.Scan.{IsUnreadBy}
 use Rattle.lvm_cli.specs.ScanEndings.{IsEndingOf}
 use Rattle.lvm_cli.specs.ScanReport.{IsReported, command_of, scan_report, text_of}
 use Rattle.lvm_script.specs.Lines.{changes}
-use Rattle.lvm_cli.proofs.Changing.{changes_by_reading, holds_now_anyway, holds_now_weaker}
+use Rattle.lvm_cli.proofs.ChangedDisks.{changes_by_reading, holds_now_anyway, holds_now_weaker}
+use Rattle.lvm_cli.proofs.Refusals.{refused_is}
 
 -- what a scan reads is what the command may read
 pub scan_reads : (spec : CommandSpec) (context : Context) (old new : State) → spec.flushes ≡ false
@@ -42,17 +44,6 @@ scan_reads spec context old new alone may told outcome unwritten before e =
           (subst (λ (l : List Span). AreFewReads (now_after before.opened before.steps) old.sizes l) (sym (append-nil (spans_read r.2.since))) r.2.few)),
     )
 
--- a refusal of the scan, unless memory was wanting
-pub refused_is : (old new : State) (why : ScanRefusal) (unread : set.FinSet nat_cmp) → why ≢ refusals.NoMemory → IsScanRefused old why unread new
-    → HoldsNow old.told (λ image. IsRefusalOfScan image old.sizes unread why) × FailedOn unread old new
-refused_is old new refusals.NoMemory unread some is = absurd (some refl)
-refused_is old new (refusals.DuplicatePv first second) unread some is = is
-refused_is old new (refusals.NoCopy refused) unread some is = is
-refused_is old new (refusals.Unsupported pv) unread some is = is
-refused_is old new (refusals.TwoGroups first second) unread some is = is
-refused_is old new (refusals.Conflict first second seqno) unread some is = is
-refused_is old new (refusals.PvShape pv) unread some is = is
-
 reads_alone : (report : ScanReport) → changes (command_of report) ≡ false
 reads_alone Pvs = refl
 reads_alone Vgs = refl
@@ -67,12 +58,9 @@ module _ (report : ScanReport) (names : List Word) (id : Option (List ℕ)) (tim
   changed : (outcome : Outcome) → IsUnwritten outcome → BetweenTold (ChangesDisks (scan_report report) context outcome) old.told new.told
   changed = scan_reads (scan_report report) context old new (reads_alone report) (λ image spans few. few) told
 
-  reads_only : (scan_report report).flushes ≡ true → ⊥
-  reads_only flushes = let no : false ≡ true = sym (reads_alone report) ∙ flushes in cc
-
   without_memory : Meets (scan_report report) context old (Ended NoMemory) new
   without_memory = record {
-    cause = (tt, λ flushes. absurd (reads_only flushes));
+    cause = tt;
     told = changed (Ended NoMemory) tt;
     again = again;
   }

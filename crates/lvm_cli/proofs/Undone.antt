@@ -1,27 +1,35 @@
 -- Memory was wanting before a line was begun.
-use Rattle.std.proofs.Common.{◌≡◌, ◌==◌, ℕ, Bool, true, false, List, [], length, refl, inr}
-use Rattle.std.specs.Bool.{MatchBool}
+use Rattle.std.proofs.Common.{◌≡◌, ℕ, true, List, [], Option, refl, inr}
+use Rattle.disk_model.specs.Since.{BetweenTold}
 use Rattle.disk_model.specs.State.{State}
-use Rattle.lvm_id.specs.LvmId.{id_of_words}
 use Rattle.lvm_script.specs.Options.{Word}
-use Rattle.lvm_script.specs.declared.command.Command.TheVariants.{Lvs, Pvcreate, Pvck, Pvs, Vgcfgbackup, Vgck, Vgs}
+use Rattle.lvm_script.specs.declared.command.Command.{Command}
+use Rattle.lvm_script.specs.declared.command.Command.TheVariants.{Lvs, Pvcreate, Pvck, Pvs, Vgcfgbackup, Vgck, Vgcreate, Vgextend, Vgs}
 use Rattle.lvm_script.specs.declared.request.Request.{Request}
 use Rattle.lvm_script.specs.declared.request.Request.TheVariants.{One}
+use Rattle.lvm_cli.specs.Changing.{changing}
 use Rattle.lvm_cli.specs.declared.commands.scan_report.ScanReport.TheVariants as report
 use Rattle.lvm_cli.specs.declared.ending.Ending.TheVariants.{NoMemory}
 use Rattle.lvm_cli.specs.declared.outcome.Outcome.TheVariants.{Ended}
-use Rattle.lvm_cli.specs.Runs.{IsRefused, RunsRequest}
+use Rattle.lvm_cli.specs.Meets.{Meets}
+use Rattle.lvm_cli.specs.Runs.{RunsRequest}
+use Rattle.lvm_cli.specs.Scan.{OpensDisks}
 use Rattle.lvm_cli.proofs.BackingUp.{backup_undone}
+use Rattle.lvm_cli.proofs.CarriedOut.{meets_unopened}
 use Rattle.lvm_cli.proofs.Checking.{meets_undone}
-use Rattle.lvm_cli.proofs.Creating.{meets_without_memory}
+use Rattle.lvm_cli.proofs.FlushedAndScanned.{unopened}
 use Rattle.lvm_cli.proofs.Reporting.{report_undone}
 
-wanting : (state : State) (b : Bool) {P : Type 0} → P → MatchBool b P (IsRefused state (Ended NoMemory) state)
-wanting state true meets = meets
-wanting state false meets = (inr refl, refl)
+-- a command that changes something
+change_undone : (names : List Word) (command : Command) (id : Option (List ℕ)) (now : ℕ) (state : State) → state.in_flight ≡ []
+    → Meets (changing command) (record { names = names; sizes = state.sizes; id = id; now = now }) state (Ended NoMemory) state
+change_undone names command id now state idle =
+    meets_unopened names command id now state state NoMemory (record { idle = idle; sizes = refl }) tt (λ told is. (told, is, unopened state.sizes told))
 
 pub undone : (names : List Word) (request : Request) (ids : ℕ → List ℕ) (now : ℕ) (state : State) → state.in_flight ≡ [] → RunsRequest names request ids now state (Ended NoMemory) state
-undone names (One (Pvcreate pv copies)) ids now state idle = wanting state (length names == 1) (meets_without_memory names (id_of_words (ids 4)) pv copies now state state idle refl)
+undone names (One (Pvcreate pv copies)) ids now state idle = change_undone names (Pvcreate pv copies) _ now state idle
+undone names (One (Vgcreate vg extent_size pvs)) ids now state idle = change_undone names (Vgcreate vg extent_size pvs) _ now state idle
+undone names (One (Vgextend vg pvs)) ids now state idle = change_undone names (Vgextend vg pvs) _ now state idle
 undone names (One (Pvck pv)) ids now state idle = meets_undone names _ pv now state state idle
 undone names (One (Vgcfgbackup vg)) ids now state idle = backup_undone names _ vg now state idle
 undone names (One Pvs) ids now state idle = report_undone report.Pvs names _ now state idle

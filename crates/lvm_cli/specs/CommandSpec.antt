@@ -3,7 +3,7 @@ use Rattle.std.specs.Prelude.{ℕ, Bool, if◌then◌else◌, List, [], ◌∷�
 use Rattle.std.specs.FinSet as set
 use Rattle.std.specs.Ordering.{nat_cmp}
 use Rattle.sector_base.specs.declared.spans.Span.{Span}
-use Rattle.disk_model.specs.Puts.{Put}
+use Rattle.disk_batch.specs.InTurn.{Put}
 use Rattle.disk_model.specs.Steps.{Image}
 use Rattle.meta_model.specs.declared.group.Group.{Group}
 use Rattle.vg_found.specs.declared.found.Found.{Found}
@@ -33,8 +33,6 @@ pub data Scanned : Type 0 where
 pub data Looks : Type 0 where
   -- nothing: it reads for itself, once it was judged
   AtNothing : Looks
-  -- the sectors where labels may be
-  AtLabels : Looks
   -- all disks are scanned, and the scan goes on where a read fails
   AtDisks : Looks
 
@@ -45,14 +43,16 @@ pub record CommandSpec : Type 1 where
   pub looks : Looks
   -- what the look comes to, by what stands on the disks and by which of them are unread
   pub scan : Context → Image → set.FinSet nat_cmp → Scanned → Type 0
-  -- its refusals in the order of their tests, each with its test, by what the scan finds
-  pub rows : Context → Option Found → List (Bool × OpRefusal)
-  -- the sectors that it may put, in their order, where no row holds
-  pub change : Context → List Put → Type 0
+  -- its first refusal, where one holds, by what the scan finds
+  pub refusal : Context → Option Found → Option OpRefusal
+  -- the batches of writes that it makes, in their order, where it isn't refused
+  pub batches : Context → Option Found → List (List Put)
+  -- what every image that a crash may leave on the way keeps of what the disks held before
+  pub keeps : Context → Option Found → Image → Image → Type 0
   -- the spans that it may read, in their order, by what stands on the disks
   pub reads : Context → Image → List Span → Type 0
   -- what a reader finds on the disks once it was answered as done
-  pub finds : Context → Image → Type 0
+  pub finds : Context → Option Found → Image → Type 0
   -- its report, by what the scan finds and by what stands on the disks
   pub reports : Context → Option Found → Image → List ℕ → Type 0
 
@@ -60,11 +60,6 @@ pub record CommandSpec : Type 1 where
 abbrev pub group_in : Option Found → Option Group
 group_in None = None
 group_in (Some found) = found.group
-
--- the first refusal whose test holds
-abbrev pub refusal_of : List (Bool × OpRefusal) → Option OpRefusal
-refusal_of [] = None
-refusal_of (row ∷ rows) = if row.0 then Some row.1 else refusal_of rows
 
 -- the number of the disk of this name
 abbrev pub number_in : Context → Word → ℕ
@@ -79,5 +74,5 @@ abbrev pub id_in : Context → List ℕ
 id_in context = unwrap_or context.id []
 
 -- no disk has the name
-abbrev pub unknown_pv : Context → Word → Bool × OpRefusal
-unknown_pv context pv = (is_none (number_named context.names pv), UnknownPv pv)
+abbrev pub unknown_pv : Context → Word → Option OpRefusal
+unknown_pv context pv = if is_none (number_named context.names pv) then Some (UnknownPv pv) else None

@@ -1,18 +1,17 @@
--- What is said of each command: a row for each of them, and a file.
+-- What is said of each command: a row for each of them, and a file for each that changes nothing.
 pub mod Lvs
 pub mod Pvck
-pub mod Pvcreate
 pub mod Pvs
 pub mod Vgcfgbackup
 pub mod Vgck
 pub mod Vgs
-use Rattle.std.specs.Prelude.{Bool, true, false, []}
+use Rattle.std.specs.Prelude.{Bool, true, false, [], None}
 use Rattle.lvm_script.specs.declared.command.Command.{Command}
 use Rattle.lvm_script.specs.declared.command.Command.TheVariants as command
+use Rattle.lvm_cli.specs.Changing.{changing}
 use Rattle.lvm_cli.specs.CommandSpec.{CommandSpec, AtNothing}
 use Rattle.lvm_cli.specs.Commands.Lvs.{lvs}
 use Rattle.lvm_cli.specs.Commands.Pvck.{pvck}
-use Rattle.lvm_cli.specs.Commands.Pvcreate.{pvcreate}
 use Rattle.lvm_cli.specs.Commands.Pvs.{pvs}
 use Rattle.lvm_cli.specs.Commands.Vgcfgbackup.{vgcfgbackup}
 use Rattle.lvm_cli.specs.Commands.Vgck.{vgck}
@@ -22,6 +21,8 @@ use Rattle.lvm_cli.specs.Commands.Vgs.{vgs}
 abbrev pub is_built : Command → Bool
 is_built (command.Pvcreate pv metadata_copies) = true
 is_built (command.Pvck pv) = true
+is_built (command.Vgcreate vg extent_size names) = true
+is_built (command.Vgextend vg names) = true
 is_built (command.Vgcfgbackup vg) = true
 is_built command.Pvs = true
 is_built command.Vgs = true
@@ -29,28 +30,26 @@ is_built command.Lvs = true
 is_built command.Vgck = true
 is_built _ = false
 
--- those that run on one disk alone so far
-abbrev pub takes_one_disk : Command → Bool
-takes_one_disk (command.Pvcreate pv metadata_copies) = true
-takes_one_disk _ = false
-
 -- of a command that isn't built nothing is said, so that nothing meets it
 abbrev unbuilt : CommandSpec
 unbuilt = record {
   flushes = false;
   looks = AtNothing;
   scan = λ context image unread scanned. ⊥;
-  rows = λ context found. [];
-  change = λ context puts. ⊥;
+  refusal = λ context found. None;
+  batches = λ context found. [];
+  keeps = λ context found base image. ⊥;
   reads = λ context image spans. ⊥;
-  finds = λ context image. ⊥;
+  finds = λ context found image. ⊥;
   reports = λ context found image text. ⊥;
 }
 
 -- what is said of a command: its row, with its arguments
 abbrev pub spec_of : Command → CommandSpec
-spec_of (command.Pvcreate pv metadata_copies) = pvcreate pv metadata_copies
+spec_of (command.Pvcreate pv metadata_copies) = changing (command.Pvcreate pv metadata_copies)
 spec_of (command.Pvck pv) = pvck pv
+spec_of (command.Vgcreate vg extent_size names) = changing (command.Vgcreate vg extent_size names)
+spec_of (command.Vgextend vg names) = changing (command.Vgextend vg names)
 spec_of (command.Vgcfgbackup vg) = vgcfgbackup vg
 spec_of command.Pvs = pvs
 spec_of command.Vgs = vgs

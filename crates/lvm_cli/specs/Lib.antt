@@ -1,10 +1,10 @@
 pub mod Backup
+pub mod Changing
 pub mod CommandSpec
 pub mod Commands
 pub mod Disks
 pub mod Endings
 pub mod Meets
-pub mod NewPv
 pub mod Outcomes
 pub mod Runs
 pub mod Scan

@@ -1,5 +1,5 @@
 -- What a line does, by all that is said of its command.
-use Rattle.std.specs.Prelude.{◌≡◌, ◌≤◌, ◌↔◌, ℕ, Bool, false, IsTrue, List, [], ◌++◌, length, map, take, Contains, Option, Some, None}
+use Rattle.std.specs.Prelude.{◌≡◌, ◌≤◌, ◌<◌, ◌↔◌, ℕ, Bool, false, IsTrue, List, [], ◌++◌, length, take, flat_map, Option, Some, None}
 use Rattle.std.specs.FinSet as set
 use Rattle.std.specs.Ordering.{nat_cmp}
 use Rattle.sector_base.specs.declared.spans.Span.{Span}
@@ -8,7 +8,7 @@ use Rattle.disk_model.specs.Faults.{HasSameFaults, IsLastFault}
 use Rattle.disk_model.specs.Idle.{IsIdleAgain}
 use Rattle.disk_model.specs.Moments.{EveryImageSince}
 use Rattle.disk_model.specs.Order.{FlushesFirst}
-use Rattle.disk_model.specs.Puts.{HasFirst, IsPutFault, Put, with_puts, write_of_put}
+use Rattle.disk_batch.specs.InTurn.{HasFirstBatches, Put, with_batches}
 use Rattle.disk_model.specs.Since.{BetweenTold, ReadsAlone, spans_read, writes_submitted}
 use Rattle.disk_model.specs.State.{State}
 use Rattle.disk_model.specs.Steps.{Image, IsSame, Reading, Flushing, Step, Told, now_after, steps_on}
@@ -19,8 +19,8 @@ use Rattle.lvm_script.specs.declared.answer.Answer.TheVariants.{Fine, Refused, P
 use Rattle.lvm_cli.specs.declared.ending.Ending.TheVariants.{WordsRefused, NoMemory, OpenFailed, ScanReadFailed, ScanRefused}
 use Rattle.lvm_cli.specs.declared.outcome.Outcome.{Outcome}
 use Rattle.lvm_cli.specs.declared.outcome.Outcome.TheVariants.{Ended, Answered, Reported}
-use Rattle.lvm_cli.specs.CommandSpec.{CommandSpec, Context, Looks, AtNothing, AtDisks, Scanned, Finds, Refuses, Lacks, refusal_of}
-use Rattle.lvm_cli.specs.Scan.{FlushesBeforeReads}
+use Rattle.lvm_cli.specs.CommandSpec.{CommandSpec, Context, Looks, AtNothing, AtDisks, Scanned, Finds, Refuses, Lacks}
+use Rattle.lvm_cli.specs.Scan.{FlushesBeforeReads, IsUnreadBy}
 
 -- the look at the disks came to this, where these were unread
 abbrev pub IsScanned : CommandSpec → Context → set.FinSet nat_cmp → State → Scanned → Type 0
@@ -28,11 +28,11 @@ IsScanned spec context unread old scanned = HoldsNow old.told (λ image. spec.sc
 
 -- all disks were read, and judged by what was found the line has this refusal or none
 abbrev pub IsJudged : CommandSpec → Context → State → Option OpRefusal → Type 0
-IsJudged spec context old refusal = (found : Option Found) × IsScanned spec context set.empty old (Finds found) × (refusal_of (spec.rows context found) ≡ refusal)
+IsJudged spec context old refusal = (found : Option Found) × IsScanned spec context set.empty old (Finds found) × (spec.refusal context found ≡ refusal)
 
 -- no refusal comes before a read, where the command reads for itself
 abbrev pub IsJudgedFirst : CommandSpec → Context → Type 0
-IsJudgedFirst spec context = spec.looks ≡ AtNothing → refusal_of (spec.rows context None) ≡ None
+IsJudgedFirst spec context = spec.looks ≡ AtNothing → spec.refusal context None ≡ None
 
 -- a read of the disk failed: in a scan that isn't taken without it, and any other read that fails is the last step
 abbrev pub IsReadFault : CommandSpec → Context → Looks → State → State → ℕ → Type 0
@@ -44,19 +44,10 @@ abbrev pub FailedForWant : Looks → State → State → Type 0
 FailedForWant AtDisks old new = Unit {0}
 FailedForWant _ old new = HasSameFaults old new
 
--- reads failed on these disks, and on none where it is whole
-pub record IsUnreadBy (whole : Bool) (unread : set.FinSet nat_cmp) (old new : State) : Type 0 where
-  pub failed : FailedOn unread old new
-  pub all : IsTrue whole ↔ (unread ≡ set.empty)
-
--- a write of one of these puts failed, or the flush after it
-abbrev pub IsFaultOf : List Put → State → State → ℕ → Type 0
-IsFaultOf puts old new pv = (put : Put) × Contains puts put × IsPutFault old new put pv
-
 -- the cause of each outcome of line 1
 abbrev pub IsCause : CommandSpec → Context → State → State → Outcome → Type 0
 IsCause spec context old new (Ended WordsRefused) = ⊥
-IsCause spec context old new (Ended NoMemory) = FailedForWant spec.looks old new × (IsTrue spec.flushes → new ≡ old)
+IsCause spec context old new (Ended NoMemory) = FailedForWant spec.looks old new
 IsCause spec context old new (Ended (OpenFailed pv)) = IsTrue spec.flushes × IsLastFault old new pv (Flushing pv)
 IsCause spec context old new (Ended (ScanReadFailed pv)) = IsJudgedFirst spec context × IsReadFault spec context spec.looks old new pv
 IsCause spec context old new (Ended (ScanRefused refusal whole)) =
@@ -66,12 +57,12 @@ IsCause spec context old new (Answered line Fine) =
 IsCause spec context old new (Answered line (Refused refusal)) =
     (line ≡ 1) × HasSameFaults old new × IsJudged spec context old (Some refusal)
 IsCause spec context old new (Answered line (PvFailed pv)) =
-    (line ≡ 1) × IsJudged spec context old None × ((puts : List Put) × spec.change context puts × IsFaultOf puts old new pv)
+    (line ≡ 1) × IsTrue spec.flushes × IsJudged spec context old None × (old.faults pv < new.faults pv)
 IsCause spec context old new (Answered line _) = ⊥
 IsCause spec context old new (Reported text whole) =
     (spec.flushes ≡ false)
     × ((unread : set.FinSet nat_cmp) × (found : Option Found) × IsUnreadBy whole unread old new × IsScanned spec context unread old (Finds found)
-    × (refusal_of (spec.rows context found) ≡ None) × HoldsNow old.told (λ image. spec.reports context found image text))
+    × (spec.refusal context found ≡ None) × HoldsNow old.told (λ image. spec.reports context found image text))
 
 -- an outcome that comes before anything is written
 abbrev pub IsUnwritten : Outcome → Type 0
@@ -88,29 +79,33 @@ IsDone _ = ⊥
 pub record ChangesDisks (spec : CommandSpec) (context : Context) (outcome : Outcome) (old new : Told) : Type 0 where
   pub since : List Step
   pub steps : new ≡ steps_on since old
-  -- the sectors that it puts: those of a change that it may make, or none
-  pub puts : List Put
-  pub planned : (IsUnwritten outcome → ⊥) → spec.change context puts
-  pub unwritten : IsUnwritten outcome → puts ≡ []
-  -- each write is one of them, in their order, each once; all of them where it is done
+  -- what the line was judged by, where it writes: what the look found of the disks, and no refusal holds
+  pub found : Option Found
+  pub judged : (IsUnwritten outcome → ⊥) → spec.scan context (now_after old.opened old.steps) set.empty (Finds found) × (spec.refusal context found ≡ None)
+  -- the batches of writes that it makes, or none
+  pub batches : List (List Put)
+  pub planned : (IsUnwritten outcome → ⊥) → batches ≡ spec.batches context found
+  pub unwritten : IsUnwritten outcome → batches ≡ []
+  -- each write is one of theirs, in their order, each once; all of them where it is done
   pub submitted : ℕ
-  pub among : submitted ≤ length puts
-  pub writes : writes_submitted since ≡ map write_of_put (take submitted puts)
-  pub whole : IsDone outcome → submitted ≡ length puts
+  pub among : submitted ≤ length batches
+  pub writes : writes_submitted since ≡ flat_map (λ batch. batch) (take submitted batches)
+  pub whole : IsDone outcome → submitted ≡ length batches
   -- nothing is written, and where it changes something nothing is read, before each disk was flushed
   pub flushes_first : FlushesFirst (length context.sizes) since
   pub flushes_before_reads : IsTrue spec.flushes → FlushesBeforeReads (length context.sizes) since
-  -- where it changes nothing it submits reads alone; where nothing is written, only reads of its spans, each once
+  -- where it changes nothing it submits reads alone; where nothing is written, only reads of its spans
   pub reads_alone : spec.flushes ≡ false → ReadsAlone since
   pub reads : IsUnwritten outcome → (unread : List Span) × spec.reads context (now_after old.opened old.steps) (spans_read since ++ unread)
-  -- at every moment since the call began a crash leaves the first so many of the puts, whole, and each other sector as it
-  -- was; once they are acknowledged it leaves all of them
-  pub every_image : (base : Image) → IsBase old base → EveryImageSince (length old.steps) new (HasFirst puts base)
-  pub acknowledged : IsDone outcome → (base : Image) → IsBase old base → IsBase new (with_puts puts base)
+  -- at every moment since the call began a crash leaves the first so many of the batches, whole, of the next one each sector
+  -- old or new, and each other sector as it was; once they are acknowledged it leaves all of them
+  pub every_image : (base : Image) → IsBase old base → EveryImageSince (length old.steps) new (HasFirstBatches batches base)
+  pub keeps : (IsUnwritten outcome → ⊥) → (base : Image) → IsBase old base → EveryImageSince (length old.steps) new (spec.keeps context found base)
+  pub acknowledged : IsDone outcome → (base : Image) → IsBase old base → IsBase new (with_batches batches base)
   -- what a read gives afterwards, and what a reader finds
-  pub now : IsDone outcome → IsSame (now_after new.opened new.steps) (with_puts puts (now_after old.opened old.steps))
+  pub now : IsDone outcome → IsSame (now_after new.opened new.steps) (with_batches batches (now_after old.opened old.steps))
   pub same : IsUnwritten outcome → IsSame (now_after new.opened new.steps) (now_after old.opened old.steps)
-  pub found : IsDone outcome → spec.finds context (now_after new.opened new.steps)
+  pub found_after : IsDone outcome → spec.finds context found (now_after new.opened new.steps)
 
 -- a line of this command, judged against this context, came to this outcome
 pub record Meets (spec : CommandSpec) (context : Context) (old : State) (outcome : Outcome) (new : State) : Type 0 where

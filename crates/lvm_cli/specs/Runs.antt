@@ -1,12 +1,15 @@
 -- What a run does.
-use Rattle.std.specs.Prelude.{◌≡◌, ◌⊎◌, ⊤, ℕ, Bool, not, ◌==◌, ◌&&◌, ◌||◌, List, [], length, Option, Some, None, is_some}
+use Rattle.std.specs.Prelude.{◌≡◌, ◌≤◌, ◌⊎◌, ⊤, ℕ, true, List, [], length, All, Option, Some, None}
 use Rattle.std.specs.Bool.{MatchBool}
 use Rattle.std.specs.Option.{option_map_or}
 use Rattle.disk_model.specs.State.{State}
 use Rattle.lvm_script.specs.declared.command.Command.{Command}
 use Rattle.lvm_script.specs.declared.request.Request.{Request}
 use Rattle.lvm_script.specs.declared.request.Request.TheVariants.{One}
-use Rattle.lvm_script.specs.Lines.{TakesId, draws, line_of}
+use Rattle.group_ops.specs.Planning.{IsPlanned}
+use Rattle.lvm_script.specs.declared.line.Line.{Line}
+use Rattle.lvm_script.specs.Lines.{TakesId, changes, line_of}
+use Rattle.lvm_script.specs.Values.{is_disk_name}
 use Rattle.lvm_script.specs.Options.{Word}
 use Rattle.lvm_words.specs.declared.command_line.CommandLine.{CommandLine}
 use Rattle.lvm_words.specs.declared.asked.Task.{Task}
@@ -16,12 +19,8 @@ use Rattle.lvm_cli.specs.declared.ending.Ending.TheVariants.{WordsRefused, NoMem
 use Rattle.lvm_cli.specs.declared.outcome.Outcome.{Outcome}
 use Rattle.lvm_cli.specs.declared.outcome.Outcome.TheVariants.{Ended}
 use Rattle.lvm_cli.specs.CommandSpec.{Context}
-use Rattle.lvm_cli.specs.Commands.{is_built, spec_of, takes_one_disk}
+use Rattle.lvm_cli.specs.Commands.{is_built, spec_of}
 use Rattle.lvm_cli.specs.Meets.{Meets}
-
--- a command runs where it is built; some take one disk alone so far
-abbrev pub runs_on : List Word → Command → Bool
-runs_on names command = is_built command && (not (takes_one_disk command) || length names == 1)
 
 -- what a line is judged against that has this id
 abbrev pub context_with : List Word → Option (List ℕ) → ℕ → State → Context
@@ -34,7 +33,7 @@ IsRefused old outcome new = ((outcome ≡ Ended WordsRefused) ⊎ (outcome ≡ E
 -- the line of a command, which has this id, meets all that is said of it where it runs, and else it is refused
 abbrev pub RunsLine : List Word → Command → Option (List ℕ) → ℕ → State → Outcome → State → Type 0
 RunsLine names command id now old outcome new =
-    MatchBool (runs_on names command) (Meets (spec_of command) (context_with names id now old) old outcome new) (IsRefused old outcome new)
+    MatchBool (is_built command) (Meets (spec_of command) (context_with names id now old) old outcome new) (IsRefused old outcome new)
 
 -- what is asked for was done or refused; sessions and the demo are refused until they are built
 abbrev pub RunsRequest : List Word → Request → (ℕ → List ℕ) → ℕ → State → Outcome → State → Type 0
@@ -46,10 +45,21 @@ abbrev pub RunsTask : List Word → Task → ℕ → State → Outcome → State
 RunsTask names (task.One line) now old outcome new = RunsLine names line.command line.id now old outcome new
 RunsTask names _ now old outcome new = IsRefused old outcome new
 
--- the line of a task has an id exactly where its command draws one
-abbrev pub HasDrawn : Task → Type 0
-HasDrawn (task.One line) = is_some line.id ≡ draws line.command
-HasDrawn _ = ⊤
+-- 1 to 64 names, each that of a disk
+pub record AreNamed (names : List Word) : Type 0 where
+  pub some : 1 ≤ length names
+  pub few : length names ≤ 64
+  pub each : All (λ (name : Word). is_disk_name name ≡ true) names
+
+-- it is line 1, and can be planned where its command is built and changes something
+pub record CanPlan (line : Line) : Type 0 where
+  pub first : line.number ≡ 1
+  pub planned : is_built line.command ≡ true → changes line.command ≡ true → IsPlanned line.id line.command
+
+-- the same of the line of a task
+abbrev pub CanPlanTask : Task → Type 0
+CanPlanTask (task.One line) = CanPlan line
+CanPlanTask _ = ⊤
 
 -- the names of the disks of a run
 abbrev pub names_of : List Word → List Word

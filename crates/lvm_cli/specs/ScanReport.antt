@@ -1,5 +1,5 @@
 -- A report on what a scan of the disks finds, whatever is missing or unread.
-use Rattle.std.specs.Prelude.{◌≡◌, ◌↔◌, ℕ, IsTrue, List, [], Option, Some}
+use Rattle.std.specs.Prelude.{◌≡◌, ◌↔◌, ℕ, IsTrue, List, [], Option, Some, None}
 use Rattle.std.specs.FinSet as set
 use Rattle.lvm_report.specs.Reports.{lvs_text, pvs_text, vgck_text, vgs_text}
 use Rattle.vg_found.specs.declared.found.Found.{Found}
@@ -36,10 +36,11 @@ scan_report report = record {
   flushes = changes (command_of report);
   looks = AtDisks;
   scan = λ context image unread scanned. FindsAnything image context.sizes unread scanned;
-  rows = λ context found. [];
-  change = λ context puts. puts ≡ [];
+  refusal = λ context found. None;
+  batches = λ context found. [];
+  keeps = λ context found base image. ⊥;
   reads = λ context image spans. AreFewReads image context.sizes spans;
-  finds = λ context image. ⊥;
+  finds = λ context found image. ⊥;
   reports = λ context scanned image text. (found : Found) × (scanned ≡ Some found) × (text ≡ text_of report found context.names);
 }
 

@@ -1,23 +1,22 @@
 -- How the disks of a run are opened, and how it ends where they can't be.
-use Rattle.std.specs.Prelude.{ℕ, Bool, false, ◌&&◌, List, Option, Some, None}
+use Rattle.std.specs.Prelude.{ℕ, Bool, false, ◌&&◌, Option, Some, None}
 use Rattle.file_shelf.specs.declared.opening.OpenFault.{OpenFault}
 use Rattle.file_shelf.specs.declared.opening.OpenFault.TheVariants.{NoMemory, File}
 use Rattle.lvm_script.specs.declared.request.Request.{Request}
 use Rattle.lvm_script.specs.declared.request.Request.TheVariants.{One}
 use Rattle.lvm_script.specs.Lines.{changes}
-use Rattle.lvm_script.specs.Options.{Word}
 use Rattle.lvm_words.specs.declared.command_line.CommandLine.{CommandLine}
-use Rattle.lvm_cli.specs.Runs.{runs_on}
+use Rattle.lvm_cli.specs.Commands.{is_built}
 
--- what is asked for runs on these disks, and changes something
-abbrev pub changes_by : List Word → Request → Bool
-changes_by names (One command) = runs_on names command && changes command
-changes_by names _ = false
+-- what is asked for runs, and changes something
+abbrev pub changes_by : Request → Bool
+changes_by (One command) = is_built command && changes command
+changes_by _ = false
 
 -- the command line asks for a command that runs and changes something
 abbrev pub changes_disks : Option CommandLine → Bool
 changes_disks None = false
-changes_disks (Some line) = changes_by line.names line.request
+changes_disks (Some line) = changes_by line.request
 
 -- the exit status: 2 for want of memory, and 6 where a file can't be opened as a disk
 abbrev pub opening_status : OpenFault → ℕ

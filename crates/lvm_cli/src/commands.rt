@@ -1,5 +1,4 @@
-//! What each command does, a file for each.
+//! What each command that changes nothing does, a file for each.
 pub mod pvck;
-pub mod pvcreate;
 pub mod scan_report;
 pub mod vgcfgbackup;

@@ -1,18 +1,17 @@
 //! All that the program does, over any row of disks, streams and sources of ids.
-ghost use Rattle.std.specs.Prelude.{◌≡◌, ◌≤◌, ◌<◌, ◌^◌, true, [], length};
-ghost use Rattle.std.specs.Option.{is_some};
-ghost use Rattle.lvm_script.specs.Lines.{draws};
+ghost use Rattle.std.specs.Prelude.{◌≡◌, ◌≤◌, ◌<◌, ◌^◌, true, false, [], length};
+ghost use Rattle.lvm_script.specs.Lines.{changes};
 ghost use Rattle.lvm_script.specs.Options.{words_of};
 ghost use Rattle.lvm_cli.specs.declared.outcome.Outcome.{Outcome as OutcomeRecord};
-ghost use Rattle.lvm_cli.specs.Commands.{spec_of};
+ghost use Rattle.lvm_cli.specs.Commands.{is_built, spec_of};
 ghost use Rattle.lvm_cli.specs.Disks.{AreDisks, HasDisks};
 ghost use Rattle.lvm_cli.specs.Meets.{Meets};
 ghost use Rattle.lvm_cli.specs.Outcomes.{Ends, output_of};
-ghost use Rattle.lvm_cli.specs.Runs.{HasDrawn, RunsLine, RunsTask, RunsWords, context_with, names_of, runs_on};
+ghost use Rattle.lvm_cli.specs.Runs.{AreNamed, CanPlan, CanPlanTask, RunsLine, RunsTask, RunsWords, context_with, names_of};
 
-use crate::built::runs_on;
+use crate::built::is_built;
+use crate::changing::run_change;
 use crate::commands::pvck::run_pvck;
-use crate::commands::pvcreate::run_pvcreate;
 use crate::commands::scan_report::{ScanReport, run_scan_report};
 use crate::commands::vgcfgbackup::run_vgcfgbackup;
 use crate::ending::Ending;
@@ -109,9 +108,9 @@ fn run_task<S: Shelf>(
     now: u64,
 ) -> Outcome
     requires disks { AreDisks (length names.now) (S.state shelf.old) }
-    requires some { 1 ≤ length names.now }
-    requires few { length names.now ≤ 64 }
-    requires drawn { HasDrawn task }
+    requires named { AreNamed names.now }
+    requires planned { CanPlanTask task }
+    requires time { now < 2 ^ 48 }
     ensures { RunsTask names.now task now (S.state shelf.old) result (S.state shelf.new) }
 {
     match task {
@@ -120,7 +119,7 @@ fn run_task<S: Shelf>(
     }
 }
 
-// Does what the line asks for, where its command runs on these disks.
+// Does what the line asks for, where its command is built.
 fn run_line<S: Shelf>(
     alloc: Global,
     shelf: &mut S,
@@ -129,12 +128,12 @@ fn run_line<S: Shelf>(
     now: u64,
 ) -> Outcome
     requires disks { AreDisks (length names.now) (S.state shelf.old) }
-    requires some { 1 ≤ length names.now }
-    requires few { length names.now ≤ 64 }
-    requires drawn { is_some line.id ≡ draws line.command }
+    requires named { AreNamed names.now }
+    requires planned { CanPlan line }
+    requires time { now < 2 ^ 48 }
     ensures { RunsLine names.now line.command line.id now (S.state shelf.old) result (S.state shelf.new) }
 {
-    if runs_on(names, &line.command) {
+    if is_built(&line.command) {
         run_built(alloc, shelf, names, line, now)
     } else {
         Outcome::Ended(Ending::WordsRefused)
@@ -150,25 +149,39 @@ fn run_built<S: Shelf>(
     now: u64,
 ) -> Outcome
     requires disks { AreDisks (length names.now) (S.state shelf.old) }
+    requires named { AreNamed names.now }
+    requires built { is_built line.command ≡ true }
+    requires planned { CanPlan line }
+    requires time { now < 2 ^ 48 }
+    ensures { Meets (spec_of line.command) (context_with names.now line.id now (S.state shelf.old)) (S.state shelf.old) result (S.state shelf.new) }
+{
+    if line.command.changes() {
+        return run_change(alloc, shelf, names, &line, now);
+    }
+    run_reading(alloc, shelf, names, line, now)
+}
+
+// The same of a command that changes nothing.
+fn run_reading<S: Shelf>(
+    alloc: Global,
+    shelf: &mut S,
+    names: &DiskNames,
+    line: Line,
+    now: u64,
+) -> Outcome
+    requires disks { AreDisks (length names.now) (S.state shelf.old) }
     requires some { 1 ≤ length names.now }
     requires few { length names.now ≤ 64 }
-    requires built { runs_on names.now line.command ≡ true }
-    requires drawn { is_some line.id ≡ draws line.command }
+    requires built { is_built line.command ≡ true }
+    requires reads { changes line.command ≡ false }
     ensures { Meets (spec_of line.command) (context_with names.now line.id now (S.state shelf.old)) (S.state shelf.old) result (S.state shelf.new) }
 {
     let Line {
         number: _,
-        id,
+        id: _,
         command,
     } = line;
     match command {
-        Command::Pvcreate {
-            pv,
-            metadata_copies,
-        } => match id {
-            Some(id) => run_pvcreate(alloc, shelf, names, id, pv, metadata_copies),
-            None => unreachable!(),
-        },
         Command::Pvck { pv } => run_pvck(alloc, shelf, names, pv),
         Command::Vgcfgbackup { vg } => run_vgcfgbackup(alloc, shelf, names, vg, now),
         Command::Pvs => run_scan_report(alloc, shelf, names, ScanReport::Pvs),

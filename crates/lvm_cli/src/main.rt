@@ -10,12 +10,12 @@ ghost use Rattle.lvm_words.specs.Disks.{disks_named};
 
 mod arguments;
 mod built;
+mod changing;
 mod commands;
 mod ending;
 mod gate;
 mod lvm_run;
-mod new_pv;
-mod open_disk;
+mod opening;
 mod outcome;
 mod scan_refusal;
 mod scanned;

@@ -5,7 +5,7 @@ ghost use Rattle.lvm_cli.specs.Startup.{changes_disks, opening_status};
 ghost use Rattle.lvm_script.specs.Options.{words_of};
 ghost use Rattle.lvm_words.specs.CommandLines.{command_line_of};
 
-use crate::built::runs_on;
+use crate::built::is_built;
 use disk_model::Shelf;
 use file_shelf::{FileShelf, ImageFile, OpenFault};
 use lvm_script::Request;
@@ -56,7 +56,7 @@ fn changes_disk(line: &CommandLine) -> bool
     ensures { result ≡ changes_disks (Some line.now) }
 {
     match &line.request {
-        Request::One(command) => runs_on(&line.names, command) && command.changes(),
+        Request::One(command) => is_built(command) && command.changes(),
         _ => false,
     }
 }

@@ -18,6 +18,7 @@ use std::test::Fail;
 use std::thread::Threads;
 
 mod backups;
+mod groups;
 mod reports;
 
 /// Creates a physical volume without a metadata area.
@@ -81,10 +82,25 @@ fn has_disks(alloc: Global, words: &[String], count: u32) -> Result<bool, AllocE
     }
 }
 
-// A run of these words over so many disks, and what it wrote.
+// A run of these words over so many disks, and what it wrote. The numbers 0, 1, 62 and 3 are drawn as an id.
 fn run<T: Threads + Wait + Sync + Abort>(
     rt: &T,
     alloc: Global,
+    words: &[&str],
+    count: u32,
+    shelf: MemShelf,
+    out: &mut MemSink,
+) -> Result<Ended<MemShelf>, AllocError>
+    requires { AreDisks count (⟦<MemShelf as Shelf>⟧.state shelf) }
+{
+    run_drawing(rt, alloc, &[0, 1, 62, 3], words, count, shelf, out)
+}
+
+// The same where these numbers are drawn.
+fn run_drawing<T: Threads + Wait + Sync + Abort>(
+    rt: &T,
+    alloc: Global,
+    drawn: &[u64],
     words: &[&str],
     count: u32,
     shelf: MemShelf,
@@ -98,7 +114,7 @@ fn run<T: Threads + Wait + Sync + Abort>(
     }
     assert!(rt; has_disks(alloc, &list, count)?);
     let mut numbers = Vec::new(alloc);
-    numbers.extend_from_slice(&[0, 1, 62, 3])?;
+    numbers.extend_from_slice(drawn)?;
     let mut ids = MemWords::new(numbers);
     let mut script = MemSource::new(Vec::new(alloc), Vec::new(alloc));
     Ok(lvm_run(
@@ -120,7 +136,7 @@ fn words_that_ask_for_nothing_built_are_refused(rt: HostRuntime) -> Result<(), F
     let refused: [&[&str]; 11] = [
         &["-d", "a", "lvcreate", "vg0"],
         &["-d", "a", "vgremove", "vg0"],
-        &["-d", "a", "vgcreate", "vg0", "a"],
+        &["-d", "a", "vgreduce", "vg0", "a"],
         &["-d", "a", "session", "--workers", "1", "vg0"],
         &["-d", "a", "demo", "1", "1", "1"],
         &["-d", "a", "lvs", "--help"],
@@ -340,24 +356,6 @@ fn a_failed_operation_is_answered(rt: HostRuntime) -> Result<(), Fail> {
         let ended = run(&rt, alloc, words, 1, blank(alloc, 2056, fails)?, &mut out)?;
         assert_eq!(rt; (ended.status, ended.shelf.steps()), (6, steps));
         assert_eq!(rt; out.bytes(), text.as_bytes());
-    }
-    Ok(())
-}
-
-#[test]
-fn a_disk_with_a_label_is_left_alone(rt: HostRuntime) -> Result<(), Fail> {
-    let alloc = rt.alloc();
-    for at in [0, 3] {
-        let mut disk = Sectors::zeroed(alloc, 2056)?;
-        assert!(rt; at < disk.len());
-        let mut sector = Bytes512::zeroed();
-        sector.put(0, b"LABELONE");
-        disk.set(at, sector);
-        let shelf = shelf_of(alloc, disk, Vec::new(alloc))?;
-        let mut out = MemSink::new(alloc, 100, Vec::new(alloc))?;
-        let ended = run(&rt, alloc, &PVCREATE, 1, shelf, &mut out)?;
-        assert_eq!(rt; (ended.status, ended.shelf.steps()), (5, 4));
-        assert_eq!(rt; out.bytes(), b"scan refused NotYet a\n".as_slice());
     }
     Ok(())
 }

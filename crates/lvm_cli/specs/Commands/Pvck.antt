@@ -15,10 +15,11 @@ pvck pv = record {
   flushes = changes (command.Pvck pv);
   looks = AtNothing;
   scan = λ context image unread scanned. scanned ≡ Finds None;
-  rows = λ context found. unknown_pv context pv ∷ [];
-  change = λ context puts. puts ≡ [];
+  refusal = λ context found. unknown_pv context pv;
+  batches = λ context found. [];
+  keeps = λ context found base image. ⊥;
   reads = λ context image spans. (areas : List Extent) × AreAreasOf (image (number_in context pv)) (size_in context pv) areas
       × (spans ≡ label_span (number_in context pv) ∷ area_spans (number_in context pv) areas);
-  finds = λ context image. ⊥;
+  finds = λ context found image. ⊥;
   reports = λ context found image text. IsReport (image (number_in context pv)) (size_in context pv) text;
 }

@@ -1,5 +1,5 @@
 -- vgcfgbackup(8) of the group in force: its metadata, as a backup.
-use Rattle.std.specs.Prelude.{◌≡◌, Bool, false, not, nat_eq, [], ◌∷◌, Option, Some}
+use Rattle.std.specs.Prelude.{◌≡◌, false, nat_eq, if◌then◌else◌, [], Option, Some, None}
 use Rattle.std.specs.Option.{option_map_or}
 use Rattle.std.specs.Cmp.Lexicographic.{pointwise}
 use Rattle.conf_text.specs.Printed.{printed}
@@ -16,8 +16,8 @@ use Rattle.lvm_cli.specs.CommandSpec.{CommandSpec, AtDisks, group_in}
 use Rattle.lvm_cli.specs.Scan.{FindsWhole}
 
 -- no group is in force that has the name
-abbrev pub unknown_group : Option Group → Word → Bool × OpRefusal
-unknown_group group vg = (not (option_map_or (λ (group : Group). pointwise nat_eq group.name vg) group false), UnknownGroup vg)
+abbrev pub unknown_group : Option Group → Word → Option OpRefusal
+unknown_group group vg = if option_map_or (λ (group : Group). pointwise nat_eq group.name vg) group false then None else Some (UnknownGroup vg)
 
 -- it scans the disks, and prints the backup of the group in force, which is whole, at the time of the run
 abbrev pub vgcfgbackup : Word → CommandSpec
@@ -25,9 +25,10 @@ vgcfgbackup vg = record {
   flushes = changes (command.Vgcfgbackup vg);
   looks = AtDisks;
   scan = λ context image unread scanned. FindsWhole image context.sizes unread scanned;
-  rows = λ context found. unknown_group (group_in found) vg ∷ [];
-  change = λ context puts. puts ≡ [];
+  refusal = λ context found. unknown_group (group_in found) vg;
+  batches = λ context found. [];
+  keeps = λ context found base image. ⊥;
   reads = λ context image spans. AreFewReads image context.sizes spans;
-  finds = λ context image. ⊥;
+  finds = λ context found image. ⊥;
   reports = λ context found image text. (group : Group) × (group_in found ≡ Some group) × HasTree group × (text ≡ printed (backup_of group context.now));
 }

@@ -16,7 +16,7 @@ fn list_of(alloc: Global, words: &[&str]) -> Result<Vec<String>, AllocError> {
 fn the_faulty_word_is_told_with_the_usage_of_its_command(rt: HostRuntime) -> Result<(), Fail> {
     let pvcreate = "usage: lvm -d NAME [-d NAME ...] pvcreate [--metadatacopies 0|1] PV\n";
     let lvs = "usage: lvm -d NAME [-d NAME ...] lvs\n";
-    let rows: [(&[&str], &str, &str); 9] = [
+    let rows: [(&[&str], &str, &str); 8] = [
         (
             &["-d", "a", "pvcreate", "--metadatacopies", "2", "a"],
             "lvm: 2 is outside of what is allowed here\n",
@@ -64,12 +64,7 @@ fn the_faulty_word_is_told_with_the_usage_of_its_command(rt: HostRuntime) -> Res
         (
             &["-d", "a", "vgremove", "vg0"],
             "lvm: this doesn't run yet\n",
-            "So far pvs, vgs, lvs, vgck, pvck and vgcfgbackup run, and pvcreate on one disk.\n",
-        ),
-        (
-            &["-d", "a", "-d", "b", "pvcreate", "a"],
-            "lvm: this doesn't run yet\n",
-            "So far pvs, vgs, lvs, vgck, pvck and vgcfgbackup run, and pvcreate on one disk.\n",
+            "So far pvs, vgs, lvs, vgck, pvck, vgcfgbackup, pvcreate, vgcreate and vgextend run.\n",
         ),
     ];
     for (words, first, second) in rows {
@@ -108,7 +103,7 @@ fn all_commands_are_told_where_there_is_none(rt: HostRuntime) -> Result<(), Fail
         assert!(rt; text.as_str().starts_with(front.as_str()), "{text}");
         assert!(rt;
             text.as_str().ends_with(
-                "\nSo far pvs, vgs, lvs, vgck, pvck and vgcfgbackup run, and pvcreate on one disk.\n"
+                "\nSo far pvs, vgs, lvs, vgck, pvck, vgcfgbackup, pvcreate, vgcreate and vgextend run.\n"
             ),
             "{text}"
         );

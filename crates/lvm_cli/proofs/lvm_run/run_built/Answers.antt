@@ -1,22 +1,12 @@
+use Rattle.std.proofs.Common.{◌≡◌, sym, subst, ◌∙◌}
+use Rattle.lvm_cli.specs.CommandSpec.{CommandSpec}
+use Rattle.lvm_cli.specs.Meets.{Meets}
+use Rattle.lvm_cli.specs.Runs.{context_with}
+use Rattle.lvm_cli.proofs.BuiltCommands.{spec_of_changing}
 use Rattle.lvm_cli.proofs.lvm_run.run_built.Goals as goal
 
-pub returns-in-Pvck : goal.returns-in-Pvck
-returns-in-Pvck g c = rw c.in-Pvck.is (c.run_pvck.ensures c.args.line.id c.args.now)
-
-pub returns-in-Vgcfgbackup : goal.returns-in-Vgcfgbackup
-returns-in-Vgcfgbackup g c = rw c.in-Vgcfgbackup.is (c.run_vgcfgbackup.ensures c.args.line.id)
-
-pub returns-in-Some : goal.returns-in-Some
-returns-in-Some g c = rw (c.in-Pvcreate.is, c.in-Some.is) (c.run_pvcreate.ensures c.args.now)
-
-pub returns-in-Pvs : goal.returns-in-Pvs
-returns-in-Pvs g c = rw c.in-Pvs.is (c.run_scan_report.ensures c.args.line.id c.args.now)
-
-pub returns-in-Vgs : goal.returns-in-Vgs
-returns-in-Vgs g c = rw c.in-Vgs.is (c.run_scan_report-in-Vgs.ensures c.args.line.id c.args.now)
-
-pub returns-in-Lvs : goal.returns-in-Lvs
-returns-in-Lvs g c = rw c.in-Lvs.is (c.run_scan_report-in-Lvs.ensures c.args.line.id c.args.now)
-
-pub returns-in-Vgck : goal.returns-in-Vgck
-returns-in-Vgck g c = rw c.in-Vgck.is (c.run_scan_report-in-Vgck.ensures c.args.line.id c.args.now)
+pub returns-then-changes : goal.returns-then-changes
+returns-then-changes g c =
+    let s0 = g.S.Shelf.state c.args.shelf.now in
+    subst (λ (spec : CommandSpec). Meets spec (context_with c.args.names.now c.args.line.id c.args.now s0) s0 c.run_change.result (g.S.Shelf.state c.run_change.new.shelf))
+    (sym (spec_of_changing c.args.line.command c.requires.built (sym c.changes.ensures ∙ c.if-changes.true))) c.run_change.ensures

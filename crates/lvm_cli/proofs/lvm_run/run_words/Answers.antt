@@ -1,15 +1,17 @@
 use Rattle.std.proofs.Common.{inr, refl}
 use Rattle.lvm_script.specs.Options.{words_of}
 use Rattle.lvm_words.proofs.LineNames.{names_of_line}
-use Rattle.lvm_cli.proofs.NamedDisks.{few_named}
+use Rattle.lvm_cli.proofs.EachNamed.{are_named}
+use Rattle.lvm_cli.proofs.PlannedWords.{can_plan}
 use Rattle.lvm_cli.proofs.Undone.{undone}
 use Rattle.lvm_cli.proofs.lvm_run.run_words.Goals as goal
 
-pub run_task-requires-clause-some : goal.run_task-requires-clause-some
-run_task-requires-clause-some g c = (few_named (words_of c.args.words.now) _ c.in-Ok.ensures.line).0
+pub run_task-requires-clause-named : goal.run_task-requires-clause-named
+run_task-requires-clause-named g c = are_named (words_of c.args.words.now) _ c.in-Ok.ensures.line
 
-pub run_task-requires-clause-few : goal.run_task-requires-clause-few
-run_task-requires-clause-few g c = (few_named (words_of c.args.words.now) _ c.in-Ok.ensures.line).1
+pub run_task-requires-clause-planned : goal.run_task-requires-clause-planned
+run_task-requires-clause-planned g c =
+    can_plan (words_of c.args.words.now) _ _ (g.N.Words64.upcoming c.args.ids.now) c.in-Ok.ensures.line refl c.in-Ok.ensures.task c.in-Ok.ensures.valid
 
 pub returns-in-Err-NoMemory-clause-run : goal.returns-in-Err-NoMemory-clause-run
 returns-in-Err-NoMemory-clause-run g c = record {

@@ -1,0 +1,20 @@
+-- Which commands change something.
+use Rattle.std.proofs.Common.{◌≡◌, true, false, refl}
+use Rattle.lvm_script.specs.declared.command.Command.{Command}
+use Rattle.lvm_script.specs.declared.command.Command.TheVariants.{Lvs, Pvcreate, Pvck, Pvs, Vgcfgbackup, Vgck, Vgcreate, Vgextend, Vgs}
+use Rattle.lvm_script.specs.Lines.{changes}
+use Rattle.lvm_cli.specs.Changing.{changing}
+use Rattle.lvm_cli.specs.Commands.{is_built, spec_of}
+
+-- what is said of one that changes something
+pub spec_of_changing : (command : Command) → is_built command ≡ true → changes command ≡ true → spec_of command ≡ changing command
+spec_of_changing (Pvcreate pv copies) built change = refl
+spec_of_changing (Vgcreate vg extent_size pvs) built change = refl
+spec_of_changing (Vgextend vg pvs) built change = refl
+spec_of_changing (Pvck pv) built change = absurd (cc)
+spec_of_changing (Vgcfgbackup vg) built change = absurd (cc)
+spec_of_changing Pvs built change = absurd (cc)
+spec_of_changing Vgs built change = absurd (cc)
+spec_of_changing Lvs built change = absurd (cc)
+spec_of_changing Vgck built change = absurd (cc)
+spec_of_changing _ built change = absurd (cc)

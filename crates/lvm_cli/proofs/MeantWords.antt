@@ -1,0 +1,317 @@
+-- What words ask for has the values that the tests of single words let through.
+use Rattle.std.proofs.Common.{◌≡◌, ◌≤◌, ◌∙◌, ◌^◌, ◌%◌, ◌+◌, ◌&&◌, ◌⊎◌, ℕ, zero, suc, Bool, true, false, if◌then◌else◌, nat_le, List, [], ◌∷◌, length, Option, Some, None, Result, Ok, Err, IfSome, is_none, is_some, find, option_map, option_and_then, unwrap_or, refl, ap, sym, subst, inl, inr, arith}
+use Rattle.std.proofs.lemmas.Bool.{and_parts, cases_Bool, eqb-true, leb-true, true≢false}
+use Rattle.std.proofs.Math.Nat.{two-pow-succ}
+use Rattle.std.specs.Int.{is_power_of_two}
+use Rattle.std.specs.List.{list_all}
+use Rattle.std.specs.Result.{result_ok}
+use Rattle.lvm_name.specs.Names.{group_name_refusal}
+use Rattle.lvm_script.specs.declared.amount.Amount.{Amount}
+use Rattle.lvm_script.specs.declared.amount.Growth.{Growth}
+use Rattle.lvm_script.specs.declared.command.Command.{Command}
+use Rattle.lvm_script.specs.declared.command.Command.TheVariants.{Pvck, Pvs, Vgcreate, Vgremove, Vgcfgbackup, Vgcfgrestore, Vgck, Vgs, Lvremove, Lvs}
+use Rattle.lvm_script.specs.declared.command.Path.{Path}
+use Rattle.lvm_script.specs.declared.command_name.CommandName.{CommandName}
+use Rattle.lvm_script.specs.declared.command_name.CommandName.TheVariants as name
+use Rattle.lvm_script.specs.declared.fault.Fault.{Fault}
+use Rattle.lvm_script.specs.declared.fault.Fault.TheVariants.{BadCount, BadName}
+use Rattle.lvm_script.specs.declared.kind.Kind.TheVariants.{PowerSize}
+use Rattle.lvm_script.specs.declared.option_key.OptionKey.{OptionKey}
+use Rattle.lvm_script.specs.declared.option_key.OptionKey.TheVariants as key
+use Rattle.lvm_script.specs.declared.refusal.CommandRefusal.{CommandRefusal}
+use Rattle.lvm_script.specs.declared.refusal.CommandRefusal.TheVariants.{Faulty, WrongWords, NoMemory}
+use Rattle.lvm_script.specs.declared.request.Request.{Request}
+use Rattle.lvm_script.specs.declared.request.Request.TheVariants.{One, Session}
+use Rattle.lvm_script.specs.declared.table.OptionRow.{OptionRow}
+use Rattle.lvm_script.specs.Meaning.{Given, alone, amount_of, at_place, demo, demo_of, goes_together, growth_of, longer, lvcreate, lvextend, lvreduce, lvrename, meaning_of_words, meaning_with, narrow, new_volume, one_path, one_word, path_in, pvcreate, pvmove, request_by_name, request_named, request_read, session, session_on, shorter, size, value_in, vgcreate, vgextend, vgreduce, vgrename, workers_in}
+use Rattle.lvm_script.specs.Options.{Word, is_key}
+use Rattle.lvm_script.specs.Table.{command_named, is_for_words, options_of}
+use Rattle.lvm_script.specs.Values.{is_between, is_group_name, number_fault, number_of, size_of, unless}
+use Rattle.lvm_script.specs.Words.{Split, is_complete, nothing_split, numbered_from, read}
+use Rattle.lvm_words.specs.declared.command_line.CommandLine.{CommandLine}
+use Rattle.lvm_words.specs.CommandLines.{command_line_of, of_disks}
+use Rattle.lvm_words.specs.Disks.{Front, disks_front}
+use Rattle.lvm_words.specs.Parser.{arguments_pass, value_passes}
+use Rattle.lvm_words.proofs.FaultFree.{all_pass, fault_free, given_passes, kind_in, split_read}
+use Rattle.lvm_words.proofs.Spellings.{same_key}
+use Rattle.vg_check.proofs.OneBit.{power_from_ones}
+
+-- from 8 sectors to 2^31, and a multiple of 8
+abbrev IsExtentSize : ℕ → Type 0
+IsExtentSize n = (8 ≤ n) × (n ≤ 2 ^ 31) × (n % 8 ≡ 0)
+
+-- a new group has a group's name, and extents of a size that they can have
+abbrev pub IsMeant : Command → Type 0
+IsMeant (Vgcreate vg extent_size pvs) = (group_name_refusal vg ≡ None) × (8 ≤ extent_size) × (extent_size ≤ 2 ^ 31) × (extent_size % 8 ≡ 0)
+IsMeant _ = Unit {0}
+
+-- the same of what words ask for
+abbrev IsMeantRequest : Request → Type 0
+IsMeantRequest (One command) = IsMeant command
+IsMeantRequest _ = Unit {0}
+
+-- ---- options
+
+mapped : {A B : Type 0} (P : B → Type 0) (f : A → B) → ((a : A) → P (f a)) → (o : Option A) → IfSome (option_map f o) P
+mapped P f each None = tt
+mapped P f each (Some a) = each a
+
+chained : {A B : Type 0} (P : B → Type 0) (f : A → Option B) → ((a : A) → IfSome (f a) P) → (o : Option A) → IfSome (option_and_then f o) P
+chained P f each None = tt
+chained P f each (Some a) = each a
+
+found_passes : {A : Type 0} (p q : A → Bool) (items : List A) → list_all p items ≡ true → IfSome (find q items) (λ a. (p a ≡ true) × (q a ≡ true))
+found_passes p q [] all = tt
+found_passes {A} p q (a ∷ items) all = go (found_passes p q items both.1) (cases_Bool (q a))
+  where
+    both : (p a ≡ true) × (list_all p items ≡ true)
+    both = and_parts (p a) (list_all p items) all
+
+    go : IfSome (find q items) (λ (a : A). (p a ≡ true) × (q a ≡ true)) → (q a ≡ true) ⊎ (q a ≡ false) → IfSome (find q (a ∷ items)) (λ (a : A). (p a ≡ true) × (q a ≡ true))
+    go rest (inl e) = rw e (both.0, e)
+    go rest (inr e) = rw e rest
+
+-- ---- the size of an extent
+
+eights : (k n : ℕ) → n ≡ 2 ^ k → 8 ≤ n → n % 8 ≡ 0
+eights zero n is least = absurd (omega (arith, is, least))
+eights (suc zero) n is least = absurd (omega (arith, is, least))
+eights (suc (suc zero)) n is least = absurd (omega (arith, is, least))
+eights (suc (suc (suc k))) n is least = omega (arith, is, two-pow-succ k, two-pow-succ (suc k), two-pow-succ (suc (suc k)))
+
+size_fits : (n : ℕ) → (is_between 8 2097152 n && is_power_of_two n) ≡ true → IsExtentSize n
+size_fits n passes =
+    let both = and_parts (is_between 8 2097152 n) (is_power_of_two n) passes in
+    let bounds = and_parts (nat_le 8 n) (nat_le n 2097152) both.0 in
+    let least = leb-true 8 n bounds.0 in
+    let most = leb-true n 2097152 bounds.1 in
+    let power = power_from_ones n (eqb-true _ 1 both.1) in
+    (least, omega (arith, most), eights power.0 n power.1 least)
+
+number_passes : (passes : ℕ → Bool) (n : ℕ) → is_none (number_fault passes (Some n)) ≡ true → passes n ≡ true
+number_passes passes n none = go (passes n) none
+  where
+    go : (b : Bool) → is_none (if b then None else Some BadCount) ≡ true → b ≡ true
+    go true e = refl
+    go false e = absurd (true≢false (sym e))
+
+size_or_usual : (word : Option Word) → IfSome word (λ w. value_passes (PowerSize 2048 8 2097152) w ≡ true)
+    → IsExtentSize (unwrap_or (option_and_then (size_of 2048) word) 8192)
+size_or_usual None passes = (omega arith, omega arith, refl)
+size_or_usual (Some word) passes = go (size_of 2048 word) passes
+  where
+    go : (o : Option ℕ) → is_none (number_fault (λ n. is_between 8 2097152 n && is_power_of_two n) o) ≡ true → IsExtentSize (unwrap_or o 8192)
+    go None none = absurd (true≢false (sym none))
+    go (Some n) none = size_fits n (number_passes (λ n. is_between 8 2097152 n && is_power_of_two n) n none)
+
+-- the value of an option is what it has to be
+value_fits : (rows : List OptionRow) (given : List (OptionKey × Word)) (k : OptionKey) → list_all (given_passes rows) given ≡ true
+    → IfSome (value_in given k) (λ word. value_passes (kind_in rows k) word ≡ true)
+value_fits rows given k all = go (find (λ (pair : OptionKey × Word). is_key pair.0 k) given) (found_passes (given_passes rows) (λ pair. is_key pair.0 k) given all)
+  where
+    go : (o : Option (OptionKey × Word)) → IfSome o (λ (pair : OptionKey × Word). (given_passes rows pair ≡ true) × (is_key pair.0 k ≡ true))
+        → IfSome (option_map (λ (pair : OptionKey × Word). pair.1) o) (λ (word : Word). value_passes (kind_in rows k) word ≡ true)
+    go None passes = tt
+    go (Some pair) passes = subst (λ (own : OptionKey). value_passes (kind_in rows own) pair.1 ≡ true) (same_key pair.0 k passes.1) passes.0
+
+-- ---- commands
+
+name_fits : {A : Type 0} (o : Option A) → is_none (unless BadName (is_none o)) ≡ true → o ≡ None
+name_fits None e = refl
+name_fits (Some a) e = absurd (true≢false (sym e))
+
+vgcreate_meant : (given : Given) (arguments : List Word) → IsExtentSize (unwrap_or (size given key.PhysicalExtentSize 2048) 8192)
+    → arguments_pass name.Vgcreate 0 arguments ≡ true → IfSome (vgcreate given arguments) IsMeant
+vgcreate_meant given [] fits pass = tt
+vgcreate_meant given (vg ∷ []) fits pass = tt
+vgcreate_meant given (vg ∷ pv ∷ pvs) fits pass =
+    (name_fits (group_name_refusal vg) (and_parts _ (arguments_pass name.Vgcreate 1 (pv ∷ pvs)) pass).0, fits.0, fits.1, fits.2)
+
+pvcreate_meant : (given : Given) (arguments : List Word) → IfSome (pvcreate given arguments) IsMeant
+pvcreate_meant given [] = tt
+pvcreate_meant given (pv ∷ []) = tt
+pvcreate_meant given (pv ∷ other ∷ more) = tt
+
+pvmove_meant : (given : Given) (arguments : List Word) → IfSome (pvmove given arguments) IsMeant
+pvmove_meant given arguments = go (cases_Bool (is_some (given key.Abort))) arguments
+  where
+    go : (is_some (given key.Abort) ≡ true) ⊎ (is_some (given key.Abort) ≡ false) → (arguments : List Word) → IfSome (pvmove given arguments) IsMeant
+    go (inl e) [] = rw e tt
+    go (inl e) (pv ∷ onto) = rw e tt
+    go (inr e) [] = rw e tt
+    go (inr e) (pv ∷ onto) = rw e tt
+
+vgextend_meant : (arguments : List Word) → IfSome (vgextend arguments) IsMeant
+vgextend_meant [] = tt
+vgextend_meant (vg ∷ []) = tt
+vgextend_meant (vg ∷ pv ∷ pvs) = tt
+
+vgreduce_meant : (arguments : List Word) → IfSome (vgreduce arguments) IsMeant
+vgreduce_meant [] = tt
+vgreduce_meant (vg ∷ []) = tt
+vgreduce_meant (vg ∷ pv ∷ []) = tt
+vgreduce_meant (vg ∷ pv ∷ other ∷ more) = tt
+
+vgrename_meant : (arguments : List Word) → IfSome (vgrename arguments) IsMeant
+vgrename_meant [] = tt
+vgrename_meant (vg ∷ []) = tt
+vgrename_meant (vg ∷ new ∷ []) = tt
+vgrename_meant (vg ∷ new ∷ other ∷ more) = tt
+
+lvrename_meant : (arguments : List Word) → IfSome (lvrename arguments) IsMeant
+lvrename_meant [] = tt
+lvrename_meant (vg ∷ []) = tt
+lvrename_meant (vg ∷ old ∷ []) = tt
+lvrename_meant (vg ∷ old ∷ new ∷ []) = tt
+lvrename_meant (vg ∷ old ∷ new ∷ other ∷ more) = tt
+
+lvcreate_meant : (given : Given) (arguments : List Word) → IfSome (lvcreate given arguments) IsMeant
+lvcreate_meant given [] = tt
+lvcreate_meant given (vg ∷ pvs) = go (goes_together given)
+  where
+    with_size : (lv : Option Word) (amount : Option Amount) → IfSome (new_volume given lv amount vg pvs) IsMeant
+    with_size None amount = tt
+    with_size (Some lv) None = tt
+    with_size (Some lv) (Some amount) = tt
+
+    go : (b : Bool) → IfSome (if b then new_volume given (given key.Name) (amount_of given) vg pvs else None) IsMeant
+    go true = with_size (given key.Name) (amount_of given)
+    go false = tt
+
+lvextend_meant : (given : Given) (arguments : List Word) → IfSome (lvextend given arguments) IsMeant
+lvextend_meant given [] = tt
+lvextend_meant given (path ∷ pvs) = go (growth_of given) (path_in path)
+  where
+    go : (growth : Option Growth) (path : Option Path) → IfSome (longer pvs growth path) IsMeant
+    go None path = tt
+    go (Some growth) None = tt
+    go (Some growth) (Some path) = tt
+
+lvreduce_meant : (given : Given) (arguments : List Word) → IfSome (lvreduce given arguments) IsMeant
+lvreduce_meant given arguments = go (amount_of given) (one_path arguments)
+  where
+    go : (amount : Option Amount) (path : Option Path) → IfSome (shorter amount path) IsMeant
+    go None path = tt
+    go (Some amount) None = tt
+    go (Some amount) (Some path) = tt
+
+alone_meant : (command : Command) → IsMeant command → (arguments : List Word) → IfSome (alone command arguments) IsMeant
+alone_meant command meant [] = meant
+alone_meant command meant (word ∷ words) = tt
+
+-- ---- what is asked for
+
+session_meant : (given : Given) (arguments : List Word) → IfSome (session given arguments) IsMeantRequest
+session_meant given arguments = chained IsMeantRequest (session_on (workers_in given)) (with_workers (workers_in given)) (one_word arguments)
+  where
+    with_workers : (workers : Option ℕ) (vg : Word) → IfSome (session_on workers vg) IsMeantRequest
+    with_workers None vg = tt
+    with_workers (Some workers) vg = go (is_group_name vg)
+      where
+        go : (b : Bool) → IfSome (if b then Some (Session vg workers) else None) IsMeantRequest
+        go true = tt
+        go false = tt
+
+demo_meant : (arguments : List Word) → IfSome (demo arguments) IsMeantRequest
+demo_meant [] = tt
+demo_meant (seed ∷ []) = tt
+demo_meant (seed ∷ lines ∷ []) = tt
+demo_meant (seed ∷ lines ∷ workers ∷ []) = go (number_of seed) (number_of lines) (option_and_then narrow (number_of workers))
+  where
+    go : (seed lines workers : Option ℕ) → IfSome (demo_of seed lines workers) IsMeantRequest
+    go None lines workers = tt
+    go (Some seed) None workers = tt
+    go (Some seed) (Some lines) None = tt
+    go (Some seed) (Some lines) (Some workers) = tt
+demo_meant (seed ∷ lines ∷ workers ∷ other ∷ more) = tt
+
+one_meant : (command : Option Command) → IfSome command IsMeant → IfSome (option_map One command) IsMeantRequest
+one_meant None meant = tt
+one_meant (Some command) meant = meant
+
+-- by the name of a command that stands on the command line
+request_meant : (name : CommandName) (split : Split) → is_for_words name ≡ true → all_pass name split ≡ true
+    → IfSome (request_by_name name (value_in split.given) split.arguments) IsMeantRequest
+request_meant name.Pvcreate split here pass = one_meant _ (pvcreate_meant (value_in split.given) split.arguments)
+request_meant name.Pvmove split here pass = one_meant _ (pvmove_meant (value_in split.given) split.arguments)
+request_meant name.Pvck split here pass = one_meant _ (mapped IsMeant Pvck (λ pv. tt) (one_word split.arguments))
+request_meant name.Pvs split here pass = one_meant _ (alone_meant Pvs tt split.arguments)
+request_meant name.Vgcreate split here pass =
+    let both = and_parts (list_all (given_passes (options_of name.Vgcreate)) split.given) (arguments_pass name.Vgcreate 0 split.arguments) pass in
+    let fits = size_or_usual (value_in split.given key.PhysicalExtentSize) (value_fits (options_of name.Vgcreate) split.given key.PhysicalExtentSize both.0) in
+    one_meant _ (vgcreate_meant (value_in split.given) split.arguments fits both.1)
+request_meant name.Vgextend split here pass = one_meant _ (vgextend_meant split.arguments)
+request_meant name.Vgreduce split here pass = one_meant _ (vgreduce_meant split.arguments)
+request_meant name.Vgremove split here pass = one_meant _ (mapped IsMeant Vgremove (λ vg. tt) (one_word split.arguments))
+request_meant name.Vgrename split here pass = one_meant _ (vgrename_meant split.arguments)
+request_meant name.Vgcfgbackup split here pass = one_meant _ (mapped IsMeant Vgcfgbackup (λ vg. tt) (one_word split.arguments))
+request_meant name.Vgcfgrestore split here pass = one_meant _ (mapped IsMeant (λ vg. Vgcfgrestore vg []) (λ vg. tt) (one_word split.arguments))
+request_meant name.Vgck split here pass = one_meant _ (alone_meant Vgck tt split.arguments)
+request_meant name.Vgs split here pass = one_meant _ (alone_meant Vgs tt split.arguments)
+request_meant name.Lvcreate split here pass = one_meant _ (lvcreate_meant (value_in split.given) split.arguments)
+request_meant name.Lvextend split here pass = one_meant _ (lvextend_meant (value_in split.given) split.arguments)
+request_meant name.Lvreduce split here pass = one_meant _ (lvreduce_meant (value_in split.given) split.arguments)
+request_meant name.Lvremove split here pass = one_meant _ (mapped IsMeant Lvremove (λ path. tt) (one_path split.arguments))
+request_meant name.Lvrename split here pass = one_meant _ (lvrename_meant split.arguments)
+request_meant name.Lvs split here pass = one_meant _ (alone_meant Lvs tt split.arguments)
+request_meant name.Session split here pass = session_meant (value_in split.given) split.arguments
+request_meant name.Demo split here pass = demo_meant split.arguments
+request_meant name.Read split here pass = absurd (true≢false (sym here))
+request_meant name.Fill split here pass = absurd (true≢false (sym here))
+request_meant name.Write split here pass = absurd (true≢false (sym here))
+request_meant name.List split here pass = absurd (true≢false (sym here))
+request_meant name.Wait split here pass = absurd (true≢false (sym here))
+request_meant name.Resync split here pass = absurd (true≢false (sym here))
+
+-- ---- words
+
+-- without a faulty word all of them pass
+words_pass : (name : CommandName) (words : List (Word × ℕ)) → (read name words).fault ≡ None → all_pass name (read name words).split ≡ true
+words_pass name words none = ap (all_pass name) (split_read name words nothing_split None) ∙ ((fault_free name words).0 none).1
+
+read_meant : (name : CommandName) (words : List (Word × ℕ)) → is_for_words name ≡ true → IfSome (result_ok (request_read name (read name words))) IsMeantRequest
+read_meant name words here = go (read name words).fault refl (is_complete (read name words).split)
+  where
+    asked : Option Request
+    asked = request_by_name name (value_in (read name words).split.given) (read name words).split.arguments
+
+    whole : (o : Option Request) → IfSome o IsMeantRequest → IfSome (result_ok (meaning_with None o)) IsMeantRequest
+    whole None meant = tt
+    whole (Some request) meant = meant
+
+    go : (fault : Option (Fault × ℕ)) → (read name words).fault ≡ fault → (complete : Bool) → IfSome (result_ok (meaning_with fault (if complete then asked else None))) IsMeantRequest
+    go (Some fault) is complete = tt
+    go None is true = whole asked (request_meant name (read name words).split here (words_pass name words is))
+    go None is false = tt
+
+at_place_meant : (end : ℕ) (meaning : Result Request CommandRefusal) → IfSome (result_ok meaning) IsMeantRequest → IfSome (result_ok (at_place end meaning)) IsMeantRequest
+at_place_meant end (Ok request) meant = meant
+at_place_meant end (Err (Faulty fault place)) meant = tt
+at_place_meant end (Err WrongWords) meant = tt
+at_place_meant end (Err NoMemory) meant = tt
+
+named_meant : (name : Option CommandName) (words : List Word) → IfSome (result_ok (request_named name words)) IsMeantRequest
+named_meant None words = tt
+named_meant (Some name) words = go (cases_Bool (is_for_words name))
+  where
+    go : (is_for_words name ≡ true) ⊎ (is_for_words name ≡ false) → IfSome (result_ok (request_named (Some name) words)) IsMeantRequest
+    go (inl e) = rw e (at_place_meant (length words + 1) (request_read name (read name (numbered_from 1 words))) (read_meant name (numbered_from 1 words) e))
+    go (inr e) = rw e tt
+
+words_meant : (words : List Word) → IfSome (result_ok (meaning_of_words words)) IsMeantRequest
+words_meant [] = tt
+words_meant (first ∷ rest) = named_meant (command_named first) rest
+
+front_meant : (front : Front) → IfSome (of_disks front) (λ (line : CommandLine). IsMeantRequest line.request)
+front_meant front = go (result_ok (meaning_of_words front.rest)) (words_meant front.rest)
+  where
+    go : (o : Option Request) → IfSome o IsMeantRequest
+        → IfSome (option_map (λ (request : Request). record { names = front.names; request = request }) o) (λ (line : CommandLine). IsMeantRequest line.request)
+    go None meant = tt
+    go (Some request) meant = meant
+
+-- the command that words ask for
+pub planned : (words : List Word) (line : CommandLine) (command : Command) → command_line_of words ≡ Some line → line.request ≡ One command → IsMeant command
+planned words line command is asked =
+    let all = chained (λ (line : CommandLine). IsMeantRequest line.request) of_disks front_meant (disks_front words) in
+    subst IsMeantRequest asked (subst (λ (o : Option CommandLine). IfSome o (λ (line : CommandLine). IsMeantRequest line.request)) is all)

@@ -1,0 +1,105 @@
+//! Commands that change something.
+ghost use Rattle.std.specs.Prelude.{◌≡◌, ◌≤◌, ◌<◌, ◌^◌, [], true, length, All, IfOk};
+ghost use Rattle.group_ops.specs.Laws.{state_in};
+ghost use Rattle.group_ops.specs.Planning.{IsPlanned};
+ghost use Rattle.lvm_script.specs.Values.{is_disk_name};
+ghost use Rattle.vg_change.specs.CarryingOut.{sizes_of};
+ghost use Rattle.vg_found.specs.Shape.{HasShape};
+ghost use Rattle.vg_found.specs.Whole.{IsWhole};
+ghost use Rattle.lvm_cli.specs.Changing.{IsCarriedOut, changing, outcome_of};
+ghost use Rattle.lvm_cli.specs.Disks.{AreDisks};
+ghost use Rattle.lvm_cli.specs.Meets.{Meets};
+ghost use Rattle.lvm_cli.specs.Runs.{context_with};
+
+use crate::ending::Ending;
+use crate::opening::open_disks;
+use crate::outcome::Outcome;
+use disk_model::Shelf;
+use group_ops::GroupState;
+use lvm_script::{Answer, DiskNames, Line};
+use std::alloc::{AllocError, Global};
+use vg_change::{ChangeFault, carry_out};
+use vg_found::Found;
+
+/// Flushes and scans the disks, and carries the line out on what is found, at this time. All memory is taken before
+/// anything is written.
+pub fn run_change<S: Shelf>(
+    alloc: Global,
+    shelf: &mut S,
+    names: &DiskNames,
+    line: &Line,
+    now: u64,
+) -> Outcome
+    requires disks { AreDisks (length names.now) (S.state shelf.old) }
+    requires some { 1 ≤ length names.now }
+    requires few { length names.now ≤ 64 }
+    requires named { All (λ name. is_disk_name name ≡ true) names.now }
+    requires first { line.now.number ≡ 1 }
+    requires planned { IsPlanned line.now.id line.now.command }
+    requires time { now < 2 ^ 48 }
+    ensures { Meets (changing line.now.command) (context_with names.now line.now.id now (S.state shelf.old)) (S.state shelf.old) result (S.state shelf.new) }
+{
+    match open_disks(alloc, shelf) {
+        Ok(found) => change_found(alloc, shelf, names, found, line, now),
+        Err(ending) => Outcome::Ended(ending),
+    }
+}
+
+// Carries the line out on what was found on the disks.
+fn change_found<S: Shelf>(
+    alloc: Global,
+    shelf: &mut S,
+    names: &DiskNames,
+    found: Found,
+    line: &Line,
+    now: u64,
+) -> Outcome
+    requires idle { (S.state shelf.old).in_flight ≡ [] }
+    requires shape { HasShape found }
+    requires whole { IsWhole found }
+    requires count { length names.now ≡ length found.disks }
+    requires sizes { (S.state shelf.old).sizes ≡ sizes_of found.disks }
+    requires named { All (λ name. is_disk_name name ≡ true) names.now }
+    requires planned { IsPlanned line.now.id line.now.command }
+    requires time { now < 2 ^ 48 }
+    ensures { IsCarriedOut (state_in found names.now) line.now now (S.state shelf.old) result (S.state shelf.new) }
+{
+    let state = match state_of(found, names) {
+        Ok(state) => state,
+        Err(AllocError) => return Outcome::Ended(Ending::NoMemory),
+    };
+    outcome_of(carry_out(alloc, shelf, &state, line, now))
+}
+
+// What a line that was carried out, or a fault of it, comes to.
+fn outcome_of(carried: Result<(), ChangeFault>) -> Outcome
+    ensures { result ≡ outcome_of carried }
+{
+    match carried {
+        Ok(()) => Outcome::Answered(1, Answer::Fine),
+        Err(ChangeFault::NoMemory) => Outcome::Ended(Ending::NoMemory),
+        Err(ChangeFault::Refused(refusal)) => Outcome::Answered(1, Answer::Refused(refusal)),
+        Err(ChangeFault::Failed(pv)) => Outcome::Answered(1, Answer::PvFailed(pv)),
+    }
+}
+
+// What the line is judged against.
+fn state_of(found: Found, names: &DiskNames) -> Result<GroupState, AllocError>
+    ensures { IfOk result (λ state. state ≡ state_in found names.now) }
+{
+    let names = DiskNames::from_vec(names.as_vec().clone()?);
+    let Found {
+        group,
+        disks,
+        areas,
+        disk_of,
+        ..
+    } = found;
+    Ok(GroupState {
+        group,
+        disks,
+        names,
+        areas,
+        disk_of,
+    })
+}
