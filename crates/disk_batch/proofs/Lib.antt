@@ -15,4 +15,5 @@ pub mod Written
 pub mod WritesOnImages
 pub mod OneTurn
 pub mod InTurn
+pub mod FrontBatches
 pub mod TurningBatches

@@ -13,7 +13,7 @@ use Rattle.vg_found.specs.declared.disk.Disk.{Disk}
 use Rattle.vg_found.specs.declared.found.Found.{Found}
 use Rattle.vg_found.specs.declared.whole.NotWhole.{NotWhole}
 use Rattle.vg_found.specs.Whole.{IsNotWhole, IsWhole, first_of}
-use Rattle.lvm_report.specs.StaleAreas.{is_on}
+use Rattle.vg_found.specs.StaleAreas.{is_on}
 use Rattle.vg_found.specs.Shape.{HasShape}
 use Rattle.vg_scan.specs.Scans.{AreFewReads, FailedOn, HoldsNow, IsRefusalOfScan, IsScanOf}
 use Rattle.lvm_cli.specs.CommandSpec.{Scanned, Finds, Refuses, Lacks}

@@ -1,9 +1,7 @@
 //! The disks are flushed and scanned, before a command changes something.
 ghost use Rattle.std.specs.Prelude.{◌≡◌, ◌≤◌, length, is_ok, MatchResult};
-ghost use Rattle.std.specs.List.{list_any};
 ghost use Rattle.disk_model.specs.Idle.{IsIdleAgain};
 ghost use Rattle.disk_model.specs.Since.{BetweenTold};
-ghost use Rattle.lvm_report.specs.StaleAreas.{is_on};
 ghost use Rattle.vg_found.specs.Shape.{HasShape};
 ghost use Rattle.lvm_cli.specs.Disks.{AreDisks};
 ghost use Rattle.lvm_cli.specs.Scan.{IsOpenCause, IsSettled, IsTakenAsFound, OpensDisks, first_unsettled, is_unsettled};
@@ -14,7 +12,7 @@ use crate::scanned::{partial_ending, scan_ending};
 use disk_model::Shelf;
 use std::alloc::{AllocError, Global};
 use vg_change::flush_all;
-use vg_found::Found;
+use vg_found::{Found, has_stale};
 use vg_scan::scan;
 
 /// Flushes all disks, scans them, and gives what is found, where each disk was read, the group is whole, and nothing on the
@@ -69,17 +67,5 @@ fn first_unsettled(found: &Found) -> Option<u32>
 fn is_unsettled(found: &Found, pv: u32) -> bool
     ensures { result ≡ is_unsettled found.now pv }
 {
-    found.strays.contains(pv) || is_stale(found.stale.as_slice(), pv)
-}
-
-// Whether one of these areas is on the disk.
-fn is_stale(areas: &[(u32, u32)], pv: u32) -> bool
-    ensures { result ≡ list_any (is_on pv) areas.now }
-{
-    for area in areas {
-        if area.0 == pv {
-            return true;
-        }
-    }
-    false
+    found.strays.contains(pv) || has_stale(found.stale.as_slice(), pv)
 }

@@ -3,6 +3,5 @@ pub mod Lines
 pub mod Marks
 pub mod Report
 pub mod Reports
-pub mod StaleAreas
 pub mod VolumeLine
 pub mod Volumes

@@ -5,14 +5,14 @@ ghost use Rattle.std.specs.List.{list_any};
 ghost use Rattle.lvm_id.specs.LvmId.{hyphen_form};
 ghost use Rattle.vg_found.specs.Shape.{HasShape};
 ghost use Rattle.lvm_report.specs.Reports.{disk_lines, faults_text, name_in};
-ghost use Rattle.lvm_report.specs.StaleAreas.{is_on};
+ghost use Rattle.vg_found.specs.StaleAreas.{is_on};
 
 use lvm_id::LvmId;
 use lvm_script::DiskNames;
 use meta_read::Unknown;
 use sector_base::{PvSet, Text};
 use std::alloc::AllocError;
-use vg_found::Found;
+use vg_found::{Found, has_stale};
 
 /// Appends a line for each disk with a stale area, each stray, each missing physical volume, each key that is passed over and
 /// each disk that is unread.
@@ -48,18 +48,6 @@ fn put_stale(
         put_disk_if(text, is_stale, b"stale ", names, number)?;
     }
     Ok(())
-}
-
-// Whether one of these areas is on the disk.
-fn has_stale(stale: &[(u32, u32)], pv: u32) -> bool
-    ensures { result ≡ list_any (is_on pv) stale.now }
-{
-    for area in stale {
-        if area.0 == pv {
-            return true;
-        }
-    }
-    false
 }
 
 // Appends a line for each of so many disks that is among these, behind this word.

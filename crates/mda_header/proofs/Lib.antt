@@ -2,4 +2,4 @@ pub mod Fields
 mod HeaderBytes
 pub mod OneEntry
 pub mod OneRefusal
-mod ReadAgain
+pub mod ReadAgain

@@ -1,2 +1,2 @@
-mod LabelBytes
+pub mod LabelBytes
 mod Refusals

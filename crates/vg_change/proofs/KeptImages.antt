@@ -8,7 +8,7 @@ use Rattle.conf_text.specs.Printed.{printed}
 use Rattle.sector_base.specs.Spans.{covers}
 use Rattle.disk_model.specs.Steps.{Image}
 use Rattle.disk_batch.specs.InTurn.{HasFirstBatches, Put, with_batches}
-use Rattle.vg_commit.proofs.FrontBatches.{KeepsSector, batches_kept, first_or_more, front_kept}
+use Rattle.disk_batch.proofs.FrontBatches.{KeepsSector, batches_kept, first_or_more, front_kept}
 use Rattle.disk_batch.proofs.InTurn.{batches_append}
 use Rattle.mda_header.specs.declared.header.Locn.{Locn}
 use Rattle.mda_ring.specs.declared.area.Area.{Area}

@@ -12,7 +12,7 @@ use Rattle.lvm_script.specs.declared.command.Command.TheVariants.{Pvcreate, Vgcr
 use Rattle.lvm_script.specs.declared.line.Line.{Line}
 use Rattle.disk_model.specs.Steps.{Image}
 use Rattle.disk_batch.specs.InTurn.{Put, with_batches, with_writes}
-use Rattle.vg_commit.proofs.FrontBatches.{keeps_sector}
+use Rattle.disk_batch.proofs.FrontBatches.{keeps_sector}
 use Rattle.disk_batch.proofs.WritesOnImages.{written_is, written_kept}
 use Rattle.mda_header.specs.Header.{IsHeader}
 use Rattle.mda_header.specs.HeaderBytes.{header_bytes as mda_bytes}

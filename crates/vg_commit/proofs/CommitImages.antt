@@ -9,7 +9,7 @@ use Rattle.sector_base.specs.Spans.{covers}
 use Rattle.disk_model.specs.Steps.{Image}
 use Rattle.disk_batch.specs.InTurn.{HasFirstBatches, Put, with_batches}
 use Rattle.disk_batch.specs.Writes.{disks_in}
-use Rattle.vg_commit.proofs.FrontBatches.{KeepsSector, keeps_sector}
+use Rattle.disk_batch.proofs.FrontBatches.{KeepsSector, keeps_sector}
 use Rattle.mda_header.specs.declared.header.Locn.{Locn}
 use Rattle.mda_ring.specs.declared.area.Area.{Area}
 use Rattle.mda_ring.specs.Areas.{CanTake}

@@ -1,4 +1,3 @@
-pub mod FrontBatches
 pub mod Moments
 pub mod Committing
 pub mod ShownSectors

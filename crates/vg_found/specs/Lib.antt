@@ -1,4 +1,5 @@
 pub mod Disks
 pub mod Laws
 pub mod Shape
+pub mod StaleAreas
 pub mod Whole

@@ -10,6 +10,7 @@ mod disk;
 mod found;
 mod laws;
 mod pv_disks;
+mod stale;
 mod whole;
 
 pub use areas::held_areas;
@@ -17,6 +18,7 @@ pub use disk::{Disk, DiskTable};
 pub use found::{AreaSet, Found, Ids};
 pub use laws::{areas_are_shaped, whole_has_its_disks};
 pub use pv_disks::disks_of;
+pub use stale::has_stale;
 pub use whole::{NotWhole, ScanRefused, Whole};
 
 #[cfg(test)]

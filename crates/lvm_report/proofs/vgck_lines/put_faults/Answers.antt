@@ -7,7 +7,7 @@ use Rattle.lvm_id.specs.LvmId.{hyphen_form}
 use Rattle.lvm_script.specs.Options.{Word}
 use Rattle.vg_found.specs.declared.found.Found.{Found}
 use Rattle.lvm_report.specs.Reports.{disk_lines, has_stale}
-use Rattle.lvm_report.specs.StaleAreas.{is_on}
+use Rattle.vg_found.specs.StaleAreas.{is_on}
 use Rattle.lvm_report.proofs.OneLine.{last_put, part}
 use Rattle.lvm_report.proofs.vgck_lines.put_faults.Goals as goal
 

@@ -3,7 +3,7 @@ use Rattle.std.proofs.Common.{[], ◌++◌, ap, ◌∙◌, arith, refl}
 use Rattle.std.specs.Prelude.{Bool, List, ℕ, codes, if◌then◌else◌}
 use Rattle.std.specs.List.{list_any, flat_map, range_with_len}
 use Rattle.lvm_report.specs.Reports.{disk_lines, name_in}
-use Rattle.lvm_report.specs.StaleAreas.{is_on}
+use Rattle.vg_found.specs.StaleAreas.{is_on}
 use Rattle.lvm_report.proofs.Rows.{line_more, range_at, range_walked}
 use Rattle.lvm_report.proofs.vgck_lines.put_stale.Goals as goal
 

@@ -2,7 +2,7 @@
 use Rattle.std.proofs.Common.{◌≡◌, [], ◌++◌, drop}
 use Rattle.std.specs.Prelude.{codes, if◌then◌else◌}
 use Rattle.std.specs.List.{flat_map, list_any, range_with_len}
-use Rattle.lvm_report.specs.StaleAreas.{is_on}
+use Rattle.vg_found.specs.StaleAreas.{is_on}
 use Rattle.lvm_report.specs.Reports.{disk_lines, name_in}
 use Rattle.lvm_report.proofs.vgck_lines.put_stale.Given as goal
 
