@@ -3,6 +3,7 @@ ghost use Rattle.std.specs.Prelude.{◌≡◌, ◌≤◌, ◌^◌, length, IfOk}
 ghost use Rattle.lvm_cli.specs.Disks.{AreDisks};
 
 use super::run_drawing;
+use crate::lvm_run::Ended;
 use dev_shelf::{Fail as Failure, Images, MemShelf, Shelf, ShelfPlan};
 use lvm_script::MemSink;
 use sector_base::Sectors;
@@ -11,6 +12,8 @@ use std::process::Abort;
 use std::sync::Wait;
 use std::test::Fail;
 use std::thread::Threads;
+
+mod stops;
 
 // A shelf of these three disks, of which these operations are to fail.
 fn shelf_of(
@@ -42,9 +45,9 @@ fn shelf_of(
 fn blank(alloc: Global) -> Result<MemShelf, AllocError>
     ensures { IfOk result (λ shelf. AreDisks 3 (⟦<MemShelf as Shelf>⟧.state shelf)) }
 {
-    let a = Sectors::zeroed(alloc, 4_096)?;
-    let b = Sectors::zeroed(alloc, 4_096)?;
-    let c = Sectors::zeroed(alloc, 4_096)?;
+    let a = Sectors::zeroed(alloc, 2_056)?;
+    let b = Sectors::zeroed(alloc, 2_056)?;
+    let c = Sectors::zeroed(alloc, 2_056)?;
     shelf_of(alloc, a, b, c, Vec::new(alloc))
 }
 
@@ -76,8 +79,23 @@ fn reopened(
     Ok(shelf_of(alloc, a, b, c, fails)?)
 }
 
-// Runs the command of these words on the disks, and checks what it prints and its status. An id that it draws ends with
-// this number.
+// Runs the command of these words on the disks. An id that it draws begins with this number.
+fn run_on_three<T: Threads + Wait + Sync + Abort>(
+    rt: &T,
+    alloc: Global,
+    shelf: MemShelf,
+    words: &[&str],
+    id: u64,
+    out: &mut MemSink,
+) -> Result<Ended<MemShelf>, Fail>
+    requires { AreDisks 3 (⟦<MemShelf as Shelf>⟧.state shelf) }
+{
+    let mut all = vec![in alloc; "-d", "a", "-d", "b", "-d", "c"]?;
+    all.extend_from_slice(words)?;
+    Ok(run_drawing(rt, alloc, &[id, 0, 0, 0], &all, 3, shelf, out)?)
+}
+
+// The same, and checks what it prints and its status.
 fn answers<T: Threads + Wait + Sync + Abort>(
     rt: &T,
     alloc: Global,
@@ -89,10 +107,8 @@ fn answers<T: Threads + Wait + Sync + Abort>(
 ) -> Result<MemShelf, Fail>
     requires { AreDisks 3 (⟦<MemShelf as Shelf>⟧.state shelf) }
 {
-    let mut all = vec![in alloc; "-d", "a", "-d", "b", "-d", "c"]?;
-    all.extend_from_slice(words)?;
     let mut out = MemSink::new(alloc, 1_000, Vec::new(alloc))?;
-    let ended = run_drawing(rt, alloc, &[id, 0, 0, 0], &all, 3, shelf, &mut out)?;
+    let ended = run_on_three(rt, alloc, shelf, words, id, &mut out)?;
     assert_eq!(rt; out.bytes(), printed.as_bytes());
     assert_eq!(rt; ended.status, status);
     Ok(ended.shelf)
@@ -121,13 +137,15 @@ const PVCREATE_B: &[&str] = &["pvcreate", "b"];
 
 const PVCREATE_C: &[&str] = &["pvcreate", "c", "--metadatacopies", "0"];
 
-const VGCREATE: &[&str] = &["vgcreate", "-s", "1m", "vg0", "a"];
+const VGCREATE: &[&str] = &["vgcreate", "-s", "4k", "vg0", "a"];
 
 const VGEXTEND: &[&str] = &["vgextend", "vg0", "b", "c"];
 
-const OLD: &str = "vg0                   1      0          1          1          1\n";
+/// What vgs prints of the group of one physical volume.
+const OF_ONE: &str = "vg0                   1      0          1          1          1\n";
 
-const NEW: &str = "vg0                   3      0          2          3          3\n";
+/// What vgs prints of it once it is extended by two.
+const EXTENDED: &str = "vg0                   3      0          2          3          3\n";
 
 #[test]
 fn a_group_is_created_and_extended(rt: HostRuntime) -> Result<(), Fail> {
@@ -153,7 +171,7 @@ fn a_group_is_created_and_extended(rt: HostRuntime) -> Result<(), Fail> {
         (
             &["vgcreate", "-s", "8m", "vg0", "a"],
             4,
-            "1: refused TooSmall 4096 18432\n",
+            "1: refused TooSmall 2056 18432\n",
             5,
         ),
         (
@@ -169,7 +187,7 @@ fn a_group_is_created_and_extended(rt: HostRuntime) -> Result<(), Fail> {
             5,
         ),
         (VGCREATE, 4, "1: ok\n", 0),
-        (&["vgs"], 0, OLD, 0),
+        (&["vgs"], 0, OF_ONE, 0),
         (
             &["vgcreate", "vg1", "b"],
             5,
@@ -198,7 +216,7 @@ fn a_group_is_created_and_extended(rt: HostRuntime) -> Result<(), Fail> {
         ),
         (PVCREATE_B, 6, "1: ok\n", 0),
         (VGEXTEND, 0, "1: ok\n", 0),
-        (&["vgs"], 0, NEW, 0),
+        (&["vgs"], 0, EXTENDED, 0),
         (
             &["pvs"],
             0,
@@ -210,88 +228,5 @@ c                    vg0                       1          1\n",
         (&["vgck"], 0, "ok\n", 0),
     ];
     run_rows(&rt, rt.alloc(), &rows)?;
-    Ok(())
-}
-
-// Three physical volumes, the first in a group.
-fn one_in_group<T: Threads + Wait + Sync + Abort>(rt: &T, alloc: Global) -> Result<MemShelf, Fail>
-    ensures { IfOk result (λ shelf. AreDisks 3 (⟦<MemShelf as Shelf>⟧.state shelf)) }
-{
-    run_rows(
-        rt,
-        alloc,
-        &[
-            (PVCREATE_A, 1, "1: ok\n", 0),
-            (PVCREATE_B, 2, "1: ok\n", 0),
-            (PVCREATE_C, 3, "1: ok\n", 0),
-            (VGCREATE, 4, "1: ok\n", 0),
-        ],
-    )
-}
-
-// What vgs prints on these disks: the old group or the new one.
-fn is_new<T: Threads + Wait + Sync + Abort>(
-    rt: &T,
-    alloc: Global,
-    shelf: MemShelf,
-) -> Result<bool, Fail>
-    requires { AreDisks 3 (⟦<MemShelf as Shelf>⟧.state shelf) }
-{
-    let mut out = MemSink::new(alloc, 1_000, Vec::new(alloc))?;
-    let words = ["-d", "a", "-d", "b", "-d", "c", "vgs"];
-    let ended = run_drawing(rt, alloc, &[], &words, 3, shelf, &mut out)?;
-    assert_eq!(rt; ended.status, 0);
-    let new = out.bytes() == NEW.as_bytes();
-    assert!(rt; new || out.bytes() == OLD.as_bytes());
-    Ok(new)
-}
-
-#[test]
-fn every_crash_leaves_the_old_group_or_the_new_one(rt: HostRuntime) -> Result<(), Fail> {
-    let alloc = rt.alloc();
-    let shelf = one_in_group(&rt, alloc)?;
-    let left = answers(&rt, alloc, shelf, VGEXTEND, 0, "1: ok\n", 0)?;
-    let mut seen = [false; 2];
-    for moment in 0..=left.moments() {
-        for choice in [0, 0xffff, 0x5555] {
-            let crashed = reopened(&rt, alloc, &left, moment, choice, Vec::new(alloc))?;
-            let new = is_new(&rt, alloc, crashed)?;
-            seen[usize::from(new)] = true;
-            assert!(rt; new || moment < left.moments(), "{moment}, {choice}");
-        }
-    }
-    assert!(rt; seen[0] && seen[1]);
-    Ok(())
-}
-
-#[test]
-fn every_failed_operation_leaves_the_old_group_or_the_new_one(rt: HostRuntime) -> Result<(), Fail> {
-    let alloc = rt.alloc();
-    let before = one_in_group(&rt, alloc)?;
-    let mut refused = 0u32;
-    for tag in 0..40u64 {
-        for fresh in 0..2u32 {
-            let mut fails = Vec::new(alloc);
-            fails.push(Failure { tag, fresh })?;
-            let shelf = reopened(&rt, alloc, &before, before.moments(), 0, fails)?;
-            let mut out = MemSink::new(alloc, 1_000, Vec::new(alloc))?;
-            let mut words = vec![in alloc; "-d", "a", "-d", "b", "-d", "c"]?;
-            words.extend_from_slice(VGEXTEND)?;
-            let ended = run_drawing(&rt, alloc, &[], &words, 3, shelf, &mut out)?;
-            let left = ended.shelf;
-            let done = out.bytes() == b"1: ok\n".as_slice();
-            assert_eq!(rt; ended.status, if done { 0 } else { 6 }, "{tag}");
-            if !done {
-                refused = refused.saturating_add(1);
-            }
-            for choice in [0, 0xffff] {
-                let moments = left.moments();
-                let crashed = reopened(&rt, alloc, &left, moments, choice, Vec::new(alloc))?;
-                let new = is_new(&rt, alloc, crashed)?;
-                assert!(rt; new || !done, "{tag}, {choice}");
-            }
-        }
-    }
-    assert!(rt; refused > 20);
     Ok(())
 }
