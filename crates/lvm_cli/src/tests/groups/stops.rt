@@ -1,5 +1,5 @@
-//! Commands on groups that a crash stops, or an operation that fails: what is found afterwards is what was before or what the
-//! command makes, and never a third thing.
+//! Commands on groups that a crash stops, or an operation that fails: what is found afterwards is what was before or what
+//! the command makes, and never a third thing.
 ghost use Rattle.std.specs.Prelude.{IfOk};
 ghost use Rattle.lvm_cli.specs.Disks.{AreDisks};
 
@@ -18,8 +18,8 @@ use std::thread::Threads;
 /// Which of its values each sector takes that has two: the old one, the new one, and both in turn.
 const CHOICES: [u64; 3] = [0, 0xffff, 0x5555];
 
-/// A group that is created on two of the disks, and one on all three, of which the last has no metadata area: the words, and
-/// what vgs prints of it.
+/// A group that is created on two of the disks, and one on all three, of which the last has no metadata area: the words,
+/// and what vgs prints of it.
 const CREATES: [(&[&str], &str); 2] = [
     (
         &["vgcreate", "-s", "4k", "vg0", "a", "b"],
@@ -55,8 +55,8 @@ fn one_in_group<T: Threads + Wait + Sync + Abort>(rt: &T, alloc: Global) -> Resu
     reopened(rt, alloc, &left, left.moments(), 0, Vec::new(alloc))
 }
 
-// Whether vgs prints the second of these texts, where it else prints the first, on the disks as a crash at this moment may
-// leave them, where of each two values the one of this number is taken.
+// Whether vgs prints the second of these texts, where it else prints the first, on the disks as a crash at this moment
+// may leave them, where of each two values the one of this number is taken.
 fn is_new<T: Threads + Wait + Sync + Abort>(
     rt: &T,
     alloc: Global,
@@ -100,7 +100,8 @@ fn is_stopped_at_each_moment<T: Threads + Wait + Sync + Abort>(
     Ok(())
 }
 
-// The same where each operation fails in turn, and its first sector is new or isn't: then the command isn't answered by `ok`.
+// The same where each operation fails in turn, and its first sector is new or isn't: then the command isn't answered by
+// `ok`.
 fn is_failed_at_each_operation<T: Threads + Wait + Sync + Abort>(
     rt: &T,
     alloc: Global,
