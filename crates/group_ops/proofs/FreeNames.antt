@@ -131,6 +131,13 @@ among_first xs ys name is = list_any-append (pointwise nat_eq name) xs ys ∙ ap
 pub among_last : (xs ys : List (List ℕ)) (name : List ℕ) → is_among xs name ≡ false → is_among (xs ++ ys) name ≡ is_among ys name
 among_last xs ys name other = list_any-append (pointwise nat_eq name) xs ys ∙ ap (λ (b : Bool). b || is_among ys name) other
 
+-- no physical volume has the free name
+pub free_not_taken : (pvs : List (List ℕ × Pv)) (lvs : List (List ℕ × Lv)) (name : List ℕ) → length pvs + length lvs < 2 ^ 32 → name ≡ pv_name (free_number (names_in pvs lvs)) → is_among (names_of pvs) name ≡ true → ⊥
+free_not_taken pvs lvs name few is taken =
+    let names : List (List ℕ) = names_in pvs lvs in
+    let other : is_among names (pv_name (free_number names)) ≡ false = (free names (omega (arith, few, names_length pvs lvs))).1 in
+    true≢false (sym (among_first (names_of pvs) (names_of lvs) name taken) ∙ ap (is_among names) is ∙ other)
+
 here_by : (p : ℕ → Bool) (n k m : ℕ) → k ≡ suc m → p n ≡ true → find p (range_with_len n k) ≡ Some n
 here_by p n k m is passes = ap (λ (j : ℕ). find p (range_with_len n j)) is ∙ ap (λ (b : Bool). cond b (Some n) (find p (range_with_len (n + 1) m))) passes
 

@@ -3,7 +3,7 @@ ghost use Rattle.std.specs.Prelude.{◌≡◌, ◌+◌, ◌<◌, ◌^◌, length
 ghost use Rattle.lvm_name.specs.Names.{is_among};
 ghost use Rattle.group_ops.specs.NewGroup.{free_number, names_in, pv_name};
 
-use lvm_name::VolumeName;
+use lvm_name::{NameRefusal, VolumeName};
 use meta_model::{LvTable, PvTable};
 use std::alloc::{AllocError, Global};
 
@@ -49,6 +49,7 @@ fn pv_name(alloc: Global, number: u64) -> Result<VolumeName, AllocError>
     let text = format!(in alloc; "pv{number}")?;
     match VolumeName::any(alloc, text.as_bytes()) {
         Ok(name) => Ok(name),
-        Err(_) => Err(AllocError),
+        Err(NameRefusal::NoMemory) => Err(AllocError),
+        Err(_) => unreachable!(),
     }
 }

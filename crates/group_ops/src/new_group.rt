@@ -11,7 +11,7 @@ ghost use Rattle.group_ops.specs.Planning.{Plans};
 use crate::judging::{judge_text, set_of};
 use crate::naming::free_name;
 use crate::{Added, Change, GroupState, Labels, NewLabel, PlanRefusal};
-use meta_model::{Group, LvTable, PvTable};
+use meta_model::{Group, LvTable, PushRefusal, PvTable};
 use meta_print::printed_len;
 use pv_header::PvHeader;
 use sector_base::{ItemList, PvDisks};
@@ -125,8 +125,10 @@ fn push_all(
     for added in all {
         let name = free_name(alloc, pvs, lvs)?;
         let pv = added.pv(alloc, extent_size)?;
-        if pvs.push(name, pv).is_err() {
-            return Err(AllocError);
+        match pvs.push(name, pv) {
+            Ok(()) => {}
+            Err(PushRefusal::NoMemory) => return Err(AllocError),
+            Err(PushRefusal::Taken(_)) => unreachable!(),
         }
     }
     Ok(())
