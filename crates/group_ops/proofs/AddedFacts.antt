@@ -30,6 +30,8 @@ use Rattle.group_ops.specs.declared.state.GroupState.{GroupState}
 pub record IsFoundOn (state : GroupState) (added : Added) : Type 0 where
   pub is : IsAdded added
   pub has : HasHeader state.disks added.disk added.header
+  pub sectors : added.sectors ≡ has.disk.sectors
+  pub lie : CanLie added.header.data_areas added.header.areas (added.sectors * 512)
   pub id : IsId added.header.id
   pub content : IsContent added.name
 
@@ -96,6 +98,8 @@ found_with state is name number disk label header named there stands =
         ends = data_ends header.data_areas header.areas disk.sectors good.lie;
       };
       has = record { disk = disk; there = there; is = good.is };
+      sectors = refl;
+      lie = good.lie;
       id = good.id;
       content = disk_name-content name named;
     }

@@ -15,3 +15,6 @@ pub mod Accepted
 pub mod Chained
 pub mod WholeState
 pub mod StateFacts
+pub mod DataApart
+pub mod PlacedVolumes
+pub mod Examples

@@ -1,9 +1,15 @@
--- Laws of what lines are judged against.
-use Rattle.std.specs.Prelude.{◌≡◌, ℕ, true, List, length, All}
+-- Laws of what lines are judged against, and of what they give.
+use Rattle.std.specs.Prelude.{◌≡◌, ℕ, true, List, length, Option, None, All, IfSome}
 use Rattle.lvm_script.specs.Values.{is_disk_name}
+use Rattle.lvm_script.specs.declared.line.Line.{Line}
+use Rattle.meta_model.specs.declared.group.Group.{Group}
+use Rattle.scan_rules.specs.Decision.{first_misplaced}
+use Rattle.vg_found.specs.declared.disk.Disk.{Disk}
+use Rattle.vg_found.specs.Disks.{shapes}
 use Rattle.vg_found.specs.Shape.{HasShape}
 use Rattle.vg_found.specs.Whole.{IsWhole}
 use Rattle.vg_found.specs.declared.found.Found.{Found}
+use Rattle.group_ops.specs.Planning.{change_of}
 use Rattle.group_ops.specs.State.{IsState}
 use Rattle.group_ops.specs.declared.state.GroupState.{GroupState}
 
@@ -15,3 +21,12 @@ state_in found names = record { group = found.group; disks = found.disks; names 
 abbrev pub WholeIsState : Type 0
 WholeIsState =
     (found : Found) (names : List (List ℕ)) → HasShape found → IsWhole found → length names ≡ length found.disks → All (λ name. is_disk_name name ≡ true) names → IsState (state_in found names)
+
+-- the extents of each physical volume of the group, where there is one, lie in its disk, and meet neither sectors 0 to 7 nor
+-- a metadata area
+abbrev pub ArePlaced : List Disk → Option Group → Type 0
+ArePlaced disks group = IfSome group (λ g. first_misplaced g (shapes disks) ≡ None)
+
+-- where those of the group in force do, those of the group that a line gives do
+abbrev pub ChangeIsPlaced : Type 0
+ChangeIsPlaced = (state : GroupState) (line : Line) → IsState state → ArePlaced state.disks state.group → ArePlaced state.disks (change_of state line).group

@@ -19,7 +19,7 @@ mod vgcreate;
 mod vgextend;
 
 pub use added::Added;
-pub use laws::whole_is_state;
+pub use laws::{change_is_placed, whole_is_state};
 pub use planning::plan;
 pub use refusal::PlanRefusal;
 pub use state::{Change, GroupState, Labels, NewLabel};
