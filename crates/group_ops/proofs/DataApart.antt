@@ -1,12 +1,12 @@
 -- The data of a physical volume share no sector with its metadata areas.
-use Rattle.std.proofs.Common.{◌≡◌, ◌≤◌, ◌<◌, ◌⊎◌, ℕ, zero, suc, ◌+◌, ◌*◌, ◌/◌, ◌%◌, Bool, true, false, not, ◌||◌, ◌==◌, cond, eqb, ltb, min, max, List, [], ◌∷◌, ◌++◌, length, get_or, map, Option, Some, None, inl, inr, ⊎_elim, ◌&&◌, refl, sym, ap, subst, ◌∙◌, get_or-append-add, length-append, arith}
+use Rattle.std.proofs.Common.{◌≡◌, ◌≤◌, ◌<◌, ◌⊎◌, ℕ, suc, ◌+◌, ◌*◌, ◌/◌, ◌%◌, Bool, true, false, not, ◌==◌, cond, eqb, ltb, min, max, List, [], ◌∷◌, ◌++◌, length, get_or, map, Option, Some, None, inl, inr, ⊎_elim, ◌&&◌, refl, sym, ap, subst, ◌∙◌, get_or-append-add, length-append, arith}
 use Rattle.std.specs.Prelude.{All, AllPairs, filter, find, unwrap_or}
 use Rattle.std.specs.List.{AllByRecursion as Each, fold, reduce}
 use Rattle.std.specs.Option.{option_or}
 use Rattle.std.proofs.lemmas.Bool.{and_parts, cases_lt, cases_order, eqb-true, ltb-false, ltb-true, not-true, or_cases}
 use Rattle.std.proofs.lemmas.Bool.Decides.{nat_tests}
 use Rattle.std.proofs.lemmas.List.{get_or_default}
-use Rattle.std.proofs.lemmas.List.Elements.{All-cons, All-from_recursion, All-nil, All-tail, recursion_from_All}
+use Rattle.std.proofs.lemmas.List.Elements.{All-cons, All-from_recursion, All-nil, recursion_from_All}
 use Rattle.std.proofs.lemmas.List.Folds.{find-append}
 use Rattle.std.proofs.lemmas.List.Kept.{AllPairs-cons}
 use Rattle.pv_header.proofs.Overlaps.{All-from_find}

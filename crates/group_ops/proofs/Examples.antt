@@ -24,7 +24,6 @@ use Rattle.group_ops.specs.Planning.{change_of}
 use Rattle.group_ops.specs.Pvcreate.{new_header}
 use Rattle.group_ops.specs.Vgcreate.{empty_group}
 use Rattle.group_ops.specs.declared.state.GroupState.{GroupState}
-use Rattle.group_ops.specs.declared.state.NewLabel.{NewLabel}
 
 abbrev extent : ℕ → ℕ → Extent
 extent offset size = record { offset = offset; size = size }

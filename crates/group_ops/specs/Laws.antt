@@ -27,6 +27,6 @@ WholeIsState =
 abbrev pub ArePlaced : List Disk → Option Group → Type 0
 ArePlaced disks group = IfSome group (λ g. first_misplaced g (shapes disks) ≡ None)
 
--- where those of the group in force do, those of the group that a line gives do
+-- where the physical volumes of the group in force are placed so, those of the group that a line gives are
 abbrev pub ChangeIsPlaced : Type 0
 ChangeIsPlaced = (state : GroupState) (line : Line) → IsState state → ArePlaced state.disks state.group → ArePlaced state.disks (change_of state line).group
