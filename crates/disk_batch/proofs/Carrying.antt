@@ -46,7 +46,7 @@ abbrev pub submissions : List Operation → List Step
 submissions [] = []
 submissions (o ∷ os) = submissions os ++ Submitted o.tag o.work ∷ []
 
-submitted_steps : (os : List Operation) (told : Told) → submitted_on os told ≡ steps_on (submissions os) told
+pub submitted_steps : (os : List Operation) (told : Told) → submitted_on os told ≡ steps_on (submissions os) told
 submitted_steps [] told = refl
 submitted_steps (o ∷ os) told =
     submitted_steps os (step_on (Submitted o.tag o.work) told)

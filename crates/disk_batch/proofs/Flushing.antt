@@ -13,7 +13,7 @@ use Rattle.disk_model.specs.InFlight.{IsAmong, IsForeign}
 use Rattle.disk_model.proofs.InFlight.{is_among-filter, completes_its_own, in_flight_on, in_flight_left, in_flight_submitted, in_flight_new}
 
 -- what was flushed was so after one step more
-flushed_on : (from pv : ℕ) (step : Step) (steps : List Step) → HasFlushedSince from pv steps → HasFlushedSince from pv (step ∷ steps)
+pub flushed_on : (from pv : ℕ) (step : Step) (steps : List Step) → HasFlushedSince from pv steps → HasFlushedSince from pv (step ∷ steps)
 flushed_on from pv (Submitted tag work) steps h = h
 flushed_on from pv (Completed tag (Reading span) well fresh) steps h = h
 flushed_on from pv (Completed tag (Writing span sectors) well fresh) steps h = h

@@ -17,3 +17,6 @@ pub mod OneTurn
 pub mod InTurn
 pub mod FrontBatches
 pub mod TurningBatches
+pub mod Along
+pub mod Elsewhere
+pub mod FlushedStates

@@ -8,5 +8,6 @@ pub mod Rounds
 pub mod Flushed
 pub mod Faults
 pub mod Laws
+pub mod Along
 pub mod Alone
 pub mod InTurn
