@@ -8,10 +8,9 @@ use Rattle.mda_header.specs.Header.{IsInside}
 use Rattle.mda_ring.specs.declared.area.Area.{Area}
 use Rattle.mda_ring.specs.Areas.{CanTake, IsArea}
 use Rattle.mda_ring.specs.Texts.{text_byte}
-use Rattle.vg_commit.specs.AloneCommit.{AllShow}
-use Rattle.vg_commit.specs.SectorReading.{Reading, Reads, ShowsBy, old_reading}
+use Rattle.vg_commit.specs.SectorReading.{AllShow, AreSized, IsSized, Reading, Reads, ShowsBy, old_reading}
 use Rattle.vg_commit.specs.Showing.{Names, sectors_of}
-use Rattle.vg_commit.proofs.ShownSectors.{AreSized, IsSized, reads_shows, shows_reads}
+use Rattle.vg_commit.proofs.ShownSectors.{reads_shows, shows_reads}
 use Rattle.vg_change.specs.Laws.{ShowsEntries, text_in}
 
 -- an area shows its entry, and the bytes that stand there

@@ -16,12 +16,10 @@ use Rattle.mda_ring.specs.Areas.{CanTake}
 use Rattle.mda_ring.proofs.SpanLaws.{covers_tells}
 use Rattle.meta_model.specs.declared.group.Group.{Group}
 use Rattle.meta_print.specs.Layout.{tree_of}
-use Rattle.vg_commit.specs.AloneCommit.{AllShow}
 use Rattle.vg_commit.specs.Plans.{HeadersRead}
-use Rattle.vg_commit.specs.SectorReading.{Reading, ShowsBy, new_reading, old_reading}
+use Rattle.vg_commit.specs.SectorReading.{AllShow, AreSized, Reading, ShowsBy, new_reading, old_reading}
 use Rattle.vg_commit.specs.Written.{area_span, area_writes, headers_of, publish_of, texts_of}
 use Rattle.vg_commit.proofs.CommitImages.{commit_keeps, commit_shows, commit_shown}
-use Rattle.vg_commit.proofs.ShownSectors.{AreSized}
 use Rattle.group_ops.specs.Judging.{lies_on, set_of}
 use Rattle.group_ops.specs.declared.state.Change.{Change}
 use Rattle.group_ops.specs.declared.state.NewLabel.{NewLabel}

@@ -1,9 +1,8 @@
 -- What is written to one area.
-use Rattle.std.proofs.Common.{◌≡◌, ◌≤◌, ◌<◌, ◌⊎◌, ℕ, ◌+◌, ◌-◌, ◌*◌, ◌/◌, ◌%◌, min, Bool, true, false, ◌||◌, cond, nat_lt, IsTrue, List, [], ◌∷◌, ◌++◌, length, take, drop, map, get_or, Option, None, Some, IfSome, inl, inr, refl, sym, ap, subst, ◌∙◌, arith}
-use Rattle.std.proofs.lemmas.Bool.{ltb-true, ltb-false, or_left, or_right, cond-true, cond-false}
+use Rattle.std.proofs.Common.{◌≡◌, ◌≤◌, ◌<◌, ◌⊎◌, ℕ, ◌+◌, ◌-◌, ◌*◌, ◌/◌, ◌%◌, min, Bool, true, false, ◌||◌, cond, nat_lt, IsTrue, List, [], length, take, drop, get_or, Option, None, Some, IfSome, inl, inr, refl, sym, ap, ◌∙◌, arith}
+use Rattle.std.proofs.lemmas.Bool.{ltb-true, ltb-false}
 use Rattle.std.proofs.lemmas.List.{get_or-drop, get_or-take}
 use Rattle.std.proofs.lemmas.List.FromFn.{get_or-map-range_with_len}
-use Rattle.std.specs.List.{range_with_len}
 use Rattle.sector_base.specs.declared.spans.Span.{Span}
 use Rattle.sector_base.specs.Spans.{covers}
 use Rattle.disk_model.specs.Steps.{value_at}
@@ -16,13 +15,13 @@ use Rattle.mda_ring.specs.declared.place.Place.{Place}
 use Rattle.mda_ring.specs.Areas.{CanTake, IsArea}
 use Rattle.mda_ring.specs.NextPlace.{IsApart, IsInRing, IsNext}
 use Rattle.mda_ring.specs.Ring.{Touches, byte_place, need, next_offset, room, touched_count}
-use Rattle.mda_ring.specs.RingSpans.{IsTouched, ring_spans, sectors_to_end, span_of_area, spans_cover}
+use Rattle.mda_ring.specs.RingSpans.{IsTouched, sectors_to_end, span_of_area}
 use Rattle.mda_ring.specs.Texts.{text_sector, text_sectors}
 use Rattle.mda_ring.proofs.NextPlace.{apart, in_ring}
 use Rattle.mda_ring.proofs.RingPlaces.{byte_place-cases}
 use Rattle.mda_ring.proofs.SpanLaws.{cover_ahead, cover_round, covers_from, covers_tells}
 use Rattle.mda_ring.proofs.TextBytes.{get_or-text_sector, get_or-with_zero, length-with_zero}
-use Rattle.vg_commit.specs.Written.{area_span, new_entry, puts_on, rest_put, stored, text_puts}
+use Rattle.vg_commit.specs.Written.{area_span, new_entry, rest_put, stored, text_puts}
 use Rattle.vg_commit.specs.SectorReading.{HasPart, Reads}
 use Rattle.vg_commit.specs.Commits.{written_at}
 

@@ -1,5 +1,5 @@
 -- The three batches of a list of areas make a commit.
-use Rattle.std.proofs.Common.{◌≡◌, ◌≢◌, ◌≤◌, ◌<◌, ◌⊎◌, ℕ, zero, suc, ◌+◌, ◌-◌, ◌*◌, ◌/◌, ◌%◌, Bool, true, false, ◌||◌, cond, nat_lt, IsTrue, List, [], ◌∷◌, ◌++◌, length, map, get_or, Option, None, Some, IfSome, inl, inr, ⊎_elim, refl, sym, ap, subst, ◌∙◌, arith}
+use Rattle.std.proofs.Common.{◌≡◌, ◌≤◌, ◌<◌, ◌⊎◌, ℕ, zero, suc, ◌+◌, ◌-◌, ◌/◌, ◌%◌, Bool, true, false, ◌||◌, cond, nat_lt, IsTrue, List, [], ◌∷◌, ◌++◌, length, map, get_or, Option, None, Some, inl, inr, ⊎_elim, refl, sym, ap, subst, ◌∙◌, arith}
 use Rattle.std.specs.Prelude.{All, AllPairs}
 use Rattle.std.proofs.lemmas.Bool.{cases_lt, ltb-false, true≢false, or_left, or_right}
 use Rattle.std.proofs.lemmas.List.Elements.{All-nil, All-cons}
@@ -9,14 +9,13 @@ use Rattle.disk_model.specs.Steps.{value_at}
 use Rattle.disk_model.specs.InFlight.{IsAmong}
 use Rattle.disk_batch.specs.Writes.{IsWrittenBy}
 use Rattle.mda_header.specs.declared.header.Locn.{Locn}
-use Rattle.mda_header.specs.declared.header.MdaHeader.{MdaHeader}
 use Rattle.mda_header.specs.Header.{IsHeader, IsInside}
 use Rattle.mda_header.specs.HeaderBytes.{header_bytes}
 use Rattle.mda_ring.specs.declared.area.Area.{Area}
 use Rattle.mda_ring.specs.Areas.{CanTake, IsArea, LieApart}
-use Rattle.mda_ring.specs.Ring.{byte_place, need, room}
+use Rattle.mda_ring.specs.Ring.{need, room}
 use Rattle.mda_ring.proofs.SpanLaws.{covers_from, covers_tells}
-use Rattle.vg_commit.specs.Written.{AreaWrites, area_span, area_writes, header_after, header_before, header_of, header_span, headers_of, new_entry, publish_of, stored, text_puts, texts_of}
+use Rattle.vg_commit.specs.Written.{area_span, area_writes, header_after, header_before, header_of, header_span, headers_of, new_entry, publish_of, stored, text_puts, texts_of}
 use Rattle.vg_commit.specs.TooLarge.{first_too_large}
 use Rattle.vg_commit.specs.Showing.{Names}
 use Rattle.vg_commit.specs.SectorReading.{AllRead, HasPart, Reads, new_reading, old_reading}

@@ -1,5 +1,5 @@
 -- What areas show in an image on the way of the three batches of a commit, and once all are written.
-use Rattle.std.proofs.Common.{◌≡◌, ◌≤◌, ◌<◌, ℕ, ◌+◌, ◌-◌, ◌/◌, Bool, true, false, List, [], ◌∷◌, map, get_or, Option, None, inl, ⊎_elim, refl, sym, subst, ◌∙◌, arith}
+use Rattle.std.proofs.Common.{◌≡◌, ◌≤◌, ◌<◌, ℕ, ◌+◌, ◌-◌, ◌/◌, Bool, false, List, [], ◌∷◌, map, get_or, Option, None, inl, ⊎_elim, refl, sym, subst, ◌∙◌, arith}
 use Rattle.std.specs.Prelude.{All}
 use Rattle.std.specs.Ordering.{nat_cmp}
 use Rattle.std.specs.FinSet.{FinSet}
@@ -15,17 +15,16 @@ use Rattle.mda_ring.specs.declared.area.Area.{Area}
 use Rattle.mda_ring.specs.Areas.{CanTake}
 use Rattle.mda_ring.proofs.SpanLaws.{covers_tells}
 use Rattle.vg_commit.specs.Written.{area_span, area_writes, headers_of, publish_of, texts_of}
-use Rattle.vg_commit.specs.SectorReading.{AllRead, Reading, Reads, new_reading, old_reading}
+use Rattle.vg_commit.specs.SectorReading.{AllRead, AllShow, AreSized, EachShows, Reading, Reads, new_reading, old_reading}
 use Rattle.vg_commit.specs.Commits.{MakeCommit, Published, written_at}
 use Rattle.vg_commit.specs.Plans.{HeadersRead}
 use Rattle.vg_commit.specs.Preparing.{AreCommitted, area_disks}
 use Rattle.vg_commit.specs.TooLarge.{first_too_large}
-use Rattle.vg_commit.specs.AloneCommit.{AllShow, EachShows}
 use Rattle.vg_commit.proofs.AreaPuts.{entry_inside, is_placed}
 use Rattle.vg_commit.proofs.AreasCommit.{header_area, make_commit, one_header, publish_area, rooms, text_area}
 use Rattle.vg_commit.proofs.CommitInTurn.{all_new, in_turn}
 use Rattle.vg_commit.proofs.Disks.{headers_on, texts_on}
-use Rattle.vg_commit.proofs.ShownSectors.{AreSized, HasOneHeader, image_shows, images_show_either, shows_reads}
+use Rattle.vg_commit.proofs.ShownSectors.{HasOneHeader, image_shows, images_show_either, shows_reads}
 
 -- what an image shows is read in each of its sectors
 pub image_reads : (reading : Reading) (areas : List (Area × Option Locn)) (image : Image) → AllShow reading areas image → (pv sector : ℕ) → AllRead reading areas pv sector (image pv sector)

@@ -1,10 +1,8 @@
 -- What the three batches of a commit leave in each sector of an image, where they are carried out in turn.
-use Rattle.std.proofs.Common.{◌≡◌, ◌≤◌, ◌⊎◌, ℕ, zero, suc, Bool, true, false, IsTrue, List, [], ◌∷◌, take, inl, inr, ⊎_elim, sym, ap, subst, ◌∙◌, arith}
+use Rattle.std.proofs.Common.{◌≡◌, ◌≤◌, ◌⊎◌, ℕ, zero, suc, Bool, true, false, List, [], ◌∷◌, take, inl, inr, ⊎_elim, sym, ap, subst, ◌∙◌, arith}
 use Rattle.std.proofs.lemmas.List.{take_all}
-use Rattle.sector_base.specs.declared.spans.Span.{Span}
 use Rattle.disk_model.specs.Steps.{Image}
 use Rattle.disk_batch.specs.InTurn.{HasFirstBatches, Put, with_batches, with_writes}
-use Rattle.disk_batch.specs.Writes.{IsWrittenBy}
 use Rattle.disk_batch.proofs.WritesOnImages.{written_at, written_or_kept}
 use Rattle.vg_commit.specs.Commits.{MakeCommit, Published, WithTexts, written_at as is_written}
 

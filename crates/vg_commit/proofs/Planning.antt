@@ -10,7 +10,6 @@ use Rattle.sector_base.specs.Checksum.{checksum}
 use Rattle.sector_base.specs.declared.checksum.TheConstants.{LVM_CRC_START}
 use Rattle.sector_base.specs.declared.spans.Span.{Span}
 use Rattle.disk_model.specs.Operations.{IsWithin}
-use Rattle.disk_batch.specs.Batches.{disks_of, writes_of}
 use Rattle.disk_batch.specs.Writes.{LieIn, disks_in}
 use Rattle.mda_header.specs.declared.header.Locn.{Locn}
 use Rattle.mda_header.specs.Header.{IsHeader, IsInside}
@@ -29,7 +28,7 @@ use Rattle.vg_commit.specs.declared.refusal.CommitRefusal.TheVariants.{NoMemory,
 use Rattle.vg_commit.specs.Written.{area_span, area_writes, header_after, header_before, header_of, header_span, headers_of, new_entry, publish_of, puts_on, stored, text_puts, texts_of, with_entries}
 use Rattle.vg_commit.specs.TooLarge.{IsCause, first_too_large}
 use Rattle.vg_commit.specs.Plans.{Adds, HeadersRead, IsPlan}
-use Rattle.vg_commit.specs.Preparing.{AreCommitted, AreWithin, CanRun, CanStart, HasBatches, IsOnDiskOf, IsPrepared, area_disks}
+use Rattle.vg_commit.specs.Preparing.{AreCommitted, AreWithin, CanStart, HasBatches, IsOnDiskOf, IsPrepared, area_disks}
 use Rattle.vg_commit.proofs.AreaPuts.{IsPlaced, entry_inside, is_placed, touched_is}
 use Rattle.vg_commit.proofs.AreasCommit.{rooms}
 use Rattle.vg_commit.proofs.Disks.{area_disks_too}

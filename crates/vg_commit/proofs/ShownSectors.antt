@@ -1,13 +1,11 @@
 -- What an area shows in an image is what each of its sectors reads as.
-use Rattle.std.proofs.Common.{◌≡◌, ◌≤◌, ◌<◌, ◌⊎◌, ℕ, ◌+◌, ◌-◌, ◌*◌, ◌/◌, ◌%◌, Bool, true, false, IsTrue, List, length, map, get_or, Option, None, Some, IfSome, inl, inr, refl, sym, ap, subst, ◌∙◌, arith}
+use Rattle.std.proofs.Common.{◌≡◌, ◌≤◌, ◌<◌, ◌⊎◌, ℕ, ◌+◌, ◌-◌, ◌/◌, ◌%◌, Bool, true, false, IsTrue, List, length, get_or, Option, None, Some, IfSome, inl, inr, refl, sym, ap, subst, ◌∙◌, arith}
 use Rattle.std.specs.Prelude.{All}
-use Rattle.std.specs.List.{range_with_len}
 use Rattle.std.proofs.Math.Nat.{mod-lt}
 use Rattle.std.proofs.lemmas.List.FromFn.{fill_by_all, get_or-map-range_with_len, length-map-range_with_len}
 use Rattle.sector_base.specs.Spans.{covers}
 use Rattle.disk_model.specs.Steps.{Image, Told, now_after}
 use Rattle.disk_model.specs.Record.{IsRecord}
-use Rattle.disk_model.specs.CrashValues.{IsImage}
 use Rattle.disk_model.specs.Durability.{EachOnlyLeaves}
 use Rattle.disk_model.specs.Moments.{EachImage}
 use Rattle.disk_model.proofs.NowStands.{now_image}
@@ -17,12 +15,11 @@ use Rattle.mda_header.specs.Header.{IsInside}
 use Rattle.mda_ring.specs.declared.area.Area.{Area}
 use Rattle.mda_ring.specs.Areas.{CanTake, IsArea}
 use Rattle.mda_ring.specs.Ring.{byte_place}
-use Rattle.mda_ring.specs.Texts.{text_at, text_byte}
+use Rattle.mda_ring.specs.Texts.{text_byte}
 use Rattle.mda_ring.proofs.SpanLaws.{covers_from, covers_tells}
 use Rattle.vg_commit.specs.Written.{area_span}
 use Rattle.vg_commit.specs.Showing.{Names, Shows, sectors_of}
-use Rattle.vg_commit.specs.SectorReading.{AllRead, Reading, Reads, ShowsBy}
-use Rattle.vg_commit.specs.AloneCommit.{AllShow, EachShows}
+use Rattle.vg_commit.specs.SectorReading.{AllRead, AllShow, AreSized, EachShows, IsSized, Reading, Reads, ShowsBy}
 use Rattle.vg_commit.specs.Commits.{Published}
 
 -- what is shown is read in each sector
@@ -35,10 +32,6 @@ shows_reads area (Some locn) bytes image s sector = record {
       ∙ sym (get_or-map-range_with_len (text_byte (sectors_of area image) area.size locn.offset) 0 locn.size j j 0 within (omega arith))
       ∙ ap (λ (l : List ℕ). get_or l j 0) s.ring;
 }
-
--- where a reading has an entry, it lies in the area, and the bytes are as many as it says
-abbrev pub IsSized : Area → Option Locn → List ℕ → Type 0
-IsSized area entry bytes = IfSome entry (λ (locn : Locn). IsInside area.size locn × (length bytes ≡ locn.size))
 
 -- what is read in each sector is shown
 pub reads_shows : (area : Area) (entry : Option Locn) (bytes : List ℕ) (image : Image) → IsArea area → IsSized area entry bytes → ((sector : ℕ) → sector < area.size / 512 → Reads area entry bytes sector (sectors_of area image sector)) → Shows area entry bytes image
@@ -54,10 +47,6 @@ reads_shows area (Some locn) bytes image good sized reads =
           let below : (locn.offset - 512 + k) % (area.size - 512) < area.size - 512 = mod-lt (locn.offset - 512 + k) (omega arith) in
           sym ((reads (byte_place area.size locn.offset k / 512) (omega arith)).ring k within refl)));
     }
-
--- each entry is sized
-abbrev pub AreSized : Reading → List (Area × Option Locn) → Type 0
-AreSized reading areas = All (λ (a : Area × Option Locn). IsSized a.0 (reading a).0 (reading a).1) areas
 
 -- what every image shows is read in each sector, whatever a crash leaves
 pub images_read : (reading : Reading) (areas : List (Area × Option Locn)) (told : Told) → IsRecord told.steps → EachImage (AllShow reading areas) told → EachOnlyLeaves (AllRead reading areas) told

@@ -1,10 +1,7 @@
 -- Committing by three batches: the texts to free sectors; then each header, with the old entry in force; then each header,
 -- with the new one. A reading is what it asks of the value of each single sector.
-use Rattle.std.specs.Prelude.{◌≡◌, ◌≤◌, ◌⊎◌, ℕ, Bool, false, IsTrue, List, length, map}
+use Rattle.std.specs.Prelude.{◌≡◌, ◌⊎◌, ℕ, Bool, false, IsTrue, List, map}
 use Rattle.sector_base.specs.declared.spans.Span.{Span}
-use Rattle.disk_model.specs.Steps.{Told}
-use Rattle.disk_model.specs.Durability.{EachOnlyLeaves}
-use Rattle.disk_model.specs.Moments.{Throughout}
 use Rattle.disk_model.specs.Submitting.{writes_at}
 use Rattle.disk_model.specs.InFlight.{IsAmong}
 use Rattle.disk_batch.specs.Writes.{IsWrittenBy, write_work}
@@ -33,11 +30,3 @@ pub record MakeCommit (Old New : ℕ → ℕ → List ℕ → Type 0) (texts hea
   pub rest : (pv sector : ℕ) (value : List ℕ) → written_at headers pv sector ≡ false → written_at texts pv sector ≡ false → New pv sector value
   pub texts_flushed : (pv sector : ℕ) → IsTrue (written_at texts pv sector) → IsAmong text_disks pv
   pub headers_flushed : (pv sector : ℕ) → IsTrue (written_at headers pv sector) → IsAmong publish_disks pv
-
--- up to a moment a crash leaves the old reading in each sector, and from then on of each header the old or the new one
--- and of other sectors both
-pub record StaysWhole (header : ℕ → ℕ → Bool) (Old New : ℕ → ℕ → List ℕ → Type 0) (from publish : ℕ) (told : Told) : Type 0 where
-  pub since : from ≤ publish
-  pub among : publish ≤ length told.steps
-  pub until_then : Throughout from publish told (EachOnlyLeaves Old)
-  pub from_then : Throughout publish (length told.steps) told (EachOnlyLeaves (Published header Old New))

@@ -6,4 +6,6 @@ pub mod SectorReading
 pub mod Commits
 pub mod Plans
 pub mod Preparing
-pub mod AloneCommit
+pub mod Phases
+pub mod CommitHolds
+pub mod Laws

@@ -1,8 +1,9 @@
 -- What an area shows, as what it asks of the value of each single sector.
-use Rattle.std.specs.Prelude.{◌≡◌, ◌<◌, ℕ, ◌-◌, ◌/◌, ◌%◌, IsTrue, List, slice_index, All, Option, None, Some}
+use Rattle.std.specs.Prelude.{◌≡◌, ◌<◌, ◌⊎◌, ℕ, ◌-◌, ◌/◌, ◌%◌, IsTrue, List, slice_index, length, All, Option, None, Some, IfSome}
 use Rattle.sector_base.specs.Spans.{covers}
 use Rattle.disk_model.specs.Steps.{Image}
 use Rattle.mda_header.specs.declared.header.Locn.{Locn}
+use Rattle.mda_header.specs.Header.{IsInside}
 use Rattle.mda_ring.specs.declared.area.Area.{Area}
 use Rattle.mda_ring.specs.Ring.{byte_place}
 use Rattle.vg_commit.specs.Written.{area_span, new_entry, stored}
@@ -41,3 +42,19 @@ AllRead reading areas pv sector value = All (ReadsAt reading pv sector value) ar
 -- the area shows what the reading says
 abbrev pub ShowsBy : Reading → Image → Area × Option Locn → Type 0
 ShowsBy reading image area = Shows area.0 (reading area).0 (reading area).1 image
+
+-- each area shows what the reading says
+abbrev pub AllShow : Reading → List (Area × Option Locn) → Image → Type 0
+AllShow reading areas image = All (ShowsBy reading image) areas
+
+-- each area shows, whole, what one of the readings says
+abbrev pub EachShows : (old new : Reading) → List (Area × Option Locn) → Image → Type 0
+EachShows old new areas image = All (λ (area : Area × Option Locn). ShowsBy old image area ⊎ ShowsBy new image area) areas
+
+-- where a reading has an entry, it lies in the area, and the bytes are as many as it says
+abbrev pub IsSized : Area → Option Locn → List ℕ → Type 0
+IsSized area entry bytes = IfSome entry (λ (locn : Locn). IsInside area.size locn × (length bytes ≡ locn.size))
+
+-- each entry is sized
+abbrev pub AreSized : Reading → List (Area × Option Locn) → Type 0
+AreSized reading areas = All (λ (a : Area × Option Locn). IsSized a.0 (reading a).0 (reading a).1) areas

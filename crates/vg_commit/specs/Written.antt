@@ -1,9 +1,10 @@
 -- What a commit writes to a metadata area of lvm2's on-disk format: the text into free sectors of its ring, and its header
 -- twice.
-use Rattle.std.specs.Prelude.{ℕ, ◌+◌, ◌/◌, false, List, [], ◌∷◌, ◌++◌, take, drop, map, length, Option, None, Some}
+use Rattle.std.specs.Prelude.{ℕ, ◌+◌, ◌/◌, Bool, false, ◌||◌, List, [], ◌∷◌, ◌++◌, take, drop, map, length, Option, None, Some}
 use Rattle.sector_base.specs.Checksum.{checksum}
 use Rattle.sector_base.specs.declared.checksum.TheConstants.{LVM_CRC_START}
 use Rattle.sector_base.specs.declared.spans.Span.{Span}
+use Rattle.sector_base.specs.Spans.{covers}
 use Rattle.mda_header.specs.declared.header.Locn.{Locn}
 use Rattle.mda_header.specs.declared.header.MdaHeader.{MdaHeader}
 use Rattle.mda_header.specs.HeaderBytes.{header_bytes}
@@ -43,6 +44,11 @@ header_span area = record { pv = area.pv; first = area.start / 512; count = 1 }
 -- the span of all sectors of the area
 abbrev pub area_span : Area → Span
 area_span area = record { pv = area.pv; first = area.start / 512; count = area.size / 512 }
+
+-- whether the sector of this disk is one of the areas
+abbrev pub in_areas : List (Area × Option Locn) → ℕ → ℕ → Bool
+in_areas [] pv sector = false
+in_areas (area ∷ areas) pv sector = covers (area_span area.0) pv sector || in_areas areas pv sector
 
 -- the second span, if there is one, with these sectors
 abbrev pub rest_put : Option Span → List (List ℕ) → List (Span × List (List ℕ))

@@ -1,0 +1,137 @@
+-- The laws of a commit on its way, call by call and beside whatever else is in flight.
+use Rattle.std.specs.Prelude.{◌≡◌, ℕ, false, IsTrue, List, Option, IfSome}
+use Rattle.std.specs.Ordering.{nat_cmp}
+use Rattle.std.specs.FinSet as set
+use Rattle.disk_model.specs.declared.ops.Done.{Done}
+use Rattle.disk_model.specs.declared.ops.Op.{Op}
+use Rattle.disk_model.specs.Brought.{writes}
+use Rattle.disk_model.specs.Calls.{Completes, Submits}
+use Rattle.disk_model.specs.InFlight.{IsAmong}
+use Rattle.disk_model.specs.Moments.{EachImage}
+use Rattle.disk_model.specs.Operations.{work_of}
+use Rattle.disk_model.specs.State.{IsLawful, State}
+use Rattle.disk_model.specs.Steps.{Told, Work}
+use Rattle.disk_model.specs.Submitting.{writes_at}
+use Rattle.disk_batch.specs.Along.{AllAlong, GoesElsewhere}
+use Rattle.disk_batch.specs.Rounds.{AreStill}
+use Rattle.disk_batch.specs.Submits.{SubmitsWorks}
+use Rattle.mda_header.specs.declared.header.Locn.{Locn}
+use Rattle.mda_ring.specs.declared.area.Area.{Area}
+use Rattle.vg_commit.specs.declared.committed.Committed.{Committed}
+use Rattle.vg_commit.specs.declared.committing.ComStep.{ComStep}
+use Rattle.vg_commit.specs.declared.precommitting.PreStep.{PreStep}
+use Rattle.vg_commit.specs.declared.prepared.Prepared.{Prepared}
+use Rattle.vg_commit.specs.CommitHolds.{ComCame, ComHolds, Commit, FailedHolds, HaveFlushed, IsEither, IsOld, IsSound, PreCame, PreHolds, ReadyHolds, WholeHolds, is_header, is_own, is_text, publish_in}
+use Rattle.vg_commit.specs.Commits.{written_at}
+use Rattle.vg_commit.specs.Phases.{ComGoes, ComView, PreGoes, PreView, Publishes, ReadyView, StartsCommit}
+use Rattle.vg_commit.specs.Preparing.{IsPrepared}
+use Rattle.vg_commit.specs.SectorReading.{AllShow, EachShows, new_reading, old_reading}
+use Rattle.vg_commit.specs.Written.{in_areas}
+
+-- in every image each area shows its old entry and the bytes that stood there
+abbrev pub ShowsOld : Commit → Told → Type 0
+ShowsOld commit = EachImage (AllShow (old_reading commit.bytes) commit.areas)
+
+-- each by itself shows, whole, these or the new entry with the text
+abbrev pub ShowsEither : Commit → Told → Type 0
+ShowsEither commit = EachImage (EachShows (old_reading commit.bytes) (new_reading commit.text) commit.areas)
+
+-- each shows the new entry with the text
+abbrev pub ShowsNew : Commit → Told → Type 0
+ShowsNew commit = EachImage (AllShow (new_reading commit.text) commit.areas)
+
+-- the commit that begins in this state
+abbrev pub begun_in : State → List ℕ → List (Area × Option Locn) → (Area × Option Locn → List ℕ) → set.FinSet nat_cmp → Commit
+begun_in state text areas bytes flush = record { text = text; areas = areas; bytes = bytes; flush = flush; from = state.next_tag; faults = state.faults }
+
+-- ---- its own calls
+
+-- It begins where no write to an area is in flight and in every image each area shows its entry, and all images have the
+-- same bytes there.
+abbrev pub BeginsHolding : Type 0
+BeginsHolding = (prepared : Prepared) (text : List ℕ) (areas : List (Area × Option Locn)) (bytes : Area × Option Locn → List ℕ) (flush : set.FinSet nat_cmp) (old new : State) (view : PreView)
+    → IsLawful old → IsPrepared prepared areas flush text → StartsCommit old prepared view new
+    → IfSome old.told (λ told. EachImage (AllShow (old_reading bytes) areas) told × AreStill (in_areas areas) told)
+    → PreHolds (begun_in old text areas bytes flush) view new × AllAlong (ShowsOld (begun_in old text areas bytes flush)) old new
+
+-- at a completion of its own, well or not, it goes on so, and each area shows the old entry at each moment
+abbrev pub GoesHolding : Type 0
+GoesHolding = (commit : Commit) (before old new : State) (view : PreView) (done : Done) (step : PreStep) → IsLawful old → Completes before done old → PreGoes old view done step new
+    → PreHolds commit view before → PreCame commit step new × AllAlong (ShowsOld commit) before new
+
+-- it is published: from here on each area shows the old entry or the new one
+abbrev pub PublishesHolding : Type 0
+PublishesHolding = (commit : Commit) (old new : State) (ready : ReadyView) (view : ComView) → Publishes old ready view new
+    → ReadyHolds commit ready old → ComHolds commit view new × AllAlong (ShowsEither commit) old new
+
+-- and at a completion of its own it goes on so
+abbrev pub CommitsHolding : Type 0
+CommitsHolding = (commit : Commit) (before old new : State) (view : ComView) (done : Done) (step : ComStep) → IsLawful old → Completes before done old → ComGoes old view done step new
+    → ComHolds commit view before → ComCame commit step new × AllAlong (ShowsEither commit) before new
+
+-- ---- beside it
+
+-- what goes on elsewhere leaves it so
+abbrev pub PreElsewhere : Type 0
+PreElsewhere = (commit : Commit) (view : PreView) (old new : State) → GoesElsewhere (is_own commit) view.batch.tags old new
+    → PreHolds commit view old → PreHolds commit view new × AllAlong (ShowsOld commit) old new
+
+-- a commit that is ready too
+abbrev pub ReadyElsewhere : Type 0
+ReadyElsewhere = (commit : Commit) (view : ReadyView) (tags : List ℕ) (old new : State) → GoesElsewhere (is_own commit) tags old new
+    → ReadyHolds commit view old → ReadyHolds commit view new × AllAlong (ShowsOld commit) old new
+
+-- and one that is published
+abbrev pub ComElsewhere : Type 0
+ComElsewhere = (commit : Commit) (view : ComView) (old new : State) → GoesElsewhere (is_own commit) view.batch.tags old new
+    → ComHolds commit view old → ComHolds commit view new × AllAlong (ShowsEither commit) old new
+
+-- and one that is whole
+abbrev pub WholeElsewhere : Type 0
+WholeElsewhere = (commit : Commit) (committed : Committed) (tags : List ℕ) (old new : State) → GoesElsewhere (is_own commit) tags old new
+    → WholeHolds commit committed old → WholeHolds commit committed new × AllAlong (ShowsNew commit) old new
+
+-- the completion of another operation goes on elsewhere
+abbrev pub OthersComplete : Type 0
+OthersComplete = (commit : Commit) (tags : List ℕ) (old new : State) (done : Done) → (IsAmong tags done.tag → ⊥) → Completes old done new → GoesElsewhere (is_own commit) tags old new
+
+-- and the submission of one that writes none of the areas
+abbrev pub OthersSubmit : Type 0
+OthersSubmit = (commit : Commit) (tags : List ℕ) (old new : State) (op : Op) (tag : ℕ) → ((pv sector : ℕ) → IsTrue (is_own commit pv sector) → writes (work_of op) pv sector ≡ false)
+    → Submits old op tag new → GoesElsewhere (is_own commit) tags old new
+
+-- and that of many
+abbrev pub OthersSubmitAll : Type 0
+OthersSubmitAll = (commit : Commit) (tags : List ℕ) (old new : State) (works : List Work) (theirs : List ℕ) → ((pv sector : ℕ) → IsTrue (is_own commit pv sector) → writes_at works pv sector ≡ false)
+    → SubmitsWorks old works theirs new → GoesElsewhere (is_own commit) tags old new
+
+-- it writes sectors of its areas alone
+abbrev pub WritesItsAreas : Type 0
+WritesItsAreas = (commit : Commit) → IsSound commit → (pv sector : ℕ) → is_own commit pv sector ≡ false
+    → (is_text commit pv sector ≡ false) × (is_header commit pv sector ≡ false) × (written_at (publish_in commit) pv sector ≡ false)
+
+-- ---- what each image shows
+
+-- before it is published: the old entries
+abbrev pub PreShows : Type 0
+PreShows = (commit : Commit) (view : PreView) (state : State) → PreHolds commit view state → IfSome state.told (ShowsOld commit)
+
+-- once it is ready each disk has been flushed since it began, too
+abbrev pub ReadyShows : Type 0
+ReadyShows = (commit : Commit) (view : ReadyView) (state : State) → ReadyHolds commit view state → IfSome state.told (λ told. ShowsOld commit told × HaveFlushed commit told.steps)
+
+-- since it is published: the old entry or the new one in each area
+abbrev pub ComShows : Type 0
+ComShows = (commit : Commit) (view : ComView) (state : State) → ComHolds commit view state → IfSome state.told (λ told. ShowsEither commit told × HaveFlushed commit told.steps)
+
+-- once it is whole: the new one in all
+abbrev pub WholeShows : Type 0
+WholeShows = (commit : Commit) (committed : Committed) (state : State) → WholeHolds commit committed state → IfSome state.told (λ told. ShowsNew commit told × HaveFlushed commit told.steps)
+
+-- where it was lost nothing was published
+abbrev pub LostShows : Type 0
+LostShows = (commit : Commit) (pv : ℕ) (state : State) → FailedHolds commit (IsOld commit) pv state → IfSome state.told (ShowsOld commit)
+
+-- where it failed since it was published each area shows the old entry or the new one
+abbrev pub FencedShows : Type 0
+FencedShows = (commit : Commit) (pv : ℕ) (state : State) → FailedHolds commit (IsEither commit) pv state → IfSome state.told (ShowsEither commit)

@@ -1,0 +1,28 @@
+//! What a commit has made sure of, step by step.
+ghost use Rattle.vg_commit.specs.Laws.{BeginsHolding, ComElsewhere, ComShows, CommitsHolding, FencedShows, GoesHolding, LostShows, OthersComplete, OthersSubmit, OthersSubmitAll, PreElsewhere, PreShows, PublishesHolding, ReadyElsewhere, ReadyShows, WholeElsewhere, WholeShows, WritesItsAreas};
+
+/// A commit among other operations, whoever's, none of which writes its areas. Until it is published every image that a
+/// crash may leave shows the old entry and its text in each area; from then on each area, by itself, shows these or the
+/// new entry with its whole text; and once it is whole the new one in all. It writes sectors of its areas alone. From the
+/// moment where it is ready each disk that it was given has been flushed since it began. Where it is lost or fenced all
+/// that it submitted has completed, and the count of faults of the disk that is named has risen.
+pub fn commit_laws()
+    ensures begins { BeginsHolding }
+    ensures goes { GoesHolding }
+    ensures publishes { PublishesHolding }
+    ensures commits { CommitsHolding }
+    ensures pre_elsewhere { PreElsewhere }
+    ensures ready_elsewhere { ReadyElsewhere }
+    ensures com_elsewhere { ComElsewhere }
+    ensures whole_elsewhere { WholeElsewhere }
+    ensures others_complete { OthersComplete }
+    ensures others_submit { OthersSubmit }
+    ensures others_submit_all { OthersSubmitAll }
+    ensures writes_its_areas { WritesItsAreas }
+    ensures pre_shows { PreShows }
+    ensures ready_shows { ReadyShows }
+    ensures com_shows { ComShows }
+    ensures whole_shows { WholeShows }
+    ensures lost_shows { LostShows }
+    ensures fenced_shows { FencedShows }
+{}
