@@ -56,6 +56,11 @@ follows_flush old new view Flushes next f = ap (λ (v : View). v.flush) f.1
 follows_flush old new view IsWell next f = absurd f
 follows_flush old new view (IsLost pv) next f = absurd f
 
+pub goes_flush : (old mid : State) (view : View) (done : Done) (came : BatchStep) → Goes old view done came mid → KeepsFlush view.flush came
+goes_flush old mid view done (Going next) goes = follows_flush old mid (after_done view done) (turn_of (after_done view done)) next goes
+goes_flush old mid view done Well goes = tt
+goes_flush old mid view done (Lost pv) goes = tt
+
 -- what is known once a batch of the commit has taken a completion
 pub record Took (c : Commit) (target : ℕ → ℕ → Bool) (Now Goal : ℕ → ℕ → List ℕ → Type 0) (before : State) (flush : List ℕ) (came : BatchStep) (mid : State) : Type 0 where
   pub now : Came (is_own c) target Now Goal came mid
@@ -82,11 +87,6 @@ module _ (c : Commit) (target : ℕ → ℕ → Bool) (Now Goal : ℕ → ℕ �
     moments : (came : BatchStep) → Goes old view done came mid → AllAlong Leaves before mid
     moments came goes = along_both Leaves before old mid (along_completes Leaves before old done completes (leaves_before before view h) at_old) (along_goes (is_own c) Now old mid view done came goes at_old)
 
-    flush_of : (came : BatchStep) → Goes old view done came mid → KeepsFlush view.flush came
-    flush_of (Going next) goes = follows_flush old mid (after_done view done) (turn_of (after_done view done)) next goes
-    flush_of Well goes = tt
-    flush_of (Lost pv) goes = tt
-
     pub took : (came : BatchStep) → Goes old view done came mid → ((pv sector : ℕ) → IsTrue (is_own c pv sector) → IsTrue (target pv sector) → IsAmong view.flush pv) → IfSome before.told Sized → c.from ≤ before.next_tag → FaultsSince c.faults view.lost before
         → Took c target Now Goal before view.flush came mid
     took came goes among sized since faults =
@@ -97,5 +97,5 @@ module _ (c : Commit) (target : ℕ → ℕ → Bool) (Now Goal : ℕ → ℕ �
           sized = along_told Leaves (AreSized (old_reading c.bytes) c.areas) before mid along sized;
           since = omega (arith, since, along.next);
           faults = faults_go c.faults before old mid view done came completes goes faults;
-          flush_stays = flush_of came goes;
+          flush_stays = goes_flush old mid view done came goes;
         }

@@ -13,3 +13,4 @@ pub mod Beginning
 pub mod CommitGoes
 pub mod CommitLaws
 pub mod CommitBeside
+pub mod CommitRoom

@@ -1,5 +1,5 @@
 -- The laws of a commit on its way, call by call and beside whatever else is in flight.
-use Rattle.std.specs.Prelude.{◌≡◌, ℕ, false, IsTrue, List, Option, IfSome}
+use Rattle.std.specs.Prelude.{◌≡◌, ◌≤◌, ◌<◌, ◌+◌, ℕ, false, IsTrue, List, length, All, Option, IfSome}
 use Rattle.std.specs.Ordering.{nat_cmp}
 use Rattle.std.specs.FinSet as set
 use Rattle.disk_model.specs.declared.ops.Done.{Done}
@@ -15,16 +15,21 @@ use Rattle.disk_model.specs.Submitting.{writes_at}
 use Rattle.disk_batch.specs.Along.{AllAlong, GoesElsewhere}
 use Rattle.disk_batch.specs.Rounds.{AreStill}
 use Rattle.disk_batch.specs.Submits.{SubmitsWorks}
+use Rattle.disk_batch.specs.Views.{to_come}
 use Rattle.mda_header.specs.declared.header.Locn.{Locn}
 use Rattle.mda_ring.specs.declared.area.Area.{Area}
 use Rattle.vg_commit.specs.declared.committed.Committed.{Committed}
 use Rattle.vg_commit.specs.declared.committing.ComStep.{ComStep}
+use Rattle.vg_commit.specs.declared.committing.ComStep.TheVariants as published
+use Rattle.vg_commit.specs.declared.committing.Committing.{Committing}
 use Rattle.vg_commit.specs.declared.precommitting.PreStep.{PreStep}
+use Rattle.vg_commit.specs.declared.precommitting.PreStep.TheVariants as pre
+use Rattle.vg_commit.specs.declared.precommitting.Precommitting.{Precommitting}
 use Rattle.vg_commit.specs.declared.prepared.Prepared.{Prepared}
 use Rattle.vg_commit.specs.CommitHolds.{ComCame, ComHolds, Commit, FailedHolds, HaveFlushed, IsEither, IsOld, IsSound, PreCame, PreHolds, ReadyHolds, WholeHolds, is_header, is_own, is_text, publish_in}
 use Rattle.vg_commit.specs.Commits.{written_at}
-use Rattle.vg_commit.specs.Phases.{ComGoes, ComView, PreGoes, PreView, Publishes, ReadyView, StartsCommit}
-use Rattle.vg_commit.specs.Preparing.{IsPrepared}
+use Rattle.vg_commit.specs.Phases.{ComGoes, ComView, FitsAhead, PreGoes, PreView, Publishes, ReadyView, StartsCommit, com_view, flushes_left, ops_ahead, ops_left, pre_view, sectors_ahead, sectors_left}
+use Rattle.vg_commit.specs.Preparing.{CanRun, CanStart, IsPrepared, ops_of, sectors_in}
 use Rattle.vg_commit.specs.SectorReading.{AllShow, EachShows, new_reading, old_reading}
 use Rattle.vg_commit.specs.Written.{in_areas}
 
@@ -43,6 +48,16 @@ ShowsNew commit = EachImage (AllShow (new_reading commit.text) commit.areas)
 -- the commit that begins in this state
 abbrev pub begun_in : State → List ℕ → List (Area × Option Locn) → (Area × Option Locn → List ℕ) → set.FinSet nat_cmp → Commit
 begun_in state text areas bytes flush = record { text = text; areas = areas; bytes = bytes; flush = flush; from = state.next_tag; faults = state.faults }
+
+-- what it goes on to lies in disks of these sizes
+abbrev pub StaysWithin : List ℕ → PreStep → Type 0
+StaysWithin sizes (pre.Going next) = FitsAhead sizes (pre_view next)
+StaysWithin sizes step = Unit {0}
+
+-- and what it flushes since it was published
+abbrev pub FlushesWithin : List ℕ → ComStep → Type 0
+FlushesWithin sizes (published.Going next) = All (λ (pv : ℕ). pv < length sizes) (com_view next).batch.flush
+FlushesWithin sizes step = Unit {0}
 
 -- ---- its own calls
 
@@ -109,6 +124,35 @@ OthersSubmitAll = (commit : Commit) (tags : List ℕ) (old new : State) (works :
 abbrev pub WritesItsAreas : Type 0
 WritesItsAreas = (commit : Commit) → IsSound commit → (pv sector : ℕ) → is_own commit pv sector ≡ false
     → (is_text commit pv sector ≡ false) × (is_header commit pv sector ≡ false) × (written_at (publish_in commit) pv sector ≡ false)
+
+-- ---- what it uses up
+
+-- a call uses up no more operations and sectors than by what those grow fewer that are ahead, and the disks stay as they are
+pub record SpendsAhead (old : State) (ops sectors ops' sectors' : ℕ) (new : State) : Type 0 where
+  pub sizes : new.sizes ≡ old.sizes
+  pub spare_ops : old.spare_ops + ops' ≤ new.spare_ops + ops
+  pub spare_sectors : old.spare_sectors + sectors' ≤ new.spare_sectors + sectors
+
+-- so where all of it is spare at the beginning, each call finds spare what it asks for
+abbrev pub BeginsSpending : Type 0
+BeginsSpending = (prepared : Prepared) (old new : State) (next : Precommitting) → CanStart old.sizes prepared → StartsCommit old prepared (pre_view next) new
+    → SpendsAhead old (ops_of prepared.texts + ops_of prepared.headers) (sectors_in prepared.texts + sectors_in prepared.headers) (ops_ahead (pre_view next)) (sectors_ahead (pre_view next)) new
+    × FitsAhead new.sizes (pre_view next)
+
+-- at a completion of its own
+abbrev pub GoesSpending : Type 0
+GoesSpending = (before old new : State) (now : Precommitting) (done : Done) (step : PreStep) → FitsAhead before.sizes (pre_view now) → Completes before done old → PreGoes old (pre_view now) done step new
+    → SpendsAhead before (ops_ahead (pre_view now)) (sectors_ahead (pre_view now)) (ops_left step) (sectors_left step) new × StaysWithin new.sizes step
+
+-- where it is published
+abbrev pub PublishesSpending : Type 0
+PublishesSpending = (old new : State) (ready : ReadyView) (next : Committing) → CanRun old.sizes ready.publish → Publishes old ready (com_view next) new
+    → SpendsAhead old (ops_of ready.publish) (sectors_in ready.publish) (to_come (com_view next).batch) 0 new × All (λ (pv : ℕ). pv < length new.sizes) (com_view next).batch.flush
+
+-- and at a completion of its own since
+abbrev pub CommitsSpending : Type 0
+CommitsSpending = (before old new : State) (now : Committing) (done : Done) (step : ComStep) → All (λ (pv : ℕ). pv < length before.sizes) (com_view now).batch.flush → Completes before done old → ComGoes old (com_view now) done step new
+    → SpendsAhead before (to_come (com_view now).batch) 0 (flushes_left step) 0 new × FlushesWithin new.sizes step
 
 -- ---- what each image shows
 

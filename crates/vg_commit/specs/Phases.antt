@@ -72,6 +72,21 @@ pub record FitsAhead (sizes : List ℕ) (view : PreView) : Type 0 where
   pub flush : All (λ (pv : ℕ). pv < length sizes) view.batch.flush
   pub headers : IfSome view.headers (CanRun sizes)
 
+-- how many operations it may still submit before it is ready, by what it came to
+abbrev pub ops_left : PreStep → ℕ
+ops_left (pre.Going next) = ops_ahead (pre_view next)
+ops_left step = 0
+
+-- and how many sectors
+abbrev pub sectors_left : PreStep → ℕ
+sectors_left (pre.Going next) = sectors_ahead (pre_view next)
+sectors_left step = 0
+
+-- how many flushes it may still submit since it was published
+abbrev pub flushes_left : ComStep → ℕ
+flushes_left (published.Going next) = to_come (com_view next).batch
+flushes_left step = 0
+
 -- the texts were submitted
 abbrev pub StartsCommit : State → Prepared → PreView → State → Type 0
 StartsCommit old prepared view new = Starts old (writes_of prepared.texts) (disks_of prepared.texts) view.batch new

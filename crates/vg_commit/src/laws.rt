@@ -1,11 +1,12 @@
 //! What a commit has made sure of, step by step.
-ghost use Rattle.vg_commit.specs.Laws.{BeginsHolding, ComElsewhere, ComShows, CommitsHolding, FencedShows, GoesHolding, LostShows, OthersComplete, OthersSubmit, OthersSubmitAll, PreElsewhere, PreShows, PublishesHolding, ReadyElsewhere, ReadyShows, WholeElsewhere, WholeShows, WritesItsAreas};
+ghost use Rattle.vg_commit.specs.Laws.{BeginsHolding, BeginsSpending, ComElsewhere, ComShows, CommitsHolding, CommitsSpending, FencedShows, GoesHolding, GoesSpending, LostShows, OthersComplete, OthersSubmit, OthersSubmitAll, PreElsewhere, PreShows, PublishesHolding, PublishesSpending, ReadyElsewhere, ReadyShows, WholeElsewhere, WholeShows, WritesItsAreas};
 
 /// A commit among other operations, whoever's, none of which writes its areas. Until it is published every image that a
 /// crash may leave shows the old entry and its text in each area; from then on each area, by itself, shows these or the
 /// new entry with its whole text; and once it is whole the new one in all. It writes sectors of its areas alone. From the
 /// moment where it is ready each disk that it was given has been flushed since it began. Where it is lost or fenced all
-/// that it submitted has completed, and the count of faults of the disk that is named has risen.
+/// that it submitted has completed, and the count of faults of the disk that is named has risen. A call uses up only what
+/// the commit had ahead, so where all of it is spare at the beginning each call finds spare what it asks for.
 pub fn commit_laws()
     ensures begins { BeginsHolding }
     ensures goes { GoesHolding }
@@ -19,6 +20,10 @@ pub fn commit_laws()
     ensures others_submit { OthersSubmit }
     ensures others_submit_all { OthersSubmitAll }
     ensures writes_its_areas { WritesItsAreas }
+    ensures begins_spending { BeginsSpending }
+    ensures goes_spending { GoesSpending }
+    ensures publishes_spending { PublishesSpending }
+    ensures commits_spending { CommitsSpending }
     ensures pre_shows { PreShows }
     ensures ready_shows { ReadyShows }
     ensures com_shows { ComShows }
