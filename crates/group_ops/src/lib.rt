@@ -23,3 +23,6 @@ pub use laws::{change_is_placed, whole_is_state};
 pub use planning::plan;
 pub use refusal::PlanRefusal;
 pub use state::{Change, GroupState, Labels, NewLabel};
+
+#[cfg(test)]
+mod tests;
