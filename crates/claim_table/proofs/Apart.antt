@@ -10,7 +10,8 @@ use Rattle.claim_table.specs.declared.claim.Entry.TheVariants.{Started, Deferred
 use Rattle.claim_table.specs.Conflict.{clash}
 use Rattle.claim_table.specs.Claims.{Claims, IsApart, IsEntry, is_shut_out, lies_in, ready_at}
 use Rattle.claim_table.specs.Steps.{after_enter, after_leave, after_ready, after_set_region, after_suspend, after_resume, has_number, no_claim, number_at, without}
-use Rattle.claim_table.proofs.Passing.{none_at, any_within, all_remove}
+use Rattle.sector_base.proofs.Positions.{any_within, all_remove}
+use Rattle.claim_table.proofs.Passing.{none_at}
 use Rattle.claim_table.proofs.Laws.{free_started, free_outside, ready_is_free}
 
 -- a piece that enters

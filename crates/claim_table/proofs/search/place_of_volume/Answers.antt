@@ -1,5 +1,5 @@
 use Rattle.std.proofs.Common.{ℕ, ◌==◌}
-use Rattle.claim_table.proofs.Passing.{placed}
+use Rattle.sector_base.proofs.Positions.{placed}
 use Rattle.claim_table.proofs.search.place_of_volume.Goals as goal
 
 pub returns-clause-place : goal.returns-clause-place
