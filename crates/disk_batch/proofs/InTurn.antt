@@ -4,13 +4,14 @@ use Rattle.std.proofs.Math.Seq.{take-append-add, take-length}
 use Rattle.std.proofs.lemmas.List.{take-append-le, take_all}
 use Rattle.std.proofs.lemmas.List.Concat.{flat_map-append}
 use Rattle.std.proofs.lemmas.Bool.{cases_lt}
+use Rattle.sector_base.specs.declared.spans.Span.{Span}
 use Rattle.sector_base.specs.Spans.{covers}
 use Rattle.disk_model.specs.Steps.{Image, IsSame, Told, now_after, value_at}
 use Rattle.disk_model.specs.Moments.{EveryImageSince}
 use Rattle.disk_model.specs.Durability.{IsBase}
-use Rattle.disk_model.specs.Since.{writes_submitted}
+use Rattle.disk_model.specs.Since.{spans_read, writes_submitted}
 use Rattle.disk_model.proofs.EveryMoment.{since_join, since_now, since_weaken}
-use Rattle.disk_model.proofs.StepsSince.{between_both, between_same, between_weaker, steps_grow, steps_joined, writes_submitted-append}
+use Rattle.disk_model.proofs.StepsSince.{between_both, between_same, between_weaker, steps_grow, steps_joined, spans_read-append, writes_submitted-append}
 use Rattle.disk_batch.specs.InTurn.{HasFirstBatches, IsEither, Put, WritesInTurn, WritesInTurnTold, with_batches, with_writes, written_on}
 
 -- the same writes on images that have the same sectors
@@ -102,6 +103,9 @@ module _ (old mid new : Told) (first more : List (List Put)) (well : Bool) (a : 
       ∙ ap (λ (l : List Put). all_writes first ++ l) b.writes
       ∙ sym (ap all_writes (take-append-add first more b.submitted) ∙ flat_map-append _ first (take b.submitted more))
 
+  both_unread : spans_read (b.since ++ a.since) ≡ []
+  both_unread = spans_read-append b.since a.since ∙ ap (λ (l : List Span). l ++ spans_read b.since) a.unread ∙ b.unread
+
   pub turns_both : WritesInTurn old (first ++ more) well new
   turns_both = record {
     since = b.since ++ a.since;
@@ -109,6 +113,7 @@ module _ (old mid new : Told) (first more : List (List Put)) (well : Bool) (a : 
     submitted = length first + b.submitted;
     among = omega (arith, b.among, length-append first more);
     writes = both_writes;
+    unread = both_unread;
     whole = λ went. omega (arith, b.whole went, length-append first more);
     every_image = both_images;
     lasting = λ went base is.
@@ -127,6 +132,7 @@ turns_failed old mid first more a = record {
   submitted = a.submitted;
   among = omega (arith, a.among, length-append first more);
   writes = a.writes ∙ ap all_writes (sym (take-append-le a.submitted first more a.among));
+  unread = a.unread;
   whole = λ went. absurd (let h : false ≡ true = went in cc);
   every_image = λ base is.
       since_weaken mid (length old.steps) (length old.steps) (HasFirstBatches first base) (HasFirstBatches (first ++ more) base) (omega arith) (first_of_more first more base) (a.every_image base is);
@@ -142,6 +148,7 @@ turns_none well told = record {
   submitted = 0;
   among = omega arith;
   writes = refl;
+  unread = refl;
   whole = λ went. refl;
   every_image = λ base is.
       since_now told (HasFirstBatches [] base) (λ image im. first_none [] base image (λ pv sector. (is pv sector).each (im pv sector).0 (image pv sector) (im pv sector).1));

@@ -61,6 +61,7 @@ module _ (old new : Told) (puts : List Put) (disks : List ℕ) (well : Bool) (al
     submitted = 1;
     among = omega arith;
     writes = all.writes ∙ sym (append-nil puts);
+    unread = all.reads;
     whole = λ went. refl;
     every_image = images;
     lasting = λ went base is. lasting base is went;

@@ -8,7 +8,7 @@ use Rattle.disk_model.specs.State.{State}
 use Rattle.disk_model.specs.Moments.{EveryImageSince}
 use Rattle.disk_model.specs.Durability.{IsBase}
 use Rattle.disk_model.specs.InFlight.{IsAmong}
-use Rattle.disk_model.specs.Since.{BetweenTold, writes_submitted}
+use Rattle.disk_model.specs.Since.{BetweenTold, spans_read, writes_submitted}
 use Rattle.disk_model.specs.Submitting.{writes_at}
 use Rattle.disk_batch.specs.declared.batch.Batch.{Batch}
 use Rattle.disk_batch.specs.Batches.{disks_of, writes_of}
@@ -42,15 +42,16 @@ pub record HasFirstBatches (batches : List (List Put)) (base image : Image) : Ty
   pub among : count ≤ length batches
   pub either : IsEither (with_batches (take count batches) base) (with_batches (take (suc count) batches) base) image
 
--- The first so many of the batches were submitted in their order, each write once, and no other write. At every moment a
--- crash leaves the first so many of them whole, and each sector of the next one old or new. Where all went well all were
--- submitted, a crash leaves all of them, and a read gives what they wrote.
+-- The first so many of the batches were submitted in their order, each write once, and no other write, nor any read. At
+-- every moment a crash leaves the first so many of them whole, and each sector of the next one old or new. Where all went
+-- well all were submitted, a crash leaves all of them, and a read gives what they wrote.
 pub record WritesInTurn (old : Told) (batches : List (List Put)) (well : Bool) (new : Told) : Type 0 where
   pub since : List Step
   pub steps : new ≡ steps_on since old
   pub submitted : ℕ
   pub among : submitted ≤ length batches
   pub writes : writes_submitted since ≡ flat_map (λ batch. batch) (take submitted batches)
+  pub unread : spans_read since ≡ []
   pub whole : IsTrue well → submitted ≡ length batches
   pub every_image : (base : Image) → IsBase old base → EveryImageSince (length old.steps) new (HasFirstBatches batches base)
   pub lasting : IsTrue well → (base : Image) → IsBase old base → IsBase new (with_batches batches base)
