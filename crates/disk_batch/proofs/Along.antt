@@ -12,7 +12,7 @@ use Rattle.disk_model.specs.Durability.{AllLeave}
 use Rattle.disk_model.specs.Moments.{Throughout}
 use Rattle.disk_model.specs.Submitting.{BringAt, submitted_on}
 use Rattle.disk_model.proofs.EachMoment.{leaves_throughout, moment_now, throughout_now, throughout_step, throughout_weaken}
-use Rattle.disk_model.proofs.WhereTold.{told_after, told_weaker}
+use Rattle.disk_model.proofs.WhereTold.{told_after, told_both, told_weaker}
 use Rattle.disk_batch.specs.declared.batching.BatchStep.{BatchStep}
 use Rattle.disk_batch.specs.declared.batching.BatchStep.TheVariants.{Going, Well, Lost}
 use Rattle.disk_batch.specs.Along.{AllAlong, HoldsSince}
@@ -86,6 +86,15 @@ along_both P old mid new a b = record {
 
 pub along_weaker : (P Q : Told → Type 0) (old new : State) → ((t : Told) → P t → Q t) → AllAlong P old new → AllAlong Q old new
 along_weaker P Q old new w h = record { newer = h.newer; told = h.told; next = h.next; throughout = told_weaker (HoldsSince P h.newer) (HoldsSince Q h.newer) old.told (since_weaker P Q w h.newer) h.throughout }
+
+-- what holds all along, where something is known besides
+pub along_where : (A : Type 0) (P Q : Told → Type 0) (old new : State) → (A → (t : Told) → P t → Q t) → IfSome old.told (λ told. A) → AllAlong P old new → AllAlong Q old new
+along_where A P Q old new w known h = record {
+  newer = h.newer;
+  told = h.told;
+  next = h.next;
+  throughout = told_weaker (λ t. A × HoldsSince P h.newer t) (HoldsSince Q h.newer) old.told (λ t both. since_weaker P Q (w both.0) h.newer t both.1) (told_both (λ t. A) (HoldsSince P h.newer) old.told known h.throughout);
+}
 
 -- what is so where the shelf tells its record is so once it has gone on
 pub along_told : (P : Told → Type 0) (A : Type 0) (old new : State) → AllAlong P old new → IfSome old.told (λ told. A) → IfSome new.told (λ told. A)

@@ -3,7 +3,6 @@ use Rattle.disk_batch.specs.declared.batching.Batching.{Batching}
 use Rattle.std.proofs.lemmas.List.{append-nil}
 use Rattle.std.proofs.Common.{◌≡◌, ◌≤◌, ◌⊎◌, ℕ, Bool, true, false, ◌==◌, IsTrue, List, [], ◌∷◌, ◌++◌, length, map, filter, All, Option, Some, None, option_map, inl, inr, ⊎_elim, refl, sym, ap, subst, ◌∙◌, arith, append_assoc, ◌<◌, not}
 use Rattle.std.specs.List.{list_any}
-use Rattle.std.proofs.lemmas.List.Elements.{All-cons, All-nil}
 use Rattle.sector_base.specs.declared.spans.Span.{Span}
 use Rattle.disk_model.specs.declared.ops.Done.{Done}
 use Rattle.disk_model.specs.Steps.{Work, Reading, Writing, Flushing, Step, Submitted, Completed, Told, step_on, steps_on, now_after}
@@ -32,6 +31,7 @@ use Rattle.disk_batch.specs.Rounds.{BatchHolds, WriteTargets}
 use Rattle.disk_batch.specs.Flushed.{HasFlushedSince, FlushesSince}
 use Rattle.disk_batch.specs.WriteAll.{CanLeave, FlushesLast, WritesAll}
 use Rattle.disk_batch.specs.Alone.{IsOn, Turns}
+use Rattle.disk_batch.proofs.Among.{all_of_each}
 use Rattle.disk_batch.proofs.Submissions.{any_among, among_any}
 use Rattle.disk_batch.proofs.Progressing.{OnlyFlushes, only_leaves_submitted, flushes_write_nothing}
 use Rattle.disk_batch.proofs.Rounding.{batch_started, batch_done, batch_flushes, batch_brought}
@@ -138,10 +138,6 @@ flushed_newer (Completed tag (Reading span) well fresh ∷ newer) older from pv 
 flushed_newer (Completed tag (Writing span sectors) well fresh ∷ newer) older from pv new is h = flushed_newer newer older from pv new is h
 flushed_newer (Completed tag (Flushing disk) false fresh ∷ newer) older from pv new is h = flushed_newer newer older from pv new is h
 flushed_newer (Completed tag (Flushing disk) true fresh ∷ newer) older from pv new is h = ⊎_elim (λ here. inl here.0) (λ later. inr (flushed_newer newer older from pv new is later)) h
-
-all_among : (P : ℕ → Type 0) (ns : List ℕ) → ((n : ℕ) → IsAmong ns n → P n) → All P ns
-all_among P [] h = All-nil P
-all_among P (n ∷ ns) h = All-cons P n ns (h n (inl refl)) (all_among P ns (λ m a. h m (inr a)))
 
 -- every sector
 abbrev pub everywhere : ℕ → ℕ → Bool
@@ -323,7 +319,7 @@ module _ (puts : List (Span × List (List ℕ))) (disks : List ℕ) (old : Told)
         writes = s.writes;
         settled = s.settled;
         quiet = s.quiet;
-        flushed = all_among (λ pv. HasFlushed pv s.newer) disks (λ pv among.
+        flushed = all_of_each (λ pv. HasFlushed pv s.newer) disks (λ pv among.
             flushed_newer s.newer (s.older ++ old.steps) s.from pv s.new_tags (record_older s.newer (s.older ++ old.steps) is')
             (subst (HasFlushedSince s.from pv) (ap (λ (t : Told). t.steps) h.steps ∙ ap (λ (l : List Step). l ++ old.steps) s.parts ∙ append_assoc s.newer s.older old.steps)
             (flushes_well view told s.from pv turn.0 turn.1 turn.2 (s.each pv among))));

@@ -1,5 +1,5 @@
 -- Which disks a batch has flushed, call by call.
-use Rattle.std.proofs.Common.{◌≡◌, ◌≤◌, ◌<◌, ℕ, zero, suc, true, false, List, [], ◌∷◌, length, get_or, All, Option, Some, None, IfSome, option_map, inl, inr, refl, sym, ap, subst, ◌∙◌, arith}
+use Rattle.std.proofs.Common.{◌≡◌, ◌≤◌, ◌<◌, ℕ, true, false, List, [], ◌∷◌, length, get_or, All, Option, Some, None, IfSome, option_map, sym, ap, subst, ◌∙◌, arith}
 use Rattle.sector_base.specs.declared.spans.Span.{Span}
 use Rattle.disk_model.specs.declared.ops.Done.{Done}
 use Rattle.disk_model.specs.Steps.{Step, Completed, Told, step_on}
@@ -12,22 +12,18 @@ use Rattle.disk_model.specs.Submitting.{submitted_on}
 use Rattle.disk_model.proofs.WhereTold.{told_after, told_at, told_map, told_weaker}
 use Rattle.disk_batch.specs.declared.batching.BatchStep.{BatchStep}
 use Rattle.disk_batch.specs.declared.batching.BatchStep.TheVariants.{Going, Well, Lost}
+use Rattle.disk_batch.specs.declared.batching.Batching.{Batching}
 use Rattle.disk_batch.specs.Batches.{Follows, Goes, Starts, after_done, view_of}
 use Rattle.disk_batch.specs.Flushed.{FlushesSince, HasFlushedSince}
 use Rattle.disk_batch.specs.Views.{View, Turn, Waits, Flushes, IsWell, IsLost, turn_of}
+use Rattle.disk_batch.proofs.Among.{all_of_each}
 use Rattle.disk_batch.proofs.Calling.{IsTurn, is_turn}
 use Rattle.disk_batch.proofs.Flushing.{flushes_done, flushes_later, flushes_submitted, flushes_well}
-
--- each of some disks is among them
-pub among_get : (disks : List ℕ) (k d : ℕ) → k < length disks → IsAmong disks (get_or disks k d)
-among_get [] k d within = absurd (omega arith)
-among_get (disk ∷ disks) zero d within = inl refl
-among_get (disk ∷ disks) (suc k) d within = inr (among_get disks k d (omega arith))
 
 -- what is told of each disk is told of all
 pub told_of_each : (P : ℕ → Told → Type 0) (disks : List ℕ) (o : Option Told) → ((pv : ℕ) → IsAmong disks pv → IfSome o (P pv)) → IfSome o (λ told. All (λ (pv : ℕ). P pv told) disks)
 told_of_each P disks None each = tt
-told_of_each P disks (Some told) each = λ k d within. each (get_or disks k d) (among_get disks k d within)
+told_of_each P disks (Some told) each = all_of_each (λ (pv : ℕ). P pv told) disks each
 
 module _ (from pv : ℕ) where
   -- what it has made sure of, where the shelf tells its record
@@ -86,3 +82,20 @@ module _ (from pv : ℕ) where
   goes_flushing before mid new view done step lawful since among completes goes h =
       let after : View = after_done view done in
       flushing_follows mid new after (turn_of after) step (is_turn after.tags after.flush after.flushing after.lost) since among goes (flushing_done before mid done view lawful completes h)
+
+-- the batch flushes the same disks
+abbrev pub KeepsFlush : List ℕ → BatchStep → Type 0
+KeepsFlush flush (Going next) = (view_of next).flush ≡ flush
+KeepsFlush flush Well = Unit {0}
+KeepsFlush flush (Lost pv) = Unit {0}
+
+follows_flush : (old new : State) (view : View) (turn : Turn) (next : Batching) → Follows old view turn (Going next) new → (view_of next).flush ≡ view.flush
+follows_flush old new view Waits next f = ap (λ (v : View). v.flush) f.1
+follows_flush old new view Flushes next f = ap (λ (v : View). v.flush) f.1
+follows_flush old new view IsWell next f = absurd f
+follows_flush old new view (IsLost pv) next f = absurd f
+
+pub goes_flush : (old mid : State) (view : View) (done : Done) (came : BatchStep) → Goes old view done came mid → KeepsFlush view.flush came
+goes_flush old mid view done (Going next) goes = follows_flush old mid (after_done view done) (turn_of (after_done view done)) next goes
+goes_flush old mid view done Well goes = tt
+goes_flush old mid view done (Lost pv) goes = tt

@@ -1,3 +1,4 @@
+pub mod Among
 pub mod Submissions
 pub mod WrittenBy
 pub mod DisksOfSet
@@ -20,3 +21,5 @@ pub mod TurningBatches
 pub mod Along
 pub mod Elsewhere
 pub mod FlushedStates
+pub mod Starting
+pub mod WritesApart

@@ -8,7 +8,7 @@ use Rattle.disk_model.specs.Operations.{Fills}
 use Rattle.pv_header.specs.declared.extent_list.Extent.{Extent}
 use Rattle.disk_batch.specs.InTurn.{Put, ShareNoSector}
 use Rattle.vg_commit.specs.Commits.{written_at}
-use Rattle.vg_commit.proofs.WritesApart.{disk_among, each_apart, each_has}
+use Rattle.disk_batch.proofs.WritesApart.{disk_among, each_apart, each_has}
 use Rattle.group_ops.specs.declared.state.NewLabel.{NewLabel}
 use Rattle.vg_change.specs.Batches.{area_put, area_puts}
 use Rattle.vg_change.specs.Building.{IsOnFew}

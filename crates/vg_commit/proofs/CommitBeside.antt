@@ -8,11 +8,11 @@ use Rattle.disk_batch.specs.declared.batch.Batch.{Batch}
 use Rattle.disk_batch.specs.Along.{AllAlong, GoesElsewhere}
 use Rattle.disk_batch.specs.Rounds.{IsElsewhere}
 use Rattle.disk_batch.specs.Views.{View}
+use Rattle.disk_batch.proofs.Along.{along_where}
 use Rattle.disk_batch.proofs.Elsewhere.{along_elsewhere, batch_steps, faults_beside, flushed_steps, flushes_steps, leave_steps, still_steps}
 use Rattle.vg_commit.specs.CommitHolds.{Commit, HaveFlushed, HoldsBefore, IsEither, IsNew, IsOld, IsOldWithTexts, IsSound, Rests, is_header, is_own, is_text}
 use Rattle.vg_commit.specs.Laws.{ComElsewhere, ComShows, FencedShows, LostShows, PreElsewhere, PreShows, ReadyElsewhere, ReadyShows, ShowsEither, ShowsNew, ShowsOld, WholeElsewhere, WholeShows}
 use Rattle.vg_commit.specs.SectorReading.{AreSized, old_reading}
-use Rattle.vg_commit.proofs.CommitGoes.{along_where}
 use Rattle.vg_commit.proofs.CommitTargets.{shows_either, shows_new, shows_old, weaker, with_texts_old}
 
 module _ (c : Commit) where

@@ -26,7 +26,7 @@ use Rattle.vg_commit.proofs.AreaPuts.{IsPlaced, is_placed, put_covers, text_put}
 use Rattle.vg_commit.proofs.AreasCommit.{header_covers, one_area, rooms, written_some}
 use Rattle.vg_commit.proofs.Disks.{area_disks_some, area_disks_too, flush_some, headers_on, texts_on}
 use Rattle.vg_commit.proofs.Lying.{headers_lie, headers_some, publish_lie, publish_some, texts_lie, texts_some}
-use Rattle.vg_commit.proofs.WritesApart.{can_run, each_apart, each_has}
+use Rattle.disk_batch.proofs.WritesApart.{can_run, each_apart, each_has}
 
 -- the two areas have no sector both
 abbrev NoneShared : Area × Option Locn → Area × Option Locn → Type 0

@@ -19,9 +19,11 @@ use Rattle.disk_batch.specs.InTurn.{Put}
 use Rattle.disk_batch.specs.Rounds.{AreStill, BatchHolds}
 use Rattle.disk_batch.specs.Views.{View}
 use Rattle.disk_batch.specs.Writes.{disks_in}
-use Rattle.disk_batch.proofs.Along.{along_both, along_starts, along_told}
+use Rattle.disk_batch.proofs.Along.{along_both, along_starts, along_told, along_where}
+use Rattle.disk_batch.proofs.Among.{each_of_all}
 use Rattle.disk_batch.proofs.Faulting.{faults_start}
 use Rattle.disk_batch.proofs.FlushedStates.{FlushingCame, goes_flushing, starts_flushing, told_of_each}
+use Rattle.disk_batch.proofs.Starting.{some_start, start_faults, start_flushes}
 use Rattle.mda_header.specs.declared.header.Locn.{Locn}
 use Rattle.mda_ring.specs.declared.area.Area.{Area}
 use Rattle.vg_commit.specs.declared.committing.ComStep.{ComStep}
@@ -34,8 +36,7 @@ use Rattle.vg_commit.specs.Phases.{ComFollows, ComView, PreFollows, PreView, com
 use Rattle.vg_commit.specs.Preparing.{area_disks}
 use Rattle.vg_commit.specs.SectorReading.{AllShow, AreSized, old_reading}
 use Rattle.vg_commit.specs.Written.{in_areas}
-use Rattle.vg_commit.proofs.Beginning.{some_start, start_faults, start_flushes}
-use Rattle.vg_commit.proofs.CommitGoes.{Took, all_among, along_where, flushed_along, took}
+use Rattle.vg_commit.proofs.CommitGoes.{Took, flushed_along, took}
 use Rattle.vg_commit.proofs.CommitTargets.{header_targets, headers_allowed, headers_there, make, publish_allowed, publish_targets, shows_either, shows_old, text_targets, texts_there, weaker, with_texts_either, with_texts_old}
 use Rattle.vg_commit.proofs.Lying.{headers_some, publish_some, texts_some}
 use Rattle.vg_commit.proofs.ShownSectors.{images_read, sized_old}
@@ -128,7 +129,7 @@ module _ (c : Commit) where
     texts_flushing : (came : BatchStep) → Goes old view done came mid → (pv : ℕ) → IsAmong (disks_in c.flush) pv → FlushingCame c.from pv came mid
     texts_flushing came goes pv among =
         goes_flushing c.from pv before old mid view done came lawful (omega (arith, h.since, completes.next)) (subst (λ (l : List ℕ). IsAmong l pv) (sym h.flush) among) completes goes
-        (told_weaker _ (λ told. FlushesSince view told c.from pv) before.told (λ t f. all_among (λ (q : ℕ). FlushesSince view t c.from q) (disks_in c.flush) pv f.1.1 among) h.told)
+        (told_weaker _ (λ told. FlushesSince view told c.from pv) before.told (λ t f. each_of_all (λ (q : ℕ). FlushesSince view t c.from q) (disks_in c.flush) pv f.1.1 among) h.told)
 
     texts_go : (came : BatchStep) (step : PreStep) → Goes old view done came mid → PreFollows mid now came step new → PreCame c step new × AllAlong (ShowsOld c) before new
     texts_go (batch.Going next') (pre.Going next) goes f =

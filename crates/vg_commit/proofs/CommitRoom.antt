@@ -10,7 +10,9 @@ use Rattle.disk_batch.specs.declared.batching.BatchStep.TheVariants as batch
 use Rattle.disk_batch.specs.Alone.{steps_to_come}
 use Rattle.disk_batch.specs.Batches.{Goes, Starts, disks_of, view_of, writes_of}
 use Rattle.disk_batch.specs.Views.{to_come}
+use Rattle.disk_batch.proofs.FlushedStates.{goes_flush}
 use Rattle.disk_batch.proofs.Growing.{WorksOn, alone_works, turns_works}
+use Rattle.disk_batch.proofs.Starting.{start_flushes}
 use Rattle.vg_commit.specs.declared.committing.ComStep.{ComStep}
 use Rattle.vg_commit.specs.declared.committing.ComStep.TheVariants as published
 use Rattle.vg_commit.specs.declared.precommitting.PreStep.{PreStep}
@@ -19,8 +21,6 @@ use Rattle.vg_commit.specs.declared.precommitting.Precommitting.{Precommitting}
 use Rattle.vg_commit.specs.Laws.{BeginsSpending, CommitsSpending, FlushesWithin, GoesSpending, PublishesSpending, SpendsAhead, StaysWithin}
 use Rattle.vg_commit.specs.Phases.{ComFollows, FitsAhead, GoesOn, PreFollows, PreView, com_view, flushes_left, ops_ahead, ops_if, ops_left, pre_view, sectors_ahead, sectors_if, sectors_left}
 use Rattle.vg_commit.specs.Preparing.{CanRun, ops_of, sectors_in}
-use Rattle.vg_commit.proofs.Beginning.{start_flushes}
-use Rattle.vg_commit.proofs.CommitGoes.{goes_flush}
 
 -- a batch that can run starts
 started : (old new : State) (batching : Batching) (b : Batch) → CanRun old.sizes b → Starts old (writes_of b) (disks_of b) (view_of batching) new → SpendsAhead old (ops_of b) (sectors_in b) (to_come (view_of batching)) 0 new

@@ -6,10 +6,8 @@ pub mod Lying
 pub mod Planning
 pub mod CommitInTurn
 pub mod CommitImages
-pub mod WritesApart
 pub mod CommitCanRun
 pub mod CommitTargets
-pub mod Beginning
 pub mod CommitGoes
 pub mod CommitLaws
 pub mod CommitBeside

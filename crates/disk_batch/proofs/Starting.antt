@@ -1,4 +1,4 @@
--- A batch of a commit begins: what it has made sure of, from what the commit had.
+-- A batch starts: what it has made sure of, the disks that it flushes, and the counts of faults.
 use Rattle.std.proofs.Common.{◌≡◌, ◌<◌, ℕ, Bool, List, [], ◌∷◌, length, map, Option, None, IfSome, sym, ap, subst, arith}
 use Rattle.disk_model.specs.Durability.{AllLeave}
 use Rattle.disk_model.specs.State.{State}
@@ -13,7 +13,7 @@ use Rattle.disk_batch.proofs.Calling.{Holds, starts_hold}
 use Rattle.disk_batch.proofs.Faulting.{faults_submitted}
 
 module _ (old new : State) (disks : List ℕ) (view : View) where
-  -- a batch that writes something begins
+  -- a batch that writes something starts
   pub some_start : (mine target : ℕ → ℕ → Bool) (Now Goal : ℕ → ℕ → List ℕ → Type 0) (puts : List Put) → 0 < length puts → Starts old puts disks view new → WriteTargets mine target Now Goal (map write_work puts)
       → IfSome old.told (λ told. AreStill mine told × AllLeave mine Now told) → Holds mine target Now Goal view new
   some_start mine target Now Goal [] some starts targets h = absurd (omega arith)
