@@ -1,5 +1,5 @@
 -- One of the batches of a commit takes a completion.
-use Rattle.std.proofs.Common.{◌≡◌, ◌≤◌, ℕ, Bool, IsTrue, List, IfSome, arith}
+use Rattle.std.proofs.Common.{◌≤◌, ℕ, Bool, IsTrue, List, IfSome, arith}
 use Rattle.disk_model.specs.declared.ops.Done.{Done}
 use Rattle.disk_model.specs.Calls.{Completes}
 use Rattle.disk_model.specs.Durability.{AllLeave}

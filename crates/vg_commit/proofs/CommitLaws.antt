@@ -46,6 +46,17 @@ started_as : (old new : State) (view : View) (puts puts' : List Put) (disks disk
 started_as old new view puts puts' disks disks' same_puts same_disks starts =
     subst (λ (d : List ℕ). Starts old puts' d view new) same_disks (subst (λ (p : List Put). Starts old p disks view new) same_puts starts)
 
+-- where nothing happened what held holds, of what it became
+as_it_was : {V : Type 0} (P : V → State → Type 0) (old new : State) (before after : V) → (new ≡ old) × (after ≡ before) → P before old → P after new
+as_it_was {V} P old new before after same h = subst (λ (s : State). P after s) (sym same.0) (subst (λ (v : V). P v old) (sym same.1) h)
+
+along_to : (P : Told → Type 0) (old mid new : State) → new ≡ mid → AllAlong P old mid → AllAlong P old new
+along_to P old mid new same h = subst (λ (s : State). AllAlong P old s) (sym same) h
+
+-- three things that are told
+told_three : (P Q R : Told → Type 0) (o : Option Told) → IfSome o P → IfSome o Q → IfSome o R → IfSome o (λ told. P told × (Q told × R told))
+told_three P Q R o p q r = told_both P (λ told. Q told × R told) o p (told_both Q R o q r)
+
 -- ---- it begins
 
 pub begins : BeginsHolding
@@ -69,11 +80,10 @@ begins prepared text areas bytes flush old new view lawful prep starts h =
       publish = (prep.publish, prep.publish_disks);
       entries = prep.entries;
       flush = start_flushes old new (disks_in flush) view.batch (texts_in c) texts;
-      told = told_both Sized (λ told. BatchHolds (is_own c) (is_text c) (IsOld c) (IsNew c) view.batch told × All (λ (pv : ℕ). FlushesSince view.batch told c.from pv) (disks_in flush)) new.told
+      told = told_three Sized (BatchHolds (is_own c) (is_text c) (IsOld c) (IsNew c) view.batch) (λ told. All (λ (pv : ℕ). FlushesSince view.batch told c.from pv) (disks_in flush)) new.told
           (along_told Leaves (AreSized (old_reading bytes) areas) old new along sized)
-          (told_both (BatchHolds (is_own c) (is_text c) (IsOld c) (IsNew c) view.batch) (λ told. All (λ (pv : ℕ). FlushesSince view.batch told c.from pv) (disks_in flush)) new.told
           (some_start old new (disks_in flush) view.batch (is_own c) (is_text c) (IsOld c) (IsNew c) (texts_in c) some texts (text_targets c sound) quiet)
-          (told_of_each (λ pv told. FlushesSince view.batch told c.from pv) (disks_in flush) new.told (λ pv among. starts_flushing c.from pv old new (texts_in c) (disks_in flush) view.batch some texts)));
+          (told_of_each (λ pv told. FlushesSince view.batch told c.from pv) (disks_in flush) new.told (λ pv among. starts_flushing c.from pv old new (texts_in c) (disks_in flush) view.batch some texts));
       since = along.next;
       faults = (faults_start old new (texts_in c) (disks_in flush) view.batch texts).0;
     }
@@ -103,13 +113,9 @@ module _ (c : Commit) where
       told_weaker (λ told. Sized told × (AreStill (is_own c) told × AllLeave (is_own c) Now told)) (Rests c Now) mid.told (λ t f. record { sized = f.0; leaves = f.1.1; still = f.1.0 })
       (told_both Sized (λ told. AreStill (is_own c) told × AllLeave (is_own c) Now told) mid.told sized still)
 
-  failed : (Now : ℕ → ℕ → List ℕ → Type 0) (target : ℕ → ℕ → Bool) (Goal : ℕ → ℕ → List ℕ → Type 0) (before mid new : State) (flush : List ℕ) (pv pv' : ℕ) → IsSound c → Took c target Now Goal before flush (batch.Lost pv') mid → new ≡ mid → pv ≡ pv' → FailedHolds c Now pv new
-  failed Now target Goal before mid new flush pv pv' sound took same named =
-      subst (λ (s : State). FailedHolds c Now pv s) (sym same)
-      (subst (λ (p : ℕ). FailedHolds c Now p mid) (sym named) (record { sound = sound; told = rests Now mid took.sized took.now; rose = took.faults.lost_rose pv' refl }))
-
-  along_to : (P : Told → Type 0) (old mid new : State) → new ≡ mid → AllAlong P old mid → AllAlong P old new
-  along_to P old mid new same h = subst (λ (s : State). AllAlong P old s) (sym same) h
+  failed : (Now : ℕ → ℕ → List ℕ → Type 0) (target : ℕ → ℕ → Bool) (Goal : ℕ → ℕ → List ℕ → Type 0) (before mid new : State) (flush : List ℕ) (pv pv' : ℕ) → IsSound c → Took c target Now Goal before flush (batch.Lost pv') mid → (new ≡ mid) × (pv ≡ pv') → FailedHolds c Now pv new
+  failed Now target Goal before mid new flush pv pv' sound took same =
+      as_it_was (FailedHolds c Now) mid new pv' pv same (record { sound = sound; told = rests Now mid took.sized took.now; rose = took.faults.lost_rose pv' refl })
 
   -- ---- while the texts are on their way
 
@@ -131,6 +137,9 @@ module _ (c : Commit) where
         goes_flushing c.from pv before old mid view done came lawful (omega (arith, h.since, completes.next)) (subst (λ (l : List ℕ). IsAmong l pv) (sym h.flush) among) completes goes
         (told_weaker _ (λ told. FlushesSince view told c.from pv) before.told (λ t f. each_of_all (λ (q : ℕ). FlushesSince view t c.from q) (disks_in c.flush) pv f.1.1 among) h.told)
 
+    shown_before : (came : BatchStep) → Goes old view done came mid → AllAlong (ShowsOld c) before mid
+    shown_before came goes = old_along (IsOld c) h.sound (λ pv sector value is. is) before mid sized_before (texts_took came goes).along
+
     texts_go : (came : BatchStep) (step : PreStep) → Goes old view done came mid → PreFollows mid now came step new → PreCame c step new × AllAlong (ShowsOld c) before new
     texts_go (batch.Going next') (pre.Going next) goes f =
         let t = texts_took (batch.Going next') goes in
@@ -141,16 +150,13 @@ module _ (c : Commit) where
           publish = h.publish;
           entries = h.entries;
           flush = t.flush_stays ∙ h.flush;
-          told = told_both Sized (λ told. BatchHolds (is_own c) (is_text c) (IsOld c) (IsNew c) (view_of next') told × All (λ (pv : ℕ). FlushesSince (view_of next') told c.from pv) (disks_in c.flush)) mid.told t.sized
-              (told_both (BatchHolds (is_own c) (is_text c) (IsOld c) (IsNew c) (view_of next')) (λ told. All (λ (pv : ℕ). FlushesSince (view_of next') told c.from pv) (disks_in c.flush)) mid.told t.now
-              (told_of_each (λ pv told. FlushesSince (view_of next') told c.from pv) (disks_in c.flush) mid.told (λ pv among. texts_flushing (batch.Going next') goes pv among)));
+          told = told_three Sized (BatchHolds (is_own c) (is_text c) (IsOld c) (IsNew c) (view_of next')) (λ told. All (λ (pv : ℕ). FlushesSince (view_of next') told c.from pv) (disks_in c.flush)) mid.told t.sized t.now
+              (told_of_each (λ pv told. FlushesSince (view_of next') told c.from pv) (disks_in c.flush) mid.told (λ pv among. texts_flushing (batch.Going next') goes pv among));
           since = t.since;
           faults = t.faults;
         }
-        in (
-          subst (λ (s : State). PreHolds c (pre_view next) s) (sym f.0) (subst (λ (v : PreView). PreHolds c v mid) (sym f.1) holds),
-          along_to (ShowsOld c) before mid new f.0 (old_along (IsOld c) h.sound (λ pv sector value is. is) before mid sized_before t.along),
-        )
+        in
+        (as_it_was (PreHolds c) mid new _ (pre_view next) f holds, along_to (ShowsOld c) before mid new f.0 (shown_before (batch.Going next') goes))
     texts_go batch.Well (pre.Going next) goes f =
         let t = texts_took batch.Well goes in
         let starts : Starts mid (headers_in c) (disks_in (area_disks c.areas)) (pre_view next).batch new = started_as mid new (pre_view next).batch _ _ _ _ h.headers.0 h.headers.1 f.0 in
@@ -167,28 +173,22 @@ module _ (c : Commit) where
           publish = h.publish;
           entries = h.entries;
           flush = start_flushes mid new (disks_in (area_disks c.areas)) (pre_view next).batch (headers_in c) starts;
-          told = told_both Sized (λ told. BatchHolds (is_own c) (is_header c) (IsOldWithTexts c) (IsOld c) (pre_view next).batch told × Flushed told) new.told
+          told = told_three Sized (BatchHolds (is_own c) (is_header c) (IsOldWithTexts c) (IsOld c) (pre_view next).batch) Flushed new.told
               (along_told (Leaves (IsOldWithTexts c)) (AreSized (old_reading c.bytes) c.areas) mid new along t.sized)
-              (told_both (BatchHolds (is_own c) (is_header c) (IsOldWithTexts c) (IsOld c) (pre_view next).batch) Flushed new.told
               (some_start mid new (disks_in (area_disks c.areas)) (pre_view next).batch (is_own c) (is_header c) (IsOldWithTexts c) (IsOld c) (headers_in c) (headers_some c.text c.areas h.sound.committed.some) starts (header_targets c h.sound)
               (told_both (AreStill (is_own c)) (Leaves (IsOldWithTexts c)) mid.told still there))
-              (flushed_along c (Leaves (IsOldWithTexts c)) mid new along flushed));
+              (flushed_along c (Leaves (IsOldWithTexts c)) mid new along flushed);
           since = omega (arith, t.since, along.next);
           faults = start_faults mid new (disks_in (area_disks c.areas)) (pre_view next).batch c.faults (headers_in c) starts t.faults;
         }
         in (
           subst (λ (v : PreView). PreHolds c v new) (sym f.1) holds,
-          along_both (ShowsOld c) before mid new (old_along (IsOld c) h.sound (λ pv sector value is. is) before mid sized_before t.along) (old_along (IsOldWithTexts c) h.sound (with_texts_old c) mid new t.sized along),
+          along_both (ShowsOld c) before mid new (shown_before batch.Well goes) (old_along (IsOldWithTexts c) h.sound (with_texts_old c) mid new t.sized along),
         )
     texts_go (batch.Lost pv') (pre.Lost pv) goes f =
         let t = texts_took (batch.Lost pv') goes in
-        (failed (IsOld c) (is_text c) (IsNew c) before mid new view.flush pv pv' h.sound t f.0 f.1, along_to (ShowsOld c) before mid new f.0 (old_along (IsOld c) h.sound (λ pv sector value is. is) before mid sized_before t.along))
-    texts_go (batch.Going next') (pre.Ready ready) goes f = absurd f
-    texts_go (batch.Going next') (pre.Lost pv) goes f = absurd f
-    texts_go batch.Well (pre.Ready ready) goes f = absurd f
-    texts_go batch.Well (pre.Lost pv) goes f = absurd f
-    texts_go (batch.Lost pv') (pre.Going next) goes f = absurd f
-    texts_go (batch.Lost pv') (pre.Ready ready) goes f = absurd f
+        (failed (IsOld c) (is_text c) (IsNew c) before mid new view.flush pv pv' h.sound t f, along_to (ShowsOld c) before mid new f.0 (shown_before (batch.Lost pv') goes))
+    texts_go _ _ goes f = absurd f
 
   -- ---- while the headers are on their way
 
@@ -221,13 +221,12 @@ module _ (c : Commit) where
           publish = h.publish;
           entries = h.entries;
           flush = t.flush_stays ∙ h.flush;
-          told = told_both Sized (λ told. BatchHolds (is_own c) (is_header c) (IsOldWithTexts c) (IsOld c) (view_of next') told × Flushed told) mid.told t.sized
-              (told_both (BatchHolds (is_own c) (is_header c) (IsOldWithTexts c) (IsOld c) (view_of next')) Flushed mid.told t.now (flushed_then (batch.Going next') goes));
+          told = told_three Sized (BatchHolds (is_own c) (is_header c) (IsOldWithTexts c) (IsOld c) (view_of next')) Flushed mid.told t.sized t.now (flushed_then (batch.Going next') goes);
           since = t.since;
           faults = t.faults;
         }
         in
-        (subst (λ (s : State). PreHolds c (pre_view next) s) (sym f.0) (subst (λ (v : PreView). PreHolds c v mid) (sym f.1) holds), along_to (ShowsOld c) before mid new f.0 (shown (batch.Going next') goes))
+        (as_it_was (PreHolds c) mid new _ (pre_view next) f holds, along_to (ShowsOld c) before mid new f.0 (shown (batch.Going next') goes))
     headers_go batch.Well (pre.Ready ready) goes f =
         let t = headers_took batch.Well goes in
         let still : IfSome mid.told (λ told. AreStill (is_own c) told × Leaves (IsOldWithTexts c) told) = told_weaker _ (λ told. AreStill (is_own c) told × Leaves (IsOldWithTexts c) told) mid.told (λ u g. (g.0, g.1)) t.now in
@@ -241,10 +240,10 @@ module _ (c : Commit) where
           faults = t.faults;
         }
         in
-        (subst (λ (s : State). ReadyHolds c (ready_view ready) s) (sym f.0) (subst (λ v. ReadyHolds c v mid) (sym f.1) holds), along_to (ShowsOld c) before mid new f.0 (shown batch.Well goes))
+        (as_it_was (ReadyHolds c) mid new _ (ready_view ready) f holds, along_to (ShowsOld c) before mid new f.0 (shown batch.Well goes))
     headers_go (batch.Lost pv') (pre.Lost pv) goes f =
         let t = headers_took (batch.Lost pv') goes in
-        let old' : FailedHolds c (IsOldWithTexts c) pv new = failed (IsOldWithTexts c) (is_header c) (IsOld c) before mid new view.flush pv pv' h.sound t f.0 f.1 in (
+        let old' : FailedHolds c (IsOldWithTexts c) pv new = failed (IsOldWithTexts c) (is_header c) (IsOld c) before mid new view.flush pv pv' h.sound t f in (
           record {
             sound = old'.sound;
             told = told_weaker (Rests c (IsOldWithTexts c)) (Rests c (IsOld c)) new.told (λ u r. record { sized = r.sized; leaves = weaker c (IsOldWithTexts c) (IsOld c) (with_texts_old c) u r.leaves; still = r.still }) old'.told;
@@ -252,12 +251,7 @@ module _ (c : Commit) where
           },
           along_to (ShowsOld c) before mid new f.0 (shown (batch.Lost pv') goes),
         )
-    headers_go (batch.Going next') (pre.Ready ready) goes f = absurd f
-    headers_go (batch.Going next') (pre.Lost pv) goes f = absurd f
-    headers_go batch.Well (pre.Going next) goes f = absurd f
-    headers_go batch.Well (pre.Lost pv) goes f = absurd f
-    headers_go (batch.Lost pv') (pre.Going next) goes f = absurd f
-    headers_go (batch.Lost pv') (pre.Ready ready) goes f = absurd f
+    headers_go _ _ goes f = absurd f
 
   -- ---- since it is published
 
@@ -284,13 +278,12 @@ module _ (c : Commit) where
           sound = h.sound;
           entries = h.entries;
           flush = t.flush_stays ∙ h.flush;
-          told = told_both Sized (λ told. BatchHolds (is_own c) (is_header c) (IsEither c) (IsNew c) (view_of next') told × Flushed told) mid.told t.sized
-              (told_both (BatchHolds (is_own c) (is_header c) (IsEither c) (IsNew c) (view_of next')) Flushed mid.told t.now (flushed_since (batch.Going next') goes));
+          told = told_three Sized (BatchHolds (is_own c) (is_header c) (IsEither c) (IsNew c) (view_of next')) Flushed mid.told t.sized t.now (flushed_since (batch.Going next') goes);
           since = t.since;
           faults = t.faults;
         }
         in
-        (subst (λ (s : State). ComHolds c (com_view next) s) (sym f.0) (subst (λ (v : ComView). ComHolds c v mid) (sym f.1) holds), along_to (ShowsEither c) before mid new f.0 (shown_since (batch.Going next') goes))
+        (as_it_was (ComHolds c) mid new _ (com_view next) f holds, along_to (ShowsEither c) before mid new f.0 (shown_since (batch.Going next') goes))
     com_goes batch.Well (published.Whole committed) goes f =
         let t = publish_took batch.Well goes in
         let still : IfSome mid.told (λ told. AreStill (is_own c) told × Leaves (IsNew c) told) = told_weaker _ (λ told. AreStill (is_own c) told × Leaves (IsNew c) told) mid.told (λ u g. (g.0, headers_there c h.sound u g.1 g.2)) t.now in (
@@ -303,13 +296,8 @@ module _ (c : Commit) where
         )
     com_goes (batch.Lost pv') (published.Fenced pv) goes f =
         let t = publish_took (batch.Lost pv') goes in
-        (failed (IsEither c) (is_header c) (IsNew c) before mid new view.flush pv pv' h.sound t f.0 f.1, along_to (ShowsEither c) before mid new f.0 (shown_since (batch.Lost pv') goes))
-    com_goes (batch.Going next') (published.Whole committed) goes f = absurd f
-    com_goes (batch.Going next') (published.Fenced pv) goes f = absurd f
-    com_goes batch.Well (published.Going next) goes f = absurd f
-    com_goes batch.Well (published.Fenced pv) goes f = absurd f
-    com_goes (batch.Lost pv') (published.Going next) goes f = absurd f
-    com_goes (batch.Lost pv') (published.Whole committed) goes f = absurd f
+        (failed (IsEither c) (is_header c) (IsNew c) before mid new view.flush pv pv' h.sound t f, along_to (ShowsEither c) before mid new f.0 (shown_since (batch.Lost pv') goes))
+    com_goes _ _ goes f = absurd f
 
 -- ---- the calls
 
@@ -337,11 +325,10 @@ publishes c old new ready view starts h =
       sound = h.sound;
       entries = h.entries;
       flush = start_flushes old new (disks_in (area_disks c.areas)) view.batch (publish_in c) puts;
-      told = told_both (Sized c) (λ told. BatchHolds (is_own c) (is_header c) (IsEither c) (IsNew c) view.batch told × Flushed c told) new.told
+      told = told_three (Sized c) (BatchHolds (is_own c) (is_header c) (IsEither c) (IsNew c) view.batch) (Flushed c) new.told
           (along_told (Leaves c (IsEither c)) (AreSized (old_reading c.bytes) c.areas) old new along sized)
-          (told_both (BatchHolds (is_own c) (is_header c) (IsEither c) (IsNew c) view.batch) (Flushed c) new.told
           (some_start old new (disks_in (area_disks c.areas)) view.batch (is_own c) (is_header c) (IsEither c) (IsNew c) (publish_in c) (publish_some c.text c.areas h.sound.committed.some) puts (publish_targets c h.sound) quiet)
-          (flushed_along c (Leaves c (IsEither c)) old new along (told_weaker _ (Flushed c) old.told (λ t f. f.1) h.told)));
+          (flushed_along c (Leaves c (IsEither c)) old new along (told_weaker _ (Flushed c) old.told (λ t f. f.1) h.told));
       since = omega (arith, h.since, along.next);
       faults = start_faults old new (disks_in (area_disks c.areas)) view.batch c.faults (publish_in c) puts h.faults;
     }
