@@ -4,9 +4,10 @@ ghost use Rattle.vg_commit.specs.Laws.{BeginsHolding, BeginsSpending, ComElsewhe
 /// A commit among other operations, whoever's, none of which writes its areas. Until it is published every image that a
 /// crash may leave shows the old entry and its text in each area; from then on each area, by itself, shows these or the
 /// new entry with its whole text; and once it is whole the new one in all. It writes sectors of its areas alone. From the
-/// moment where it is ready each disk that it was given has been flushed since it began. Where it is lost or fenced all
-/// that it submitted has completed, and the count of faults of the disk that is named has risen. A call uses up only what
-/// the commit had ahead, so where all of it is spare at the beginning each call finds spare what it asks for.
+/// moment where it is ready each disk that it was given has been flushed since it began. Where it is lost or fenced no
+/// write to its areas is in flight, and the count of faults of the disk that is named has risen; that all its operations
+/// have completed is what the clauses of the two `on_done` say. A call uses up only what the commit had ahead, so where
+/// all of it is spare at the beginning each call finds spare what it asks for.
 pub fn commit_laws()
     ensures begins { BeginsHolding }
     ensures goes { GoesHolding }
