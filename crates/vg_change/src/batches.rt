@@ -86,8 +86,8 @@ fn push_areas(
     Ok(())
 }
 
-// The writes of label sectors.
-fn label_writes(alloc: Global, labels: &[NewLabel]) -> Result<Vec<(Span, Sectors)>, AllocError>
+/// The writes of label sectors, one for each label, in their order. Only memory can be wanting.
+pub fn label_writes(alloc: Global, labels: &[NewLabel]) -> Result<Vec<(Span, Sectors)>, AllocError>
     requires { All CanLabel labels.now }
     ensures writes { IfOk result (λ list. list.items ≡ map label_put labels.now) }
     ensures fits { OnOk result (All FitsFields labels.now) }
@@ -99,8 +99,9 @@ fn label_writes(alloc: Global, labels: &[NewLabel]) -> Result<Vec<(Span, Sectors
     Ok(list)
 }
 
-// Adds a batch of these writes, if there is one.
-fn push_batch(
+/// Puts a batch of these writes, which flushes their disks, behind the others. Where there is no write it puts none. Only
+/// memory can be wanting.
+pub fn push_batch(
     alloc: Global,
     list: Vec<(Span, Sectors)>,
     batches: &mut Vec<Batch>,

@@ -27,7 +27,7 @@ pub fn label_write(alloc: Global, label: &NewLabel) -> Result<(Span, Sectors), A
     one_sector(alloc, label.disk, u64::from(label.sector), sector)
 }
 
-/// The write of the header of an empty area on this disk.
+/// The write of the header of an empty area on this disk. Only memory can be wanting.
 pub fn area_write(alloc: Global, disk: u32, area: &Extent) -> Result<(Span, Sectors), AllocError>
     ensures { IfOk result (λ put. put ≡ area_put disk area.now) }
 {

@@ -5,7 +5,8 @@
 //! the first so many of them whole, and of the next one each sector old or new. `specs/Batches` has the batches of a change,
 //! `specs/CarryingOut` what is promised, and `specs/Laws` what follows of the metadata areas and labels in every image.
 //!
-//! `flush_all` flushes each disk and writes nothing (`specs/Flushing`).
+//! `flush_all` flushes each disk and writes nothing (`specs/Flushing`). `label_writes`, `area_write` and `push_batch` make
+//! writes and batches of them for other changes of the disks (`specs/Building`).
 #![tactic(auto)]
 
 mod batches;
@@ -14,6 +15,8 @@ mod fault;
 mod flushing;
 mod label_sector;
 
+pub use batches::{label_writes, push_batch};
 pub use carrying::carry_out;
 pub use fault::ChangeFault;
 pub use flushing::flush_all;
+pub use label_sector::area_write;
