@@ -68,5 +68,8 @@ far_from pv (disk ∷ disks) each =
     All-append IsFar (filter_map (held_area pv) (areas_on disk.contents)) (held_areas (pv + 1) disks) (far_on pv disk.sectors disk.contents here.contents)
     (far_from (pv + 1) disks (λ k d is. subst (λ (n : ℕ). IsDisk n d) (omega arith) (each (suc k) d is)))
 
+pub held_far : (disks : List Disk) → ((pv : ℕ) (disk : Disk) → slice_get disks pv ≡ Some disk → IsDisk pv disk) → All IsFar (held_areas 0 disks)
+held_far disks each = far_from 0 disks (λ k disk there. subst (λ (n : ℕ). IsDisk n disk) (omega arith) (each k disk there))
+
 pub areas_far : (state : GroupState) → IsState state → All IsFar state.areas
-areas_far state is = subst (All IsFar) (sym is.areas) (far_from 0 state.disks (λ k disk there. subst (λ (n : ℕ). IsDisk n disk) (omega arith) (is.disks k disk there)))
+areas_far state is = subst (All IsFar) (sym is.areas) (held_far state.disks is.disks)

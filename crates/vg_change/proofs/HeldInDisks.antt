@@ -91,9 +91,9 @@ lie_from all pv (disk ∷ disks) each =
     (filter_map (held_area pv) (areas_on disk.contents)) (on_one pv disk.sectors disk.contents first.0.contents))
     (lie_from all (pv + 1) disks (λ k d is. subst (λ (n : ℕ). IsDisk n d × (slice_get all n ≡ Some d)) (omega arith) (each (suc k) d is)))
 
+pub held_lie : (disks : List Disk) → ((pv : ℕ) (disk : Disk) → slice_get disks pv ≡ Some disk → IsDisk pv disk) → All (LiesIn (sizes_of disks)) (held_areas 0 disks)
+held_lie disks each = lie_from disks 0 disks (λ k disk there. subst (λ (n : ℕ). IsDisk n disk × (slice_get disks n ≡ Some disk)) (omega arith) (each k disk there, there))
+
 -- all that a line is judged against
 pub areas_lie : (state : GroupState) → IsState state → All (LiesIn (sizes_of state.disks)) state.areas
-areas_lie state is =
-    subst (All (LiesIn (sizes_of state.disks))) (sym is.areas)
-    (lie_from state.disks 0 state.disks
-    (λ k disk there. subst (λ (n : ℕ). IsDisk n disk × (slice_get state.disks n ≡ Some disk)) (omega arith) (is.disks k disk there, there)))
+areas_lie state is = subst (All (LiesIn (sizes_of state.disks))) (sym is.areas) (held_lie state.disks is.disks)

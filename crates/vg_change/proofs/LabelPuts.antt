@@ -104,7 +104,7 @@ pub with_if : (puts : List Put) (base : Image) → with_batches (batch_if puts) 
 with_if [] base = refl
 with_if (put ∷ puts) base = refl
 
-if_either : (puts : List Put) (base image : Image) (pv sector : ℕ) → HasFirstBatches (batch_if puts) base image → (image pv sector ≡ base pv sector) ⊎ (image pv sector ≡ with_writes puts base pv sector)
+pub if_either : (puts : List Put) (base image : Image) (pv sector : ℕ) → HasFirstBatches (batch_if puts) base image → (image pv sector ≡ base pv sector) ⊎ (image pv sector ≡ with_writes puts base pv sector)
 if_either [] base image pv sector h = inl (none_front base image h pv sector)
 if_either (put ∷ puts) base image pv sector h = one_front (put ∷ puts) base image h pv sector
 

@@ -189,7 +189,7 @@ module _ (bytes : ℕ) (few : bytes < 2 ^ 64) where
   fit (area ∷ xs) none =
       let here = fits_here area (find (is_outside bytes) xs) (is_outside bytes area) refl none in All-cons Fits64 area xs here.0 (fit xs here.1)
 
-  fit_both : (xs ys : List Extent) → find (is_outside bytes) (xs ++ ys) ≡ None → All Fits64 xs × All Fits64 ys
+  pub fit_both : (xs ys : List Extent) → find (is_outside bytes) (xs ++ ys) ≡ None → All Fits64 xs × All Fits64 ys
   fit_both [] ys none = (All-nil Fits64, fit ys none)
   fit_both (area ∷ xs) ys none =
       let here = fits_here area (find (is_outside bytes) (xs ++ ys)) (is_outside bytes area) refl none in
