@@ -1,0 +1,14 @@
+pub mod Sublists
+pub mod AreaDisks
+pub mod HeldAreas
+pub mod TextBatches
+pub mod StrayLabels
+pub mod ClearBatch
+pub mod RepairBatches
+pub mod Numbered
+pub mod RepairedShape
+pub mod KeptTexts
+pub mod StaleOthers
+pub mod KeptImages
+pub mod Nothing
+pub mod TakenOff

@@ -1,0 +1,92 @@
+//! The batches of a repair.
+ghost use Rattle.std.specs.Prelude.{◌≡◌, ◌<◌, All, IfOk, MatchResult, None, unwrap_or};
+ghost use Rattle.vg_commit.specs.Preparing.{AreCommitted, IsPrepared, area_disks};
+ghost use Rattle.vg_commit.specs.TooLarge.{first_too_large};
+ghost use Rattle.vg_found.specs.Shape.{HasShape};
+ghost use Rattle.vg_repair.specs.Building.{AreHeld, IsMade, IsTextAdded};
+ghost use Rattle.vg_repair.specs.Stale.{IsCause, stale_areas, text_of};
+
+use crate::RepairFault;
+use crate::areas::{have_room, stale_areas};
+use crate::strays::{clear_writes, unused_labels};
+use disk_batch::Batch;
+use mda_ring::Areas;
+use sector_base::{PvSet, Text};
+use std::alloc::{AllocError, Global};
+use vg_change::{label_writes, push_batch};
+use vg_commit::{CommitRefusal, Prepared, prepare_text};
+use vg_found::Found;
+
+// The batches of the repair of what was found. The error is `TooLarge` exactly where a stale area can't take the text; else
+// only memory can be wanting.
+pub(crate) fn batches_of(alloc: Global, found: &Found) -> Result<Vec<Batch>, RepairFault>
+    requires { HasShape found.now }
+    ensures { MatchResult result (λ batches. IsMade found.now batches.items) (IsCause (text_of found.now) (stale_areas found.now)) }
+{
+    let mut batches = Vec::new(alloc);
+    let stale = stale_areas(alloc, found.disks.as_slice(), found.stale.as_slice())?;
+    let none = Text::from_vec(Vec::new(alloc));
+    push_text(alloc, &stale, text_or(&found.text, &none), &mut batches)?;
+    let labels = unused_labels(alloc, found.disks.as_slice(), found.strays)?;
+    let flags = label_writes(alloc, &labels)?;
+    let clears = clear_writes(alloc, found.areas.as_slice(), found.strays)?;
+    push_batch(alloc, flags, &mut batches)?;
+    push_batch(alloc, clears, &mut batches)?;
+    Ok(batches)
+}
+
+// The text, or where there is none this one.
+fn text_or<'a>(text: &'a Option<Text>, none: &'a Text) -> &'a Text
+    ensures { result.now ≡ unwrap_or text.now none.now }
+{
+    match text {
+        Some(text) => text,
+        None => none,
+    }
+}
+
+// Adds the three batches of a commit of the text to these areas, if there are any.
+fn push_text(
+    alloc: Global,
+    areas: &Areas,
+    text: &Text,
+    batches: &mut Vec<Batch>,
+) -> Result<(), RepairFault>
+    requires { AreHeld areas.now }
+    ensures { MatchResult result (λ _. IsTextAdded text.now areas.now batches.old.items batches.new.items) (IsCause text.now areas.now) }
+{
+    if areas.len() == 0 {
+        return Ok(());
+    }
+    have_room(areas.as_slice(), text)?;
+    let (texts, headers, publish) = prepared(alloc, areas, disks_of(areas), text)?.into_batches();
+    batches.push(texts)?;
+    batches.push(headers)?;
+    batches.push(publish)?;
+    Ok(())
+}
+
+// The commit of the text, which has room in each of the areas.
+fn prepared(alloc: Global, areas: &Areas, flush: PvSet, text: &Text) -> Result<Prepared, AllocError>
+    requires committed { AreCommitted areas.now flush }
+    requires room { first_too_large text.now areas.now ≡ None }
+    ensures { IfOk result (λ prepared. IsPrepared prepared areas.now flush text.now) }
+{
+    match prepare_text(alloc, areas, flush, text) {
+        Ok(prepared) => Ok(prepared),
+        Err(CommitRefusal::NoMemory) => Err(AllocError),
+        Err(CommitRefusal::TooLarge { .. }) => unreachable!(),
+    }
+}
+
+// The disks of the areas.
+fn disks_of(areas: &Areas) -> PvSet
+    requires { All (λ area. area.0.pv < 64) areas.now }
+    ensures { result ≡ area_disks areas.now }
+{
+    let mut disks = PvSet::new();
+    for (area, _) in areas.as_slice() {
+        disks.insert(area.pv);
+    }
+    disks
+}
