@@ -1,0 +1,201 @@
+-- Disks that read again as they did, but for areas that give a new copy of a group.
+use Rattle.std.proofs.Common.{◌≡◌, ◌⊎◌, ℕ, Bool, true, false, ◌&&◌, ◌||◌, cond, List, [], ◌∷◌, map, Option, Some, None, inl, inr, ⊎_elim, refl, sym, ap, subst, ◌∙◌}
+use Rattle.std.specs.Prelude.{filter, filter_map, option_map, unwrap_or}
+use Rattle.std.specs.List.{AllByRecursion, cons_option, list_any}
+use Rattle.std.proofs.lemmas.Bool.{or_left, or_right}
+use Rattle.std.proofs.lemmas.Option.{same_Some}
+use Rattle.meta_model.specs.declared.group.Group.{Group}
+use Rattle.meta_model.specs.declared.pv.Pv.{Pv}
+use Rattle.scan_rules.specs.Decision.{Area, AreaReading, Conflict, Copy, DuplicatePv, Found, FoundGroup, GivesNoLater, HasShape, Held, NoCopy, NoGroup, PvShape, Reading, SameAreas, SameHeaders, SamePv, ScanAnswer, TwoGroups, Unsupported, decide_scan, gives, group_found, has_id, holds, is_held, is_listed, lists, same_bytes}
+use Rattle.scan_rules.specs.Found.{is_missing, missing_of}
+use Rattle.scan_rules.proofs.Scanning.{same_bytes_to, scan_finds}
+use Rattle.image_scans.proofs.Given.{AreasGive, DisksGive, GivenHas, PvGives, each_given}
+
+-- an area that isn't ignored gives what it gave, or this, where that is allowed
+abbrev pub GivesAgain : AreaReading → Bool → Option AreaReading → Option AreaReading → Type 0
+GivesAgain new may None after = after ≡ None
+GivesAgain new may (Some r) after = (after ≡ Some r) ⊎ ((after ≡ Some new) × (may ≡ true))
+
+-- areas in their order
+abbrev pub AreasAgain : AreaReading → Bool → List Area → List Area → Type 0
+AreasAgain new may [] [] = Unit {0}
+AreasAgain new may [] (b ∷ bs) = ⊥
+AreasAgain new may (a ∷ as') [] = ⊥
+AreasAgain new may (a ∷ as') (b ∷ bs) = (a.start ≡ b.start) × (a.sectors ≡ b.sectors) × GivesAgain new may a.reading b.reading × AreasAgain new may as' bs
+
+-- a physical volume that the group lists may give the new copy
+abbrev pub PvAgain : Group → AreaReading → Option Found → Option Found → Type 0
+PvAgain group new None None = Unit {0}
+PvAgain group new None (Some b) = ⊥
+PvAgain group new (Some a) None = ⊥
+PvAgain group new (Some a) (Some b) = (a.id ≡ b.id) × AreasAgain new (lists group a.id) a.areas b.areas
+
+abbrev pub DisksAgain : Group → AreaReading → List Reading → List Reading → Type 0
+DisksAgain group new [] [] = Unit {0}
+DisksAgain group new [] (b ∷ bs) = ⊥
+DisksAgain group new (a ∷ as') [] = ⊥
+DisksAgain group new (a ∷ as') (b ∷ bs) = (a.sectors ≡ b.sectors) × PvAgain group new a.pv b.pv × DisksAgain group new as' bs
+
+-- ---- their headers are the same
+
+areas_places : (new : AreaReading) (may : Bool) (as' bs : List Area) → AreasAgain new may as' bs → SameAreas as' bs
+areas_places new may [] [] again = tt
+areas_places new may [] (b ∷ bs) again = absurd again
+areas_places new may (a ∷ as') [] again = absurd again
+areas_places new may (a ∷ as') (b ∷ bs) again = (again.0, again.1, areas_places new may as' bs again.3)
+
+pv_places : (group : Group) (new : AreaReading) (a b : Option Found) → PvAgain group new a b → SamePv a b
+pv_places group new None None again = tt
+pv_places group new None (Some b) again = absurd again
+pv_places group new (Some a) None again = absurd again
+pv_places group new (Some a) (Some b) again = (again.0, areas_places new (lists group a.id) a.areas b.areas again.1)
+
+pub again_headers : (group : Group) (new : AreaReading) (as' bs : List Reading) → DisksAgain group new as' bs → SameHeaders as' bs
+again_headers group new [] [] again = tt
+again_headers group new [] (b ∷ bs) again = absurd again
+again_headers group new (a ∷ as') [] again = absurd again
+again_headers group new (a ∷ as') (b ∷ bs) again = (again.0, pv_places group new a.pv b.pv again.1, again_headers group new as' bs again.2)
+
+-- ---- what they give
+
+given_again : (P : AreaReading → Type 0) (new : AreaReading) (may : Bool) → P new → (a b : Option AreaReading) → GivesAgain new may a b → GivenHas P a → GivenHas P b
+given_again P new may is None b again has = subst (GivenHas P) (sym again) tt
+given_again P new may is (Some r) b (inl same) has = subst (GivenHas P) (sym same) has
+given_again P new may is (Some r) b (inr made) has = subst (GivenHas P) (sym made.0) is
+
+areas_again : (P : AreaReading → Type 0) (new : AreaReading) (may : Bool) → P new → (as' bs : List Area) → AreasAgain new may as' bs → AreasGive P as' → AreasGive P bs
+areas_again P new may is [] [] again all = tt
+areas_again P new may is [] (b ∷ bs) again all = absurd again
+areas_again P new may is (a ∷ as') [] again all = absurd again
+areas_again P new may is (a ∷ as') (b ∷ bs) again all = (given_again P new may is a.reading b.reading again.2 all.0, areas_again P new may is as' bs again.3 all.1)
+
+pv_again : (P : AreaReading → Type 0) (group : Group) (new : AreaReading) → P new → (a b : Option Found) → PvAgain group new a b → PvGives P a → PvGives P b
+pv_again P group new is None None again all = tt
+pv_again P group new is None (Some b) again all = absurd again
+pv_again P group new is (Some a) None again all = absurd again
+pv_again P group new is (Some a) (Some b) again all = areas_again P new (lists group a.id) is a.areas b.areas again.1 all
+
+pub again_give : (P : AreaReading → Type 0) (group : Group) (new : AreaReading) → P new → (as' bs : List Reading) → DisksAgain group new as' bs → DisksGive (λ disk. P) as' → DisksGive (λ disk. P) bs
+again_give P group new is [] [] again all = tt
+again_give P group new is [] (b ∷ bs) again all = absurd again
+again_give P group new is (a ∷ as') [] again all = absurd again
+again_give P group new is (a ∷ as') (b ∷ bs) again all = (pv_again P group new is a.pv b.pv again.1 all.0, again_give P group new is as' bs again.2 all.1)
+
+-- ---- a listed disk gives the new copy, or they read as they did
+
+module _ (group : Group) (text : List ℕ) (passed : List (List ℕ)) where
+  abbrev new : AreaReading
+  new = Copy group text passed
+
+  gives_new : gives text new ≡ true
+  gives_new = same_bytes_to text text refl
+
+  abbrev HasIt : Bool → List Area → Type 0
+  HasIt may areas = (may ≡ true) × (list_any (gives text) (filter_map (λ (area : Area). area.reading) areas) ≡ true)
+
+  any_later : (o : Option AreaReading) (rest : List AreaReading) → list_any (gives text) rest ≡ true → list_any (gives text) (cons_option o rest) ≡ true
+  any_later None rest any = any
+  any_later (Some r) rest any = or_right (gives text r) (list_any (gives text) rest) any
+
+  any_first : (o : Option AreaReading) (rest : List AreaReading) → o ≡ Some new → list_any (gives text) (cons_option o rest) ≡ true
+  any_first o rest is = ap (λ x. list_any (gives text) (cons_option x rest)) is ∙ or_left (gives text new) (list_any (gives text) rest) gives_new
+
+  one_new : (may : Bool) (a b : Option AreaReading) → GivesAgain new may a b → ((may ≡ true) × (b ≡ Some new)) ⊎ (b ≡ a)
+  one_new may None b again = inr again
+  one_new may (Some r) b (inl same) = inr same
+  one_new may (Some r) b (inr made) = inl (made.1, made.0)
+
+  areas_new : (may : Bool) (as' bs : List Area) → AreasAgain new may as' bs → HasIt may bs ⊎ (bs ≡ as')
+  areas_new may [] [] again = inr refl
+  areas_new may [] (b ∷ bs) again = absurd again
+  areas_new may (a ∷ as') [] again = absurd again
+  areas_new may (a ∷ as') (b ∷ bs) again =
+      let rest : List AreaReading = filter_map (λ (area : Area). area.reading) bs in
+      ⊎_elim
+      (λ made. inl (made.0, any_first b.reading rest made.1))
+      (λ same.
+      ⊎_elim
+      (λ later. inl (later.0, any_later b.reading rest later.1))
+      (λ others. inr (λ i. record { start = sym again.0 i; sectors = sym again.1 i; reading = same i } ∷ others i))
+      (areas_new may as' bs again.3))
+      (one_new may a.reading b.reading again.2)
+
+  pv_new : (a b : Option Found) → PvAgain group new a b → (s : ℕ) → ((is_listed group (record { sectors = s; pv = b }) && holds text (record { sectors = s; pv = b })) ≡ true) ⊎ (b ≡ a)
+  pv_new None None again s = inr refl
+  pv_new None (Some b) again s = absurd again
+  pv_new (Some a) None again s = absurd again
+  pv_new (Some a) (Some b) again s =
+      ⊎_elim
+      (λ it. inl (ap (λ (x : Bool). x && list_any (gives text) (filter_map (λ (area : Area). area.reading) b.areas)) (ap (lists group) (sym again.0) ∙ it.0) ∙ it.1))
+      (λ same. inr (λ i. Some (record { id = sym again.0 i; areas = same i })))
+      (areas_new (lists group a.id) a.areas b.areas again.1)
+
+  pub held_or_same : (as' bs : List Reading) → DisksAgain group new as' bs → (is_held group text bs ≡ true) ⊎ (bs ≡ as')
+  held_or_same [] [] again = inr refl
+  held_or_same [] (b ∷ bs) again = absurd again
+  held_or_same (a ∷ as') [] again = absurd again
+  held_or_same (a ∷ as') (b ∷ bs) again =
+      ⊎_elim
+      (λ here. inl (or_left (is_listed group b && holds text b) (is_held group text bs) here))
+      (λ same.
+      ⊎_elim
+      (λ later. inl (or_right (is_listed group b && holds text b) (is_held group text bs) later))
+      (λ others. inr (λ i. record { sectors = sym again.0 i; pv = same i } ∷ others i))
+      (held_or_same as' bs again.2))
+      (pv_new a.pv b.pv again.1 b.sectors)
+
+-- ---- an answer with a group and text
+
+pub record Finds (disks : List Reading) (group : Group) (text : List ℕ) : Type 0 where
+  pub held : Held
+  pub stale : List (ℕ × ℕ)
+  pub strays : List ℕ
+  pub missing : List (List ℕ)
+  pub is : decide_scan disks ≡ FoundGroup held stale strays missing
+  pub group_xl : held.group ≡ group
+  pub text_xl : held.text ≡ text
+
+finds_by : (disks : List Reading) (group : Group) (text : List ℕ) (answer : ScanAnswer) → decide_scan disks ≡ answer → group_found answer ≡ Some (group, text) → Finds disks group text
+finds_by disks group text (FoundGroup held stale strays missing) is has =
+    let both : (held.group, held.text) ≡ (group, text) = same_Some (held.group, held.text) (group, text) has in
+    record { held = held; stale = stale; strays = strays; missing = missing; is = is; group_xl = ap (λ (p : Group × List ℕ). p.0) both; text_xl = ap (λ (p : Group × List ℕ). p.1) both }
+finds_by disks group text NoGroup is has = absurd cc
+finds_by disks group text (DuplicatePv a b) is has = absurd cc
+finds_by disks group text (NoCopy rs) is has = absurd cc
+finds_by disks group text (Unsupported pv) is has = absurd cc
+finds_by disks group text (TwoGroups a b) is has = absurd cc
+finds_by disks group text (Conflict a b seqno) is has = absurd cc
+finds_by disks group text (PvShape pv) is has = absurd cc
+
+pub finds_newest : (group : Group) (text : List ℕ) (disks : List Reading) → HasShape group disks → DisksGive (λ disk. GivesNoLater group text) disks → is_held group text disks ≡ true → Finds disks group text
+finds_newest group text disks shape all held = finds_by disks group text (decide_scan disks) refl (scan_finds group text disks shape (each_given (GivesNoLater group text) disks all) held)
+
+-- ---- what is missing
+
+id_on : (id : List ℕ) (a b : Option Found) → SamePv a b → unwrap_or (option_map (λ (pv : Found). same_bytes pv.id id) a) false ≡ unwrap_or (option_map (λ (pv : Found). same_bytes pv.id id) b) false
+id_on id None None same = refl
+id_on id None (Some b) same = absurd same
+id_on id (Some a) None same = absurd same
+id_on id (Some a) (Some b) same = ap (λ (own : List ℕ). same_bytes own id) same.0
+
+pub same_ids : (id : List ℕ) (as' bs : List Reading) → SameHeaders as' bs → list_any (has_id id) as' ≡ list_any (has_id id) bs
+same_ids id [] [] same = refl
+same_ids id [] (b ∷ bs) same = absurd same
+same_ids id (a ∷ as') [] same = absurd same
+same_ids id (a ∷ as') (b ∷ bs) same =
+    ap (λ (x : Bool). x || list_any (has_id id) as') (id_on id a.pv b.pv same.1) ∙ ap (λ (x : Bool). has_id id b || x) (same_ids id as' bs same.2)
+
+pub none_missing : (disks : List Reading) (pvs : List (List ℕ × Pv)) → AllByRecursion (λ pv. is_missing disks pv ≡ false) pvs → missing_of disks pvs ≡ []
+none_missing disks [] all = refl
+none_missing disks (pv ∷ pvs) all =
+    ap (λ (b : Bool). map (λ (p : List ℕ × Pv). p.1.id) (cond b (pv ∷ filter (is_missing disks) pvs) (filter (is_missing disks) pvs))) all.0 ∙ none_missing disks pvs all.1
+
+not_missing : (disks : List Reading) (pv : List ℕ × Pv) (pvs : List (List ℕ × Pv)) (b : Bool) → is_missing disks pv ≡ b → map (λ (p : List ℕ × Pv). p.1.id) (cond b (pv ∷ filter (is_missing disks) pvs) (filter (is_missing disks) pvs)) ≡ []
+    → (is_missing disks pv ≡ false) × (missing_of disks pvs ≡ [])
+not_missing disks pv pvs true is none = absurd cc
+not_missing disks pv pvs false is none = (is, none)
+
+pub all_there : (disks : List Reading) (pvs : List (List ℕ × Pv)) → missing_of disks pvs ≡ [] → AllByRecursion (λ pv. is_missing disks pv ≡ false) pvs
+all_there disks [] none = tt
+all_there disks (pv ∷ pvs) none =
+    let parts = not_missing disks pv pvs (is_missing disks pv) refl none in (parts.0, all_there disks pvs parts.1)

@@ -1,0 +1,186 @@
+-- One area on the way of a commit: it gives what it gave, or the new text.
+use Rattle.std.proofs.Common.{◌≡◌, ◌≤◌, ◌⊎◌, ℕ, ◌+◌, ◌/◌, Bool, true, false, List, length, Option, Some, None, Result, Ok, inl, inr, ⊎_elim, refl, sym, ap, subst, ◌∙◌, arith}
+use Rattle.std.proofs.lemmas.Option.{same_Some}
+use Rattle.disk_model.specs.Steps.{Image}
+use Rattle.mda_header.specs.declared.entry.Entry.{Entry}
+use Rattle.mda_header.specs.declared.entry.Entry.TheVariants.{Ignored, Nothing, Text, Refused as RefusedFor}
+use Rattle.mda_header.specs.declared.header.Locn.{Locn}
+use Rattle.mda_header.specs.declared.header.MdaHeader.{MdaHeader}
+use Rattle.mda_header.specs.declared.refusal.MdaRefusal.{MdaRefusal}
+use Rattle.mda_header.specs.Header.{IsEntry, IsHeader}
+use Rattle.mda_header.specs.HeaderBytes.{header_bytes}
+use Rattle.mda_header.proofs.OneEntry.{one_entry}
+use Rattle.mda_ring.specs.declared.area.Area.{Area}
+use Rattle.mda_ring.specs.Areas.{CanTake}
+use Rattle.mda_ring.specs.Ring.{need, room}
+use Rattle.meta_model.specs.declared.group.Group.{Group}
+use Rattle.pv_header.specs.declared.extent_list.Extent.{Extent}
+use Rattle.disk_contents.specs.declared.contents.AreaFound.{AreaFound}
+use Rattle.disk_contents.specs.Contents.{IsAreaFound, IsMdaFound}
+use Rattle.disk_contents.specs.Standing.{area_on}
+use Rattle.scan_rules.specs.Decision.{Area as AreaOf, AreaReading, Copy, HoldsNone, Refused}
+use Rattle.vg_commit.specs.SectorReading.{ShowsBy, new_reading, old_reading}
+use Rattle.vg_commit.specs.Showing.{Names, sectors_of}
+use Rattle.vg_commit.specs.Written.{header_after, header_before, new_entry}
+use Rattle.vg_found.specs.Disks.{held_area, held_by}
+use Rattle.vg_scan.specs.Readings.{IsAreaReading, IsGiven}
+use Rattle.vg_scan.specs.Texts.{IsCopyOf, IsStored, stored_bytes}
+use Rattle.vg_change.specs.Laws.{IsKeptOrNew, text_in}
+use Rattle.image_scans.proofs.Again.{GivesAgain}
+use Rattle.image_scans.proofs.Given.{GivenHas}
+use Rattle.image_scans.proofs.OneArea.{after_read, before_read, entry_nothing, entry_text, header_of_text, stored_copy}
+
+-- an area in an image, as it is found and reads there, beside what it gave before
+pub record ReadsAgain (pv : ℕ) (sector_at : ℕ → List ℕ) (extent : Extent) (new : AreaReading) (may : Bool) (before : AreaOf) : Type 0 where
+  pub found : AreaFound
+  pub area : AreaOf
+  pub same : found.area ≡ extent
+  pub is : IsAreaFound sector_at found
+  pub reads : IsAreaReading pv sector_at found area
+  pub start_xl : before.start ≡ area.start
+  pub sectors_xl : before.sectors ≡ area.sectors
+  pub again : GivesAgain new may before.reading area.reading
+
+-- an area that isn't refused
+abbrev pub NotRefused : AreaReading → Type 0
+NotRefused HoldsNone = Unit {0}
+NotRefused (Copy group text passed) = Unit {0}
+NotRefused (Refused why) = ⊥
+
+abbrev pub IsRead : Option AreaReading → Type 0
+IsRead reading = GivenHas NotRefused reading
+
+-- what is known of an area that isn't ignored: it shows, whole, what it showed or the new text, and has room for that
+pub record IsOnTheWay (text : List ℕ) (base image : Image) (may : Bool) (held : Area × Option Locn) : Type 0 where
+  pub shows : IsKeptOrNew text base image held
+  pub take : CanTake held
+  pub fits : need (length text + 1) ≤ room held.0.size held.1
+  pub allowed : may ≡ true
+
+-- the header sector is as in the base, or has one of the headers of the commit
+abbrev pub HasHeader : List ℕ → ℕ → Image → Image → AreaFound → Type 0
+HasHeader text pv base image found =
+    (image pv (found.area.offset / 512) ≡ base pv (found.area.offset / 512))
+    ⊎ ((held : Area × Option Locn) × (held_area pv found ≡ Some held)
+    × ((image pv (found.area.offset / 512) ≡ header_bytes (header_before text held)) ⊎ (image pv (found.area.offset / 512) ≡ header_bytes (header_after text held))))
+
+module _ (text : List ℕ) (group : Group) (passed : List (List ℕ)) (copy : IsCopyOf text group passed) (may : Bool) (pv : ℕ) (base image : Image) (extent : Extent) (before : AreaOf)
+    (start_xl : before.start ≡ extent.offset / 512) (sectors_xl : before.sectors ≡ extent.size / 512) where
+  abbrev new : AreaReading
+  new = Copy group text passed
+
+  abbrev own : Area
+  own = area_on pv extent
+
+  abbrev sector : List ℕ
+  sector = image pv (extent.offset / 512)
+
+  abbrev Reads : Type 0
+  Reads = ReadsAgain pv (image pv) extent new may before
+
+  first_sector : sectors_of own image 0 ≡ sector
+  first_sector = ap (image pv) (omega arith)
+
+  make : (header : Result MdaHeader MdaRefusal) (entry : Entry) (reading : Option AreaReading) → IsMdaFound sector extent header → IsEntry sector extent.offset extent.size entry → IsGiven (image pv) own entry reading
+      → GivesAgain new may before.reading reading → Reads
+  make header entry reading found names given again = record {
+    found = record { area = extent; header = header; entry = entry };
+    area = record { start = extent.offset / 512; sectors = extent.size / 512; reading = reading };
+    same = refl;
+    is = (found, names);
+    reads = record { start_xl = refl; sectors_xl = refl; given = given };
+    start_xl = start_xl;
+    sectors_xl = sectors_xl;
+    again = again;
+  }
+
+  again_same : (reading : Option AreaReading) → before.reading ≡ reading → GivesAgain new may before.reading reading
+  again_same reading is = subst (λ (o : Option AreaReading). GivesAgain new may o reading) (sym is) (itself reading)
+    where
+      itself : (o : Option AreaReading) → GivesAgain new may o o
+      itself None = refl
+      itself (Some r) = inl refl
+
+  -- the new text stands there
+  of_new : (entry : Option Locn) (r : AreaReading) → may ≡ true → before.reading ≡ Some r → ShowsBy (new_reading text) image (own, entry) → Reads
+  of_new entry r allowed was shows =
+      let locn : Locn = new_entry text (own, entry) in
+      let names : IsEntry sector extent.offset extent.size (Text locn) = subst (λ (s : List ℕ). IsEntry s extent.offset extent.size (Text locn)) first_sector shows.header in
+      let header = header_of_text sector extent.offset extent.size locn names in
+      make (Ok header.0) (Text locn) (Some new) (header.1, header.2, header.3) names (new, refl, stored_copy text group passed (own, entry) (stored_bytes (image pv) own locn) copy shows.ring)
+      (subst (λ (o : Option AreaReading). GivesAgain new may o (Some new)) (sym was) (inr (refl, allowed)))
+
+  -- the text that stood there
+  of_text : (locn : Locn) (given : AreaReading) → before.reading ≡ Some given → IsStored locn (stored_bytes (base pv) own locn) given → ShowsBy (old_reading (text_in base)) image (own, Some locn) → Reads
+  of_text locn given was stored shows =
+      let names : IsEntry sector extent.offset extent.size (Text locn) = subst (λ (s : List ℕ). IsEntry s extent.offset extent.size (Text locn)) first_sector shows.header in
+      let header = header_of_text sector extent.offset extent.size locn names in
+      make (Ok header.0) (Text locn) (Some given) (header.1, header.2, header.3) names (given, refl, subst (λ (bytes : List ℕ). IsStored locn bytes given) (sym shows.ring) stored) (again_same (Some given) was)
+
+  -- none, by a header that names none
+  of_none : (header : MdaHeader) → before.reading ≡ Some HoldsNone → IsHeader sector header → header.start ≡ extent.offset → header.size ≡ extent.size → header.committed ≡ None → header.ignored ≡ false → Reads
+  of_none header was is starts sized none seen =
+      make (Ok header) Nothing (Some HoldsNone) (is, starts, sized) (entry_nothing sector extent.offset extent.size header is none seen) refl (again_same (Some HoldsNone) was)
+
+  -- a header that names the new text, where none is said to be named
+  not_both : (locn : Locn) → IsEntry sector extent.offset extent.size (Text locn) → Names own None (sectors_of own image 0) → ⊥
+  not_both locn is names =
+      ⊎_elim
+      (λ (nothing : IsEntry (sectors_of own image 0) extent.offset extent.size Nothing).
+      let e : ◌≡◌ {A = Entry} (Text locn) Nothing = one_entry sector extent.offset extent.size (Text locn) Nothing is (subst (λ (s : List ℕ). IsEntry s extent.offset extent.size Nothing) first_sector nothing) in absurd cc)
+      (λ refused.
+      let e : ◌≡◌ {A = Entry} (Text locn) (RefusedFor refused.0) =
+      one_entry sector extent.offset extent.size (Text locn) (RefusedFor refused.0) is (subst (λ (s : List ℕ). IsEntry s extent.offset extent.size (RefusedFor refused.0)) first_sector refused.1) in absurd cc)
+      names
+
+  module _ (header : Result MdaHeader MdaRefusal) where
+    abbrev found_with : Entry → AreaFound
+    found_with entry = record { area = extent; header = header; entry = entry }
+
+    -- as in the base
+    of_base : (entry : Entry) → sector ≡ base pv (extent.offset / 512) → IsMdaFound (base pv (extent.offset / 512)) extent header → IsEntry (base pv (extent.offset / 512)) extent.offset extent.size entry
+        → IsGiven (image pv) own entry before.reading → Reads
+    of_base entry same found names given =
+        make header entry before.reading (subst (λ (s : List ℕ). IsMdaFound s extent header) (sym same) found) (subst (λ (s : List ℕ). IsEntry s extent.offset extent.size entry) (sym same) names) given (again_same before.reading refl)
+
+    -- no text was committed there
+    of_nothing : before.reading ≡ Some HoldsNone → IsMdaFound (base pv (extent.offset / 512)) extent header → IsEntry (base pv (extent.offset / 512)) extent.offset extent.size Nothing
+        → IsOnTheWay text base image may (own, None) → HasHeader text pv base image (found_with Nothing) → Reads
+    of_nothing was found names way has =
+        ⊎_elim
+        (λ old.
+        ⊎_elim
+        (λ same. of_base Nothing same found names was)
+        (λ written.
+        let is : (own, None) ≡ written.0 = same_Some (own, None) written.0 written.1 in
+        ⊎_elim
+        (λ first.
+        let here : sector ≡ header_bytes (header_before text (own, None)) = first ∙ ap (λ (h : Area × Option Locn). header_bytes (header_before text h)) (sym is) in
+        of_none (header_before text (own, None)) was (subst (λ (s : List ℕ). IsHeader s (header_before text (own, None))) (sym here) (before_read text (own, None) way.take way.fits)) refl refl refl refl)
+        (λ last.
+        let here : sector ≡ header_bytes (header_after text (own, None)) = last ∙ ap (λ (h : Area × Option Locn). header_bytes (header_after text h)) (sym is) in
+        let read : IsHeader sector (header_after text (own, None)) = subst (λ (s : List ℕ). IsHeader s (header_after text (own, None))) (sym here) (after_read text (own, None) way.take way.fits) in
+        absurd (not_both (new_entry text (own, None)) (entry_text sector (header_after text (own, None)) (new_entry text (own, None)) read refl refl) old.header))
+        written.2)
+        has)
+        (λ made. of_new None HoldsNone way.allowed was made)
+        way.shows
+
+    -- a text was
+    of_some : (locn : Locn) (given : AreaReading) → before.reading ≡ Some given → IsStored locn (stored_bytes (base pv) own locn) given → IsOnTheWay text base image may (own, Some locn) → Reads
+    of_some locn given was stored way = ⊎_elim (λ old. of_text locn given was stored old) (λ made. of_new (Some locn) given way.allowed was made) way.shows
+
+    by_entry : (entry : Entry) → IsMdaFound (base pv (extent.offset / 512)) extent header → IsEntry (base pv (extent.offset / 512)) extent.offset extent.size entry → IsGiven (base pv) own entry before.reading → IsRead before.reading
+        → ((held : Area × Option Locn) → held_by own entry ≡ Some held → IsOnTheWay text base image may held) → HasHeader text pv base image (found_with entry) → Reads
+    by_entry Ignored found names given read way has =
+        ⊎_elim (λ same. of_base Ignored same found names given) (λ written. absurd (let e : ◌≡◌ {A = Option (Area × Option Locn)} None (Some written.0) = written.1 in cc)) has
+    by_entry Nothing found names given read way has = of_nothing given found names (way (own, None) refl) has
+    by_entry (Text locn) found names given read way has = of_some locn given.0 given.1 given.2 (way (own, Some locn) refl)
+    by_entry (RefusedFor refusal) found names given read way has = absurd (subst IsRead given read)
+
+-- the area reads again
+pub area_again : (text : List ℕ) (group : Group) (passed : List (List ℕ)) → IsCopyOf text group passed → (may : Bool) (pv : ℕ) (base image : Image) (found : AreaFound) (before : AreaOf)
+    → IsAreaFound (base pv) found → IsAreaReading pv (base pv) found before → IsRead before.reading → ((held : Area × Option Locn) → held_area pv found ≡ Some held → IsOnTheWay text base image may held)
+    → HasHeader text pv base image found → ReadsAgain pv (image pv) found.area (Copy group text passed) may before
+area_again text group passed copy may pv base image found before is reads read way has =
+    by_entry text group passed copy may pv base image found.area before reads.start_xl reads.sectors_xl found.header found.entry is.0 is.1 reads.given read way has

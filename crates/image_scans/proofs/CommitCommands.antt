@@ -1,0 +1,122 @@
+-- The lines that commit a group: vgcreate where none was found, and vgextend where one was.
+use Rattle.std.proofs.Common.{◌≡◌, ◌≤◌, ℕ, ◌%◌, ◌^◌, List, [], ◌∷◌, ◌++◌, Option, Some, None, refl, sym, ap, subst, ◌∙◌, arith}
+use Rattle.std.specs.Prelude.{IfSome, IsSomeAnd, unwrap_or}
+use Rattle.std.specs.List.{AllByRecursion as Each}
+use Rattle.std.specs.Option.{option_map_or, option_or}
+use Rattle.std.proofs.lemmas.Option.{same_Some}
+use Rattle.lvm_id.specs.LvmId.{IsId}
+use Rattle.lvm_name.specs.Names.{group_name_refusal}
+use Rattle.lvm_script.specs.declared.op_refusal.OpRefusal.{OpRefusal}
+use Rattle.lvm_script.specs.declared.op_refusal.OpRefusal.TheVariants.{GroupStands, UnknownGroup}
+use Rattle.meta_model.specs.Standing.{HasTree}
+use Rattle.meta_model.specs.declared.group.Group.{Group}
+use Rattle.scan_rules.specs.Decision.{Reading}
+use Rattle.scan_rules.specs.Found.{missing_of}
+use Rattle.volume_rules.specs.Rules.{IsAccepted}
+use Rattle.vg_found.specs.declared.found.Found.{Found}
+use Rattle.vg_found.specs.Disks.{disks_of, shapes}
+use Rattle.vg_found.specs.Shape.{HasShape}
+use Rattle.vg_found.specs.Whole.{IsWhole as FoundIsWhole}
+use Rattle.group_ops.proofs.Accepted.{IsWhole, created, next_is_whole}
+use Rattle.group_ops.specs.Added.{added_of}
+use Rattle.group_ops.specs.Judging.{first_refusal}
+use Rattle.group_ops.specs.Laws.{state_in}
+use Rattle.group_ops.specs.NewGroup.{change_with, extended, text_row}
+use Rattle.group_ops.specs.State.{IsState}
+use Rattle.group_ops.specs.Vgcreate.{create_rows, empty_group, new_rows}
+use Rattle.group_ops.specs.Vgextend.{extend_rows, found_rows, next_version}
+use Rattle.group_ops.specs.declared.state.Change.{Change}
+use Rattle.group_ops.specs.declared.state.GroupState.{GroupState}
+use Rattle.vg_change.proofs.Rows.{none_holds}
+use Rattle.image_scans.proofs.Again.{all_there}
+use Rattle.image_scans.proofs.CommitScans.{IsNext}
+use Rattle.image_scans.proofs.MadeGroup.{MakesGroup}
+use Rattle.image_scans.proofs.Makes.{makes_group}
+use Rattle.image_scans.proofs.SettledBase.{IsSettledScan, copy_tree, settled_none, settled_some}
+
+-- the change commits this group, which is the next version or the first
+pub record Commits (found : Found) (state : GroupState) (change : Change) : Type 0 where
+  pub group : Group
+  pub makes : MakesGroup state change group
+  pub next : IsNext found.group group
+
+-- ---- rows
+
+all_none : (rows : List (Option OpRefusal)) → Each (λ row. row ≡ None) rows → first_refusal rows ≡ None
+all_none [] all = refl
+all_none (row ∷ rows) all = ap (λ (o : Option OpRefusal). option_or o (first_refusal rows)) all.0 ∙ all_none rows all.1
+
+each_front : {X : Type 0} (P : X → Type 0) (xs ys : List X) → Each P (xs ++ ys) → Each P xs
+each_front P [] ys all = tt
+each_front P (x ∷ xs) ys all = (all.0, each_front P xs ys all.1)
+
+-- ---- vgcreate
+
+id_is : (id : Option (List ℕ)) → IsSomeAnd id IsId → IsId (unwrap_or id [])
+id_is None is = absurd is
+id_is (Some id) is = is
+
+create_none : (state : GroupState) (base : Group) (names : List (List ℕ)) (now : ℕ) → first_refusal (new_rows state base names now) ≡ None → first_refusal (create_rows state base (added_of state names)) ≡ None
+create_none state base names now none =
+    let rows = none_holds (new_rows state base names now) none in
+    all_none (create_rows state base (added_of state names)) (each_front (λ row. row ≡ None) (create_rows state base (added_of state names)) (text_row state base [] (added_of state names) now ∷ []) rows.1)
+
+create_by : (state : GroupState) (base : Group) (names : List (List ℕ)) (now : ℕ) (o : Option Group)
+    → first_refusal (option_map_or (λ (group : Group). Some (GroupStands group.name) ∷ []) o (new_rows state base names now)) ≡ None → (o ≡ None) × (first_refusal (new_rows state base names now) ≡ None)
+create_by state base names now None none = (refl, none)
+create_by state base names now (Some group) none = absurd cc
+
+pub vgcreate_commits : (found : Found) (names : List (List ℕ)) → IsState (state_in found names) → (id : Option (List ℕ)) (vg : List ℕ) (extent_size : ℕ) (pvs : List (List ℕ)) (now : ℕ)
+    → IsSomeAnd id IsId × (group_name_refusal vg ≡ None) × (8 ≤ extent_size) × (extent_size ≤ 2 ^ 31) × (extent_size % 8 ≡ 0)
+    → first_refusal (option_map_or (λ (group : Group). Some (GroupStands group.name) ∷ []) found.group (new_rows (state_in found names) (empty_group (unwrap_or id []) vg extent_size) pvs now)) ≡ None
+    → Commits found (state_in found names) (change_with (empty_group (unwrap_or id []) vg extent_size) [] (added_of (state_in found names) pvs))
+vgcreate_commits found names is id vg extent_size pvs now planned none =
+    let state : GroupState = state_in found names in
+    let base : Group = empty_group (unwrap_or id []) vg extent_size in
+    let parts = create_by state base pvs now found.group none in
+    let whole : IsWhole (extended base (added_of state pvs)) =
+    created state is (unwrap_or id []) vg extent_size pvs (id_is id planned.0) planned.1 planned.2 planned.3 planned.4 (create_none state base pvs now parts.1)
+    in
+    record {
+      group = extended base (added_of state pvs);
+      makes = makes_group state is base [] pvs (record { disks_xl = refl; there = tt }) whole;
+      next = subst (λ (o : Option Group). IsNext o (extended base (added_of state pvs))) (sym parts.0) tt;
+    }
+
+-- ---- vgextend
+
+-- the group that was found keeps the rules, and a tree stands for it
+old_whole : (readings : List Reading) (found : Found) → IsSettledScan readings found → (group : Group) → found.group ≡ Some group → IsAccepted group × HasTree group
+old_whole readings found (settled_none nothing none given) group is = absurd (let e : ◌≡◌ {A = Option Group} None (Some group) = sym none ∙ is in cc)
+old_whole readings found (settled_some held parts some copy given all) group is =
+    let same : held.group ≡ group = same_Some held.group group (sym some ∙ is) in
+    subst (λ (g : Group). IsAccepted g × HasTree g) same (copy.accepted, copy_tree held.text held.group held.passed copy)
+
+extend_by : (state : GroupState) (vg : List ℕ) (names : List (List ℕ)) (now : ℕ) (o : Option Group)
+    → first_refusal (option_map_or (found_rows state vg names now) o (Some (UnknownGroup vg) ∷ [])) ≡ None → (group : Group) × (o ≡ Some group) × (first_refusal (found_rows state vg names now group) ≡ None)
+extend_by state vg names now None none = absurd cc
+extend_by state vg names now (Some group) none = (group, refl, none)
+
+extend_none : (state : GroupState) (vg : List ℕ) (names : List (List ℕ)) (now : ℕ) (group : Group) → first_refusal (found_rows state vg names now group) ≡ None → first_refusal (extend_rows state group (added_of state names)) ≡ None
+extend_none state vg names now group none =
+    let rows = none_holds (found_rows state vg names now group) none in
+    all_none (extend_rows state group (added_of state names)) (each_front (λ row. row ≡ None) (extend_rows state group (added_of state names)) (text_row state (next_version group) state.disk_of (added_of state names) now ∷ []) rows.1.1.1.1)
+
+none_missing_of : (found : Found) → HasShape found → FoundIsWhole found → (group : Group) → found.group ≡ Some group → missing_of (shapes found.disks) group.pvs ≡ []
+none_missing_of found shape whole group is =
+    sym (subst (λ (o : Option Group). IfSome o (λ g. found.missing ≡ missing_of (shapes found.disks) g.pvs)) is shape.missing) ∙ whole.there
+
+pub vgextend_commits : (found : Found) (names : List (List ℕ)) → HasShape found → FoundIsWhole found → IsState (state_in found names) → (readings : List Reading) → IsSettledScan readings found → (vg : List ℕ) (pvs : List (List ℕ)) (now : ℕ) (group : Group)
+    → found.group ≡ Some group → first_refusal (found_rows (state_in found names) vg pvs now group) ≡ None
+    → Commits found (state_in found names) (change_with (next_version group) found.disk_of (added_of (state_in found names) pvs))
+unfolding extended
+vgextend_commits found names shape whole is readings settled vg pvs now group there none =
+    let state : GroupState = state_in found names in
+    let listed : found.disk_of ≡ disks_of group found.disks = subst (λ (o : Option Group). IfSome o (λ g. found.disk_of ≡ disks_of g found.disks)) there shape.disk_of in
+    let old = old_whole readings found settled group there in
+    let good : IsWhole (extended (next_version group) (added_of state pvs)) = next_is_whole state is group pvs listed old.0 old.1 (extend_none state vg pvs now group none) in
+    record {
+      group = extended (next_version group) (added_of state pvs);
+      makes = makes_group state is (next_version group) found.disk_of pvs (record { disks_xl = sym listed; there = all_there (shapes found.disks) group.pvs (none_missing_of found shape whole group there) }) good;
+      next = subst (λ (o : Option Group). IsNext o (extended (next_version group) (added_of state pvs))) (sym there) (refl, omega arith);
+    }

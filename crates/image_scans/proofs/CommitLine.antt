@@ -1,0 +1,144 @@
+-- A line that commits a group: what is found on its way, and once all is written.
+use Rattle.std.proofs.Common.{◌≡◌, ◌<◌, ◌⊎◌, ℕ, ◌+◌, ◌^◌, true, List, [], ◌++◌, length, get_or, map, Option, Some, None, inl, sym, ap, subst, arith}
+use Rattle.std.specs.Prelude.{All}
+use Rattle.std.proofs.lemmas.List.{take_all}
+use Rattle.std.proofs.lemmas.List.Elements.{All-filter, filter_passes}
+use Rattle.conf_text.specs.Printed.{printed}
+use Rattle.disk_batch.specs.InTurn.{HasFirstBatches, Put, with_batches}
+use Rattle.disk_model.specs.Steps.{Image}
+use Rattle.lvm_script.specs.declared.line.Line.{Line}
+use Rattle.mda_header.specs.declared.header.Locn.{Locn}
+use Rattle.mda_ring.specs.declared.area.Area.{Area}
+use Rattle.meta_model.specs.declared.group.Group.{Group}
+use Rattle.meta_print.specs.Layout.{tree_of}
+use Rattle.scan_rules.specs.Decision.{AreaReading, Copy, SameHeaders, first_misplaced, is_held}
+use Rattle.vg_commit.specs.SectorReading.{ShowsBy, new_reading}
+use Rattle.vg_found.specs.declared.found.Found.{Found}
+use Rattle.vg_found.specs.Disks.{shapes}
+use Rattle.vg_scan.specs.Readings.{IsDiskReading}
+use Rattle.vg_scan.specs.Texts.{IsCopyOf}
+use Rattle.group_ops.proofs.PlacedVolumes.{change_is_placed}
+use Rattle.group_ops.proofs.WholeState.{whole_is_state}
+use Rattle.group_ops.specs.Judging.{lies_on as is_on, set_of}
+use Rattle.group_ops.specs.Laws.{ArePlaced, state_in}
+use Rattle.group_ops.specs.Planning.{change_of}
+use Rattle.group_ops.specs.State.{IsState}
+use Rattle.group_ops.specs.declared.state.Change.{Change}
+use Rattle.group_ops.specs.declared.state.GroupState.{GroupState}
+use Rattle.vg_change.specs.Batches.{areas_of, batch_if, batches_of, commit_batches, label_put, new_area_puts}
+use Rattle.vg_change.specs.CarryingOut.{sizes_of}
+use Rattle.vg_change.specs.Laws.{AreasKeptBy, HasLabel, HoldsAfter, IsKeptOrNew, ShowsEntries}
+use Rattle.vg_change.specs.Sound.{CanMake, CanTakeText, LiesOn}
+use Rattle.vg_change.proofs.DiskSets.{of_set}
+use Rattle.vg_change.proofs.Sound.{can_make, lies_on}
+use Rattle.image_scans.specs.Laws.{CanCarryOut, none_out, version_of}
+use Rattle.image_scans.specs.Versions.{FindsVersion, version_in}
+use Rattle.image_scans.proofs.Again.{again_give}
+use Rattle.image_scans.proofs.AreaAgain.{NotRefused}
+use Rattle.image_scans.proofs.BaseEntries.{entries_shown}
+use Rattle.image_scans.proofs.CommitOnTheWay.{each_again}
+use Rattle.image_scans.proofs.CommitScans.{IsNext, either_found, new_found}
+use Rattle.image_scans.proofs.CommitWrites.{no_area}
+use Rattle.image_scans.proofs.DiskAgain.{AllAgain, DiskAgain, all_again}
+use Rattle.image_scans.proofs.FoundAreas.{IsHeldOn, all_held}
+use Rattle.image_scans.proofs.HeldText.{text_held}
+use Rattle.image_scans.proofs.MadeGroup.{IsListedOn, MakesGroup}
+use Rattle.image_scans.proofs.OneArea.{printed_copy}
+use Rattle.image_scans.proofs.ReadingShapes.{gives_at, readings_shaped}
+use Rattle.image_scans.proofs.SettledBase.{IsSettledScan, settled_read, settled_scan}
+
+-- the image with all batches is the last on the way
+pub all_written : (batches : List (List Put)) (base : Image) → HasFirstBatches batches base (with_batches batches base)
+all_written batches base = record {
+  count = length batches;
+  among = omega arith;
+  either = λ pv sector. inl (sym (ap (λ (l : List (List Put)). with_batches l base pv sector) (take_all (length batches) batches (omega arith))));
+}
+
+module _ (base : Image) (sizes : List ℕ) (found : Found) (names : List (List ℕ)) (line : Line) (now : ℕ) (p : CanCarryOut base sizes found names line now) where
+  abbrev state : GroupState
+  state = state_in found names
+
+  abbrev change : Change
+  change = change_of state line
+
+  pub is_state : IsState state
+  is_state = whole_is_state found names p.shape p.whole p.named p.names_are
+
+  pub can : CanMake state.areas change now
+  can = can_make state line now is_state p.planned p.passes
+
+  pub lies : LiesOn (sizes_of state.disks) state.areas change
+  lies = lies_on state line now is_state p.planned p.passes
+
+  pub settled : IsSettledScan p.scan.readings found
+  settled = settled_scan base found.unread found.disks p.scan.readings found p.scan.are.each p.no_stale p.no_strays p.scan.answer
+
+  pub shown : ShowsEntries state.areas base
+  shown = subst (λ (l : List (Area × Option Locn)). ShowsEntries l base) (sym p.scan.areas) (entries_shown base found.unread 0 found.disks p.scan.readings p.scan.are.each)
+
+  pub headers : SameHeaders (shapes found.disks) p.scan.readings
+  headers = readings_shaped base found.unread 0 found.disks p.scan.readings p.scan.are.each
+
+  -- the batches, where this group is committed
+  abbrev batches_with : Option Group → List (List Put)
+  batches_with g = batch_if (new_area_puts g change.labels) ++ batch_if (map label_put change.labels) ++ commit_batches g now (areas_of change state.areas)
+
+  module _ (group : Group) (makes : MakesGroup state change group) (next : IsNext found.group group) where
+    abbrev text : List ℕ
+    text = printed (tree_of group now)
+
+    abbrev new : AreaReading
+    new = Copy group text []
+
+    abbrev own : List (Area × Option Locn)
+    own = areas_of change state.areas
+
+    fits : CanTakeText change state.areas text
+    fits = can.commit group makes.made
+
+    copy : IsCopyOf text group []
+    copy = let early : now < 2 ^ 48 = p.time in printed_copy group now (omega (arith, early)) makes.whole.tree makes.whole.accepted
+
+    placed : first_misplaced group (shapes found.disks) ≡ None
+    placed = subst (λ (o : Option Group). ArePlaced state.disks o) makes.made (change_is_placed state line is_state p.shape.placed)
+
+    ends : All (HasLabel (with_batches (batches_with (Some group)) base)) change.labels
+    ends = subst (λ (g : Option Group). All (HasLabel (with_batches (batches_with g) base)) change.labels) makes.made (p.keeps.found base shown).labels
+
+    module _ (image : Image) (h : HasFirstBatches (batches_of state line now) base image) where
+      front : HasFirstBatches (batches_with (Some group)) base image
+      front = subst (λ (g : Option Group). HasFirstBatches (batches_with g) base image) makes.made h
+
+      kept : All (IsKeptOrNew text base image) state.areas
+      kept = subst (λ (g : Option Group). AreasKeptBy g now change state.areas base image) makes.made (p.keeps.kept base image shown h).areas
+
+      again : AllAgain image found.unread 0 group new found.disks p.scan.readings
+      again =
+          all_again base image found.unread 0 group new found.disks p.scan.readings p.scan.are.each
+          (λ k disk reading at_disk at_reading is.
+          let zero_less : 0 + k ≡ k = omega arith in
+          subst (λ (n : ℕ). DiskAgain n (image n) group new disk reading) (sym zero_less)
+          (each_again state is_state change group makes text fits can.labels lies.differ base ends image front [] copy kept k disk reading at_disk
+          (subst (λ (n : ℕ). IsDiskReading n (base n) disk reading) zero_less is)
+          (gives_at NotRefused p.scan.readings k reading (settled_read p.scan.readings found settled) at_reading)))
+
+      pub on_the_way : FindsVersion sizes image none_out (version_in found) ⊎ FindsVersion sizes image none_out (Some (version_of group change))
+      on_the_way =
+          either_found image sizes found p.shape p.whole p.scan.readings p.scan.are.sizes_xl headers settled group text copy next placed makes.there change.disk_of makes.disks_xl again p.scan.answer
+
+      pub with_text : All (ShowsBy (new_reading text) image) own → FindsVersion sizes image none_out (Some (version_of group change))
+      with_text shows =
+          let held : is_held group text again.read ≡ true =
+          text_held image group text found.disks again.there again.read again.at
+          (again_give NotRefused group new tt p.scan.readings again.read again.again (settled_read p.scan.readings found settled)) (get_or own 0 no_area)
+          (All-filter (is_on (set_of change.disk_of)) (IsHeldOn state.disks) state.areas (subst (All (IsHeldOn state.disks)) (sym is_state.areas) (all_held state.disks is_state.disks)) 0 no_area fits.committed.some)
+          (of_set (IsListedOn group state.disks) change.disk_of makes.listed (get_or own 0 no_area).0.pv (filter_passes (is_on (set_of change.disk_of)) state.areas 0 no_area fits.committed.some))
+          (shows 0 no_area fits.committed.some)
+          in
+          new_found image sizes found p.shape p.whole p.scan.readings p.scan.are.sizes_xl headers settled group text copy next placed makes.there change.disk_of makes.disks_xl again held
+
+    pub at_the_end : FindsVersion sizes (with_batches (batches_of state line now) base) none_out (Some (version_of group change))
+    at_the_end =
+        let image : Image = with_batches (batches_of state line now) base in
+        with_text image (all_written (batches_of state line now) base) (subst (λ (g : Option Group). HoldsAfter g now change state.areas image) makes.made (p.keeps.found base shown).areas)

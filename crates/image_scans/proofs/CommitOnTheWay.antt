@@ -1,0 +1,352 @@
+-- An image on the way of a change that commits a group: each disk reads again, but for areas that give the new text.
+use Rattle.std.proofs.Common.{◌≡◌, ◌≢◌, ◌≤◌, ◌<◌, ◌⊎◌, ℕ, ◌+◌, ◌/◌, Bool, true, false, cond, List, [], ◌∷◌, ◌++◌, length, get_or, map, filter, Option, Some, None, inl, inr, ⊎_elim, refl, sym, ap, subst, ◌∙◌, arith}
+use Rattle.std.specs.Prelude.{All, slice_get}
+use Rattle.std.specs.FinSet as set
+use Rattle.std.specs.List.{AllByRecursion as Each}
+use Rattle.std.specs.Option.{option_and_then}
+use Rattle.std.proofs.lemmas.Bool.{cases_Bool, true≢false}
+use Rattle.std.proofs.lemmas.List.Elements.{All-cons, All-filter, All-head, All-map, All-nil, All-tail, filter_passes, recursion_from_All}
+use Rattle.std.proofs.lemmas.Option.{same_Some}
+use Rattle.disk_model.specs.Steps.{Image}
+use Rattle.disk_batch.specs.InTurn.{HasFirstBatches, Put, with_batches}
+use Rattle.disk_batch.specs.Writes.{IsWrittenBy}
+use Rattle.disk_batch.proofs.InTurn.{batches_append}
+use Rattle.mda_header.specs.declared.header.Locn.{Locn}
+use Rattle.mda_header.specs.HeaderBytes.{header_bytes}
+use Rattle.mda_ring.specs.declared.area.Area.{Area}
+use Rattle.mda_ring.specs.Ring.{need, room}
+use Rattle.meta_model.specs.declared.group.Group.{Group}
+use Rattle.pv_header.specs.PvHeader.{IsPvHeader}
+use Rattle.pv_header.specs.declared.header.PvHeader.{PvHeader}
+use Rattle.pv_label.specs.Label.{IsLabel}
+use Rattle.disk_contents.specs.declared.contents.AreaFound.{AreaFound}
+use Rattle.disk_contents.specs.declared.contents.PvFound.{PvFound}
+use Rattle.disk_contents.specs.declared.contents.PvFound.TheVariants.{NoLabel, NoHeader, Whole}
+use Rattle.disk_contents.specs.Standing.{area_on}
+use Rattle.scan_rules.specs.Decision.{AreaReading, Copy, Reading, lists}
+use Rattle.vg_commit.specs.Written.{area_writes, header_after, header_before, headers_of, publish_of, texts_of}
+use Rattle.vg_commit.proofs.AreasCommit.{rooms}
+use Rattle.vg_found.specs.declared.disk.Disk.{Disk}
+use Rattle.vg_found.specs.Disks.{areas_on, held_area, header_on}
+use Rattle.vg_found.specs.Shape.{ContentsCanStand}
+use Rattle.vg_scan.specs.Readings.{IsDiskReading}
+use Rattle.vg_scan.specs.Texts.{IsCopyOf}
+use Rattle.group_ops.proofs.Passed.{absent}
+use Rattle.group_ops.proofs.StateFacts.{areas_take}
+use Rattle.group_ops.specs.Added.{disks_added, label_of, pv_in}
+use Rattle.group_ops.specs.Judging.{lies_on, set_of}
+use Rattle.group_ops.specs.State.{IsState}
+use Rattle.group_ops.specs.declared.added.Added.{Added}
+use Rattle.group_ops.specs.declared.state.Change.{Change}
+use Rattle.group_ops.specs.declared.state.GroupState.{GroupState}
+use Rattle.group_ops.specs.declared.state.NewLabel.{NewLabel}
+use Rattle.vg_change.specs.Batches.{areas_of, batch_if, label_bytes, label_put}
+use Rattle.vg_change.specs.Laws.{HasLabel, IsKeptOrNew}
+use Rattle.vg_change.specs.Sound.{CanLabel, CanTakeText}
+use Rattle.vg_change.proofs.DiskSets.{of_set}
+use Rattle.vg_change.proofs.FarAreas.{IsFar, areas_far}
+use Rattle.vg_change.proofs.LabelPuts.{AreApart, label_where, labels_there, with_if}
+use Rattle.vg_change.proofs.LabelsRead.{label_read}
+use Rattle.image_scans.proofs.AreaAgain.{HasHeader, IsOnTheWay, NotRefused}
+use Rattle.image_scans.proofs.CommitWrites.{IsAreaWrite, commit_writes, no_area}
+use Rattle.image_scans.proofs.DiskAgain.{DiskAgain, IsKnown, LabelStands, disk_again, disk_same}
+use Rattle.image_scans.proofs.FoundAreas.{IsHeldOn, IsPlaced, LieBeside, all_held, areas_placed, entry_kept, of_held}
+use Rattle.image_scans.proofs.Front.{AnyWrites, any_append, any_if, batches_or, front_or}
+use Rattle.image_scans.proofs.Given.{PvGives}
+use Rattle.image_scans.proofs.Labels.{IsSameHeader}
+use Rattle.image_scans.proofs.MadeGroup.{IsAddedOn, IsListedOn, MakesGroup}
+
+-- ---- lists
+
+of_passed : {X : Type 0} (p : X → Bool) (Q : X → Type 0) (xs : List X) → All Q (filter p xs) → All (λ (x : X). p x ≡ true → Q x) xs
+of_passed p Q [] all = All-nil (λ x. p x ≡ true → Q x)
+of_passed p Q (x ∷ xs) all = step (λ later. of_passed p Q xs later) (p x) refl all
+  where
+    step : (All Q (filter p xs) → All (λ y. p y ≡ true → Q y) xs) → (b : Bool) → p x ≡ b → All Q (cond b (x ∷ filter p xs) (filter p xs)) → All (λ y. p y ≡ true → Q y) (x ∷ xs)
+    step rest true is here = All-cons (λ y. p y ≡ true → Q y) x xs (λ _. All-head Q x (filter p xs) here) (rest (All-tail Q x (filter p xs) here))
+    step rest false is here = All-cons (λ y. p y ≡ true → Q y) x xs (λ yes. absurd (true≢false (sym yes ∙ is))) (rest here)
+
+each_back : {X : Type 0} (P : X → Type 0) (xs ys : List X) → Each P (xs ++ ys) → Each P ys
+each_back P [] ys all = all
+each_back P (x ∷ xs) ys all = each_back P xs ys all.1
+
+-- ---- what stands on a disk
+
+header_whole : (contents : PvFound) (header : PvHeader) → header_on (Some contents) ≡ Some header → (label : ℕ) × (areas : List AreaFound) × (contents ≡ Whole label header areas)
+header_whole (NoLabel refusal) header is = absurd cc
+header_whole (NoHeader label refusal) header is = absurd cc
+header_whole (Whole label own areas) header is = (label, areas, ap (λ (h : PvHeader). Whole label h areas) (same_Some own header is))
+
+pub header_read : (contents : Option PvFound) (header : PvHeader) → header_on contents ≡ Some header → (label : ℕ) × (areas : List AreaFound) × (contents ≡ Some (Whole label header areas))
+header_read None header is = absurd cc
+header_read (Some contents) header is = let w = header_whole contents header is in (w.0, w.1, ap (λ (c : PvFound). Some c) w.2)
+
+-- a label that is written again on a disk is that of the physical volume there
+same_label : (label : ℕ) (header : PvHeader) (areas : List AreaFound) (contents : Option PvFound) (added : Added) → contents ≡ Some (Whole label header areas) → option_and_then pv_in contents ≡ Some (added.label, added.header)
+    → (label ≡ added.label) × (header ≡ added.header)
+same_label label header areas contents added is found =
+    let both : ◌≡◌ {A = Option (ℕ × PvHeader)} (Some (label, header)) (Some (added.label, added.header)) = sym (ap (option_and_then pv_in) is) ∙ found in
+    let pair : (label, header) ≡ (added.label, added.header) = same_Some (label, header) (added.label, added.header) both in
+    (ap (λ (p : ℕ × PvHeader). p.0) pair, ap (λ (p : ℕ × PvHeader). p.1) pair)
+
+-- some label, where a list has none
+some_label : NewLabel
+some_label = record { disk = 0; sector = 0; header = record { id = []; device_bytes = 0; data_areas = []; areas = []; version = 0; flags = 0 } }
+
+-- ---- the change
+
+module _ (state : GroupState) (is_state : IsState state) (change : Change) (group : Group) (makes : MakesGroup state change group) (text : List ℕ) (fits : CanTakeText change state.areas text) (can : All CanLabel change.labels) (differ : AreApart change.labels) (base : Image) where
+  abbrev own : List (Area × Option Locn)
+  own = areas_of change state.areas
+
+  abbrev label_puts : List Put
+  label_puts = map label_put change.labels
+
+  abbrev commit : List (List Put)
+  commit = texts_of (map (area_writes text) own) ∷ headers_of (map (area_writes text) own) ∷ publish_of (map (area_writes text) own) ∷ []
+
+  abbrev batches : List (List Put)
+  batches = batch_if [] ++ batch_if label_puts ++ commit
+
+  -- ---- what is written
+
+  own_rooms : All (λ (a : Area × Option Locn). need (length text + 1) ≤ room a.0.size a.1) own
+  own_rooms = rooms text own fits.room
+
+  own_far : All IsFar own
+  own_far = All-filter (lies_on (set_of change.disk_of)) IsFar state.areas (areas_far state is_state)
+
+  own_held : All (IsHeldOn state.disks) own
+  own_held = All-filter (lies_on (set_of change.disk_of)) (IsHeldOn state.disks) state.areas (subst (All (IsHeldOn state.disks)) (sym is_state.areas) (all_held state.disks is_state.disks))
+
+  -- a label, or a sector of an area of the group
+  pub writes : (pv sector : ℕ) (value : List ℕ) → AnyWrites batches pv sector value → IsWrittenBy label_puts pv sector value ⊎ IsAreaWrite text own pv sector value
+  writes pv sector value by =
+      ⊎_elim
+      (λ first.
+      ⊎_elim
+      (λ none. absurd none)
+      (λ label. inl (any_if label_puts pv sector value label))
+      (any_append (batch_if []) (batch_if label_puts) pv sector value first))
+      (λ later. inr (commit_writes text own fits.committed.take own_rooms pv sector value later))
+      (any_append (batch_if [] ++ batch_if label_puts) commit pv sector value by)
+
+  -- each label is that of the physical volume that was found on its disk
+  abbrev IsLabelOn : NewLabel → Type 0
+  IsLabelOn label = (disk : Disk) × (old : PvHeader) × (slice_get state.disks label.disk ≡ Some disk) × (option_and_then pv_in disk.contents ≡ Some (label.sector, old)) × IsSameHeader old label.header
+
+  labels_on : All IsLabelOn change.labels
+  labels_on =
+      subst (All IsLabelOn) (sym makes.labels_xl)
+      (All-map IsLabelOn label_of makes.all (λ k d within.
+      let on : IsAddedOn state.disks (get_or makes.all k d) = makes.on k d within in
+      (on.disk, (get_or makes.all k d).header, on.there, on.found, record { id = refl; held = refl; areas = refl })))
+
+  -- a label's sector that is written has its label
+  record WritesLabel (pv sector : ℕ) (value : List ℕ) : Type 0 where
+    number : ℕ
+    among : number < length change.labels
+    label : NewLabel
+    label_xl : get_or change.labels number some_label ≡ label
+    disk : label.disk ≡ pv
+    at : label.sector ≡ sector
+    is : value ≡ label_bytes label
+    can_label : CanLabel label
+    on : IsLabelOn label
+    stands : with_batches batches base label.disk label.sector ≡ label_bytes label
+
+  -- it stays until all is written
+  near_kept : (pv sector : ℕ) → sector < 4 → (value : List ℕ) → IsAreaWrite text own pv sector value → ⊥
+  near_kept pv sector low value by =
+      let begins : 2048 ≤ (get_or own by.number no_area).0.start = own_far by.number no_area by.among in
+      omega (arith, low, begins, by.from)
+
+  label_stays : (k : ℕ) (d : NewLabel) → k < length change.labels → with_batches batches base (get_or change.labels k d).disk (get_or change.labels k d).sector ≡ label_bytes (get_or change.labels k d)
+  label_stays k d within =
+      let label : NewLabel = get_or change.labels k d in
+      let first : Image = with_batches (batch_if [] ++ batch_if label_puts) base in
+      let there : first label.disk label.sector ≡ label_bytes label =
+      ap (λ (i : Image). i label.disk label.sector) (with_if label_puts base) ∙ labels_there change.labels base differ k d within
+      in
+      ap (λ (i : Image). i label.disk label.sector) (batches_append (batch_if [] ++ batch_if label_puts) commit base)
+      ∙ ⊎_elim
+      (λ same. same ∙ there)
+      (λ by. absurd (near_kept label.disk label.sector (can k d within).sector_below (with_batches commit first label.disk label.sector) (commit_writes text own fits.committed.take own_rooms label.disk label.sector (with_batches commit first label.disk label.sector) by)))
+      (batches_or commit first label.disk label.sector)
+
+  label_written : (pv sector : ℕ) (value : List ℕ) → IsWrittenBy label_puts pv sector value → WritesLabel pv sector value
+  label_written pv sector value by =
+      let w = label_where change.labels some_label pv sector value by in
+      record {
+        number = w.0;
+        among = w.1;
+        label = get_or change.labels w.0 some_label;
+        label_xl = refl;
+        disk = w.2;
+        at = w.3;
+        is = w.4;
+        can_label = can w.0 some_label w.1;
+        on = labels_on w.0 some_label w.1;
+        stands = label_stays w.0 some_label w.1;
+      }
+
+  -- ---- an image on the way
+
+  module _ (ends : All (HasLabel (with_batches batches base)) change.labels) (image : Image) (h : HasFirstBatches batches base image) where
+    -- a disk that isn't one of the group
+    off_disk : (pv : ℕ) → set.contains (set_of change.disk_of) pv ≡ false → (sector : ℕ) → image pv sector ≡ base pv sector
+    off_disk pv off sector =
+        ⊎_elim
+        (λ same. same)
+        (λ by.
+        ⊎_elim
+        (λ label.
+        let w = label_where change.labels some_label pv sector (image pv sector) label in
+        let others : Each (λ n. n ≢ pv) (disks_added makes.all) =
+        each_back (λ n. n ≢ pv) makes.first (disks_added makes.all) (subst (Each (λ n. n ≢ pv)) makes.disk_of_xl (absent set.empty change.disk_of pv off).1)
+        in
+        let apart : All (λ (l : NewLabel). l.disk ≢ pv) change.labels =
+        subst (All (λ (l : NewLabel). l.disk ≢ pv)) (sym makes.labels_xl) (All-map (λ (l : NewLabel). l.disk ≢ pv) label_of makes.all (added_apart pv makes.all others))
+        in
+        absurd (apart w.0 some_label w.1 w.2))
+        (λ area.
+        let on : set.contains (set_of change.disk_of) (get_or own area.number no_area).0.pv ≡ true = filter_passes (lies_on (set_of change.disk_of)) state.areas area.number no_area area.among in
+        absurd (true≢false (sym on ∙ ap (set.contains (set_of change.disk_of)) area.disk ∙ off)))
+        (writes pv sector (image pv sector) by))
+        (front_or batches base image pv sector h)
+      where
+        added_apart : (n : ℕ) (all : List Added) → Each (λ m. m ≢ n) (disks_added all) → All (λ (added : Added). added.disk ≢ n) all
+        added_apart n [] apart = All-nil (λ (added : Added). added.disk ≢ n)
+        added_apart n (added ∷ more) apart = All-cons (λ (a : Added). a.disk ≢ n) added more apart.0 (added_apart n more apart.1)
+
+    -- a disk of the group, with its header
+    module _ (pv : ℕ) (disk : Disk) (there : slice_get state.disks pv ≡ Some disk) (label : ℕ) (header : PvHeader) (areas : List AreaFound) (is : disk.contents ≡ Some (Whole label header areas)) (low : label < 4) where
+      of_label : (sector : ℕ) (value : List ℕ) → (w : WritesLabel pv sector value) → (label ≡ sector) × (header ≡ w.on.1)
+      of_label sector value w =
+          let same : disk ≡ w.on.0 = same_Some disk w.on.0 (sym there ∙ ap (slice_get state.disks) (sym w.disk) ∙ w.on.2) in
+          let both : ◌≡◌ {A = Option (ℕ × PvHeader)} (Some (label, header)) (Some (w.label.sector, w.on.1)) =
+          sym (ap (option_and_then pv_in) is) ∙ ap (λ (d : Disk). option_and_then pv_in d.contents) same ∙ w.on.3
+          in
+          let pair : (label, header) ≡ (w.label.sector, w.on.1) = same_Some (label, header) (w.label.sector, w.on.1) both in
+          (ap (λ (p : ℕ × PvHeader). p.0) pair ∙ w.at, ap (λ (p : ℕ × PvHeader). p.1) pair)
+
+      label_stands : LabelStands (base pv) (image pv) label header
+      label_stands = record {
+        before = λ k less.
+            ⊎_elim
+            (λ same. same)
+            (λ by.
+            ⊎_elim
+            (λ at. let w = label_written pv k (image pv k) at in absurd (omega (arith, less, (of_label k (image pv k) w).0)))
+            (λ area. absurd (near_kept pv k (omega (arith, less, low)) (image pv k) area))
+            (writes pv k (image pv k) by))
+            (front_or batches base image pv k h);
+        is =
+            ⊎_elim
+            (λ same. inl same)
+            (λ by.
+            ⊎_elim
+            (λ at.
+            let w : WritesLabel pv label (image pv label) = label_written pv label (image pv label) at in
+            let same : header ≡ w.on.1 = (of_label label (image pv label) w).1 in
+            let has : HasLabel (with_batches batches base) w.label = subst (HasLabel (with_batches batches base)) w.label_xl (ends w.number some_label w.among) in
+            inr (
+              w.label.header,
+              subst (λ (old : PvHeader). IsSameHeader old w.label.header) (sym same) w.on.4,
+              subst (λ (s : List ℕ). IsLabel s label) (sym w.is) (subst (λ (n : ℕ). IsLabel (label_bytes w.label) n) w.at (label_read w.label w.can_label)),
+              subst (λ (s : List ℕ). IsPvHeader s w.label.header []) (w.stands ∙ sym w.is) has.header,
+            ))
+            (λ area. absurd (near_kept pv label low (image pv label) area))
+            (writes pv label (image pv label) by))
+            (front_or batches base image pv label h);
+      }
+
+      -- an area of the list, and one of the group that has its header sector
+      met_area : (k : ℕ) (d : AreaFound) → k < length areas → (value : List ℕ) → (w : IsAreaWrite text own pv ((get_or areas k d).area.offset / 512) value)
+          → (held : Area × Option Locn) × (held_area pv (get_or areas k d) ≡ Some held) × ((value ≡ header_bytes (header_before text held)) ⊎ (value ≡ header_bytes (header_after text held)))
+      met_area k d within value w =
+          let found : AreaFound = get_or areas k d in
+          let b : Area × Option Locn = get_or own w.number no_area in
+          let on : IsHeldOn state.disks b = own_held w.number no_area w.among in
+          let same_disk : on.disk ≡ disk = same_Some on.disk disk (sym on.there ∙ ap (slice_get state.disks) w.disk ∙ there) in
+          let list : areas_on on.disk.contents ≡ areas = ap (λ (x : Disk). areas_on x.contents) same_disk ∙ ap areas_on is in
+          let beside : All (λ (other : AreaFound). (other ≡ on.found) ⊎ LieBeside other.area on.found.area) areas = subst (All (λ (other : AreaFound). (other ≡ on.found) ⊎ LieBeside other.area on.found.area)) list on.placed.beside in
+          let placed : All (IsPlaced areas) areas = subst (λ (c : Option PvFound). All (IsPlaced (areas_on c)) (areas_on c)) is (areas_placed pv disk.sectors disk.contents (is_state.disks pv disk there).contents) in
+          let own_area : b.0 ≡ area_on b.0.pv on.found.area = entry_kept (area_on b.0.pv on.found.area) on.found.entry b on.is in
+          let starts : b.0.start ≡ on.found.area.offset = ap (λ (a : Area). a.start) own_area in
+          let sized : b.0.size ≡ on.found.area.size = ap (λ (a : Area). a.size) own_area in
+          let p : IsPlaced areas found = placed k d within in
+          ⊎_elim
+          (λ same.
+          let offset : found.area.offset ≡ b.0.start = ap (λ (f : AreaFound). f.area.offset) same ∙ sym starts in
+          let held : held_area pv found ≡ Some b = ap (held_area pv) same ∙ ap (λ (n : ℕ). held_area n on.found) (sym w.disk) ∙ on.is in
+          ⊎_elim
+          (λ (ring : b.0.start / 512 + 1 ≤ found.area.offset / 512). absurd (omega (arith, ring, offset)))
+          (λ at. (b, held, at.1))
+          w.is)
+          (λ apart. absurd (⊎_elim
+          (λ (before : found.area.offset + found.area.size ≤ on.found.area.offset). omega (arith, before, p.starts, p.some, w.from, starts))
+          (λ (behind : on.found.area.offset + on.found.area.size ≤ found.area.offset). omega (arith, behind, on.placed.starts, on.placed.sized, w.to, starts, sized))
+          apart))
+          (beside k d within)
+
+      headers : All (HasHeader text pv base image) areas
+      headers k d within =
+          let found : AreaFound = get_or areas k d in
+          let sector : ℕ = found.area.offset / 512 in
+          let placed : All (IsPlaced areas) areas = subst (λ (c : Option PvFound). All (IsPlaced (areas_on c)) (areas_on c)) is (areas_placed pv disk.sectors disk.contents (is_state.disks pv disk there).contents) in
+          ⊎_elim
+          (λ same. inl same)
+          (λ by.
+          ⊎_elim
+          (λ at. let w : WritesLabel pv sector (image pv sector) = label_written pv sector (image pv sector) at in absurd (omega (arith, w.can_label.sector_below, w.at, (placed k d within).far)))
+          (λ area. inr (met_area k d within (image pv sector) area))
+          (writes pv sector (image pv sector) by))
+          (front_or batches base image pv sector h)
+
+      module _ (kept : All (IsKeptOrNew text base image) state.areas) (on_group : set.contains (set_of change.disk_of) pv ≡ true) (may : Bool) (allowed : may ≡ true) where
+        abbrev OnWay : Area × Option Locn → Type 0
+        OnWay held = lies_on (set_of change.disk_of) held ≡ true → IsOnTheWay text base image may held
+
+        ways : All OnWay state.areas
+        ways k d within on = record {
+          shows = kept k d within;
+          take = areas_take state is_state k d within;
+          fits = of_passed (lies_on (set_of change.disk_of)) (λ (a : Area × Option Locn). need (length text + 1) ≤ room a.0.size a.1) state.areas own_rooms k d within on;
+          allowed = allowed;
+        }
+
+        known : All (IsKnown text pv base image may) areas
+        known k d within = (
+          λ held is_held.
+              let here : held.0.pv ≡ pv = ap (λ (a : Area). a.pv) (entry_kept (area_on pv (get_or areas k d).area) (get_or areas k d).entry held is_held) in
+              let all : All (λ found. (x : Area × Option Locn) → held_area (0 + pv) found ≡ Some x → OnWay x) areas =
+              subst (λ (c : Option PvFound). All (λ found. (x : Area × Option Locn) → held_area (0 + pv) found ≡ Some x → OnWay x) (areas_on c)) is
+              (of_held OnWay 0 state.disks (subst (All OnWay) is_state.areas ways) pv disk there)
+              in
+              all k d within held (ap (λ (n : ℕ). held_area n (get_or areas k d)) (omega arith) ∙ is_held) (ap (set.contains (set_of change.disk_of)) here ∙ on_group),
+          headers k d within,
+        )
+
+    module _ (passed : List (List ℕ)) (copy : IsCopyOf text group passed) (kept : All (IsKeptOrNew text base image) state.areas) where
+      abbrev new : AreaReading
+      new = Copy group text passed
+
+      disk_on : (pv : ℕ) (disk : Disk) (reading : Reading) → slice_get state.disks pv ≡ Some disk → IsDiskReading pv (base pv) disk reading → PvGives NotRefused reading.pv → set.contains (set_of change.disk_of) pv ≡ true
+          → DiskAgain pv (image pv) group new disk reading
+      disk_on pv disk reading there read given on =
+          let listed : IsListedOn group state.disks pv = of_set (IsListedOn group state.disks) change.disk_of makes.listed pv on in
+          let same : disk ≡ listed.disk = same_Some disk listed.disk (sym there ∙ listed.there) in
+          let w = header_read disk.contents listed.header (ap (λ (x : Disk). header_on x.contents) same ∙ listed.is) in
+          let stands = subst (λ (c : Option PvFound). ContentsCanStand pv disk.sectors c) w.2 (is_state.disks pv disk there).contents in
+          subst (λ (n : ℕ). DiskAgain pv (image pv) group new disk (record { sectors = n; pv = reading.pv })) (sym read.sectors_xl)
+          (disk_again text group passed copy group pv base image disk.sectors disk.contents reading.pv read.contents read.pv_xl given w.0 listed.header w.1 w.2
+          (label_stands pv disk there w.0 listed.header w.1 w.2 stands.0)
+          (recursion_from_All (IsKnown text pv base image (lists group listed.header.id)) w.1 (known pv disk there w.0 listed.header w.1 w.2 stands.0 kept on (lists group listed.header.id) listed.listed)))
+
+      pub each_again : (pv : ℕ) (disk : Disk) (reading : Reading) → slice_get state.disks pv ≡ Some disk → IsDiskReading pv (base pv) disk reading → PvGives NotRefused reading.pv → DiskAgain pv (image pv) group new disk reading
+      each_again pv disk reading there read given =
+          ⊎_elim
+          (λ on. disk_on pv disk reading there read given on)
+          (λ off. disk_same pv (base pv) (image pv) group new disk reading (off_disk pv off) read)
+          (cases_Bool (set.contains (set_of change.disk_of) pv))

@@ -1,0 +1,103 @@
+-- What a line makes: a version of the group, a new physical volume, or nothing.
+use Rattle.std.proofs.Common.{◌≡◌, ◌≤◌, ℕ, ◌||◌, nat_lt, false, List, [], ◌∷◌, Option, Some, None, refl}
+use Rattle.std.specs.Prelude.{slice_get, unwrap_or}
+use Rattle.std.specs.Option.{option_map_or}
+use Rattle.std.proofs.lemmas.Bool.{ltb-false}
+use Rattle.disk_model.specs.Steps.{Image}
+use Rattle.lvm_script.specs.Options.{number_named}
+use Rattle.lvm_script.specs.declared.command.Command.{Command}
+use Rattle.lvm_script.specs.declared.command.Command.TheVariants.{Pvcreate, Vgcreate, Vgextend}
+use Rattle.lvm_script.specs.declared.line.Line.{Line}
+use Rattle.lvm_script.specs.declared.op_refusal.OpRefusal.{OpRefusal}
+use Rattle.lvm_script.specs.declared.op_refusal.OpRefusal.TheVariants.{IdTaken, PvUsed, TooSmall, UnknownGroup, UnknownPv}
+use Rattle.meta_model.specs.declared.group.Group.{Group}
+use Rattle.scan_rules.specs.Decision.{Reading}
+use Rattle.vg_found.specs.declared.disk.Disk.{Disk}
+use Rattle.vg_found.specs.declared.found.Found.{Found}
+use Rattle.vg_found.specs.Shape.{HasShape}
+use Rattle.vg_found.specs.Whole.{IsWhole}
+use Rattle.group_ops.proofs.Passed.{both_false}
+use Rattle.group_ops.specs.Judging.{first_refusal, stands_on_disk}
+use Rattle.group_ops.specs.Laws.{state_in}
+use Rattle.group_ops.specs.Planning.{IsPlanned, change_of, extend_by, refusal_of}
+use Rattle.group_ops.specs.Pvcreate.{disk_rows, fewest_sectors, group_has, is_listed, new_label, pvcreate_change}
+use Rattle.group_ops.specs.State.{IsState}
+use Rattle.group_ops.specs.Vgextend.{found_rows}
+use Rattle.group_ops.specs.declared.state.Change.{Change}
+use Rattle.group_ops.specs.declared.state.GroupState.{GroupState}
+use Rattle.vg_change.proofs.Rows.{none_holds, test_fails}
+use Rattle.image_scans.specs.Laws.{CanCarryOut}
+use Rattle.image_scans.proofs.CommitCommands.{Commits, vgcreate_commits, vgextend_commits}
+use Rattle.image_scans.proofs.CommitLine.{is_state, settled}
+use Rattle.image_scans.proofs.SettledBase.{IsSettledScan}
+
+-- a new physical volume on a disk that the group doesn't list, with an id that stands nowhere
+pub record MakesPv (state : GroupState) (change : Change) : Type 0 where
+  pub none : change.group ≡ None
+  pub number : ℕ
+  pub disk : Disk
+  pub there : slice_get state.disks number ≡ Some disk
+  pub id : List ℕ
+  pub copies : ℕ
+  pub labels_xl : change.labels ≡ new_label id copies number disk ∷ []
+  pub unlisted : is_listed state number ≡ false
+  pub enough : fewest_sectors ≤ disk.sectors
+  pub not_in_group : group_has id state.group ≡ false
+  pub on_no_disk : stands_on_disk id state.disks ≡ false
+
+pub data LineMakes (found : Found) (state : GroupState) (change : Change) : Type 0 where
+  makes_version : Commits found state change → LineMakes found state change
+  makes_pv : MakesPv state change → LineMakes found state change
+  makes_nothing : change.group ≡ None → change.labels ≡ [] → LineMakes found state change
+
+-- ---- pvcreate
+
+abbrev rows_by : GroupState → List ℕ → List ℕ → Option ℕ → List (Option OpRefusal)
+rows_by state id name None = Some (UnknownPv name) ∷ []
+rows_by state id name (Some number) = disk_rows state id name number (slice_get state.disks number)
+
+on_disk : (found : Found) (state : GroupState) (id name : List ℕ) (copies number : ℕ) (o : Option Disk) → slice_get state.disks number ≡ o → first_refusal (disk_rows state id name number o) ≡ None → (change : Change) → change.group ≡ None
+    → change.labels ≡ option_map_or (λ disk. new_label id copies number disk ∷ []) o [] → LineMakes found state change
+on_disk found state id name copies number None there none change group labels = makes_nothing group labels
+on_disk found state id name copies number (Some disk) there none change group labels =
+    let rows = none_holds (disk_rows state id name number (Some disk)) none in
+    let ids = both_false (group_has id state.group) (stands_on_disk id state.disks) (test_fails (group_has id state.group || stands_on_disk id state.disks) (IdTaken id) rows.1.1.0) in
+    makes_pv (record {
+      none = group;
+      number = number;
+      disk = disk;
+      there = there;
+      id = id;
+      copies = copies;
+      labels_xl = labels;
+      unlisted = test_fails (is_listed state number) (PvUsed name) rows.0;
+      enough = ltb-false disk.sectors fewest_sectors (test_fails (nat_lt disk.sectors fewest_sectors) (TooSmall disk.sectors fewest_sectors) rows.1.0);
+      not_in_group = ids.0;
+      on_no_disk = ids.1;
+    })
+
+by_name : (found : Found) (state : GroupState) (id name : List ℕ) (copies : ℕ) (o : Option ℕ) → first_refusal (rows_by state id name o) ≡ None → (change : Change) → change.group ≡ None
+    → change.labels ≡ option_map_or (λ number. option_map_or (λ disk. new_label id copies number disk ∷ []) (slice_get state.disks number) []) o [] → LineMakes found state change
+by_name found state id name copies None none change group labels = absurd cc
+by_name found state id name copies (Some number) none change group labels = on_disk found state id name copies number (slice_get state.disks number) refl none change group labels
+
+-- ---- any line
+
+extend_line : (found : Found) (names : List (List ℕ)) → HasShape found → IsWhole found → IsState (state_in found names) → (readings : List Reading) → IsSettledScan readings found → (vg : List ℕ) (pvs : List (List ℕ)) (now : ℕ) (o : Option Group)
+    → found.group ≡ o → first_refusal (option_map_or (found_rows (state_in found names) vg pvs now) o (Some (UnknownGroup vg) ∷ [])) ≡ None
+    → LineMakes found (state_in found names) (extend_by (state_in found names) o pvs)
+extend_line found names shape whole is readings scan vg pvs now None there none = absurd cc
+extend_line found names shape whole is readings scan vg pvs now (Some group) there none = makes_version (vgextend_commits found names shape whole is readings scan vg pvs now group there none)
+
+by_command : (found : Found) (names : List (List ℕ)) → HasShape found → IsWhole found → IsState (state_in found names) → (readings : List Reading) → IsSettledScan readings found → (number : ℕ) (id : Option (List ℕ)) (command : Command) (now : ℕ)
+    → IsPlanned id command → refusal_of (state_in found names) (record { number = number; id = id; command = command }) now ≡ None
+    → LineMakes found (state_in found names) (change_of (state_in found names) (record { number = number; id = id; command = command }))
+by_command found names shape whole is readings scan number id (Pvcreate pv copies) now planned none =
+    by_name found (state_in found names) (unwrap_or id []) pv copies (number_named names pv) none (pvcreate_change (state_in found names) (unwrap_or id []) pv copies) refl refl
+by_command found names shape whole is readings scan number id (Vgcreate vg extent_size pvs) now planned none = makes_version (vgcreate_commits found names is id vg extent_size pvs now planned none)
+by_command found names shape whole is readings scan number id (Vgextend vg pvs) now planned none = extend_line found names shape whole is readings scan vg pvs now found.group refl none
+by_command found names shape whole is readings scan number id command now planned none = absurd planned
+
+pub line_makes : (base : Image) (sizes : List ℕ) (found : Found) (names : List (List ℕ)) (line : Line) (now : ℕ) → CanCarryOut base sizes found names line now → LineMakes found (state_in found names) (change_of (state_in found names) line)
+line_makes base sizes found names line now p =
+    by_command found names p.shape p.whole (is_state base sizes found names line now p) p.scan.readings (settled base sizes found names line now p) line.number line.id line.command now p.planned p.passes

@@ -1,0 +1,11 @@
+use Rattle.image_scans.proofs.LineScans.{base_scans, images_scan, last_scans}
+use Rattle.image_scans.proofs.laws.change_scans.Goals as goal
+
+pub returns-clause-base : goal.returns-clause-base
+returns-clause-base c = λ base sizes found scan whole. base_scans base sizes found scan whole
+
+pub returns-clause-on_the_way : goal.returns-clause-on_the_way
+returns-clause-on_the_way c = λ base image sizes found names line now p h. images_scan base sizes found names line now p image h
+
+pub returns-clause-at_the_end : goal.returns-clause-at_the_end
+returns-clause-at_the_end c = λ base sizes found names line now p. last_scans base sizes found names line now p

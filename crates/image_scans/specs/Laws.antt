@@ -1,0 +1,123 @@
+-- What a scan of the disks finds in every image on the way of a line's change, and that volumes keep their contents.
+use Rattle.std.specs.Prelude.{◌≡◌, ◌<◌, ◌⊎◌, ℕ, ◌^◌, ◌*◌, ◌==◌, Bool, true, false, if◌then◌else◌, List, [], length, slice_index, filter_map, flat_map, map, option_map, All, Option, None, Some}
+use Rattle.std.specs.FinSet as set
+use Rattle.std.specs.List.{enumerate_from, list_any, range_with_len}
+use Rattle.sector_base.specs.declared.places.At.{At}
+use Rattle.disk_batch.specs.InTurn.{HasFirstBatches, Put, with_batches}
+use Rattle.disk_batch.specs.Writes.{write_work}
+use Rattle.disk_model.specs.Steps.{Image}
+use Rattle.disk_model.specs.Submitting.{writes_at}
+use Rattle.lvm_script.specs.Values.{is_disk_name}
+use Rattle.lvm_script.specs.declared.line.Line.{Line}
+use Rattle.meta_model.specs.declared.group.Group.{Group}
+use Rattle.meta_model.specs.declared.lv.Lv.{Lv}
+use Rattle.volume_rules.specs.Extents.{extents_of}
+use Rattle.volume_view.specs.Places.{primary}
+use Rattle.volume_view.specs.View.{at_place, view}
+use Rattle.vg_found.specs.Shape.{HasShape}
+use Rattle.vg_found.specs.Whole.{IsWhole}
+use Rattle.vg_found.specs.declared.found.Found.{Found}
+use Rattle.vg_scan.specs.Scans.{IsScanOf}
+use Rattle.group_ops.specs.Laws.{state_in}
+use Rattle.group_ops.specs.Planning.{IsPlanned, change_of, refusal_of}
+use Rattle.group_ops.specs.declared.state.Change.{Change}
+use Rattle.group_ops.specs.declared.state.NewLabel.{NewLabel}
+use Rattle.vg_change.specs.Batches.{batches_of}
+use Rattle.vg_change.specs.CarryingOut.{KeepsImages}
+use Rattle.image_scans.specs.Versions.{FindsVersion, Version, version_in}
+
+-- what was found of this image is whole, and nothing is stale or stray on its disks, which have these names; no row refuses the
+-- line at this time, and it keeps images as a line does whose batches were begun
+pub record CanCarryOut (base : Image) (sizes : List ℕ) (found : Found) (names : List (List ℕ)) (line : Line) (now : ℕ) : Type 0 where
+  pub scan : IsScanOf base sizes found
+  pub shape : HasShape found
+  pub whole : IsWhole found
+  pub no_stale : found.stale ≡ []
+  pub no_strays : found.strays ≡ set.empty
+  pub named : length names ≡ length found.disks
+  pub names_are : All (λ name. is_disk_name name ≡ true) names
+  pub planned : IsPlanned line.id line.command
+  pub time : now < 2 ^ 48
+  pub passes : refusal_of (state_in found names) line now ≡ None
+  pub keeps : KeepsImages (state_in found names) line now
+
+-- no disk is left out
+abbrev pub none_out : ℕ → Bool
+none_out pv = false
+
+-- the disk gets one of these labels
+abbrev pub is_labelled : List NewLabel → ℕ → Bool
+is_labelled labels pv = list_any (λ (label : NewLabel). label.disk == pv) labels
+
+-- the version that a change makes, where this group is committed
+abbrev pub version_of : Group → Change → Version
+version_of group change = record { group = group; disk_of = change.disk_of }
+
+-- on the way: the version that was found or the new one; where no group is committed the former, with the disks left out that
+-- get a label
+abbrev pub FindsOnTheWay : List ℕ → Image → Found → Change → Option Group → Type 0
+FindsOnTheWay sizes image found change None = FindsVersion sizes image (is_labelled change.labels) (version_in found)
+FindsOnTheWay sizes image found change (Some group) = FindsVersion sizes image none_out (version_in found) ⊎ FindsVersion sizes image none_out (Some (version_of group change))
+
+-- once all is written: the new version, or the one that was found where no group is committed
+abbrev pub FindsAtEnd : List ℕ → Image → Found → Change → Option Group → Type 0
+FindsAtEnd sizes image found change None = FindsVersion sizes image none_out (version_in found)
+FindsAtEnd sizes image found change (Some group) = FindsVersion sizes image none_out (Some (version_of group change))
+
+-- ---- the laws
+
+-- the image that was scanned has the version that was found
+abbrev pub BaseScans : Type 0
+BaseScans =
+    (base : Image) (sizes : List ℕ) (found : Found) → IsScanOf base sizes found → IsWhole found → FindsVersion sizes base none_out (version_in found)
+
+-- every image on the way of the line's batches
+abbrev pub ImagesScan : Type 0
+ImagesScan =
+    (base image : Image) (sizes : List ℕ) (found : Found) (names : List (List ℕ)) (line : Line) (now : ℕ) → CanCarryOut base sizes found names line now
+    → HasFirstBatches (batches_of (state_in found names) line now) base image
+    → FindsOnTheWay sizes image found (change_of (state_in found names) line) (change_of (state_in found names) line).group
+
+-- the image with all of them
+abbrev pub LastScans : Type 0
+LastScans =
+    (base : Image) (sizes : List ℕ) (found : Found) (names : List (List ℕ)) (line : Line) (now : ℕ) → CanCarryOut base sizes found names line now
+    → FindsAtEnd sizes (with_batches (batches_of (state_in found names) line now) base) found (change_of (state_in found names) line) (change_of (state_in found names) line).group
+
+-- ---- volumes
+
+-- the disk and the sector of the primary place of a sector of a volume
+abbrev pub place_of : Group → List ℕ → ℕ → ℕ → Option (ℕ × ℕ)
+place_of group disk_of lv sector = option_map (λ (at : At). (slice_index disk_of at.pv, at.sector)) (primary group lv sector)
+
+-- those of all sectors of the volume with this number, where it is visible
+abbrev pub places_in : Group → List ℕ → ℕ × (List ℕ × Lv) → List (ℕ × ℕ)
+places_in group disk_of lv =
+    if lv.1.1.status.visible then filter_map (place_of group disk_of lv.0) (range_with_len 0 (extents_of lv.1.1 * group.extent_size)) else []
+
+-- those of all visible volumes
+abbrev pub visible_places : Group → List ℕ → List (ℕ × ℕ)
+visible_places group disk_of = flat_map (places_in group disk_of) (enumerate_from 0 group.lvs)
+
+-- no write of the batch covers the sector of this disk
+abbrev pub IsOutside : List Put → ℕ × ℕ → Type 0
+IsOutside batch place = writes_at (map write_work batch) place.0 place.1 ≡ false
+
+-- no write of the line covers a primary place of a visible volume of the group that was found
+abbrev pub PlacesAreOutside : Type 0
+PlacesAreOutside =
+    (base : Image) (sizes : List ℕ) (found : Found) (names : List (List ℕ)) (line : Line) (now : ℕ) (group : Group) → CanCarryOut base sizes found names line now → found.group ≡ Some group
+    → All (λ (batch : List Put). All (IsOutside batch) (visible_places group found.disk_of)) (batches_of (state_in found names) line now)
+
+-- so in every image on the way each such place has what it has in the base
+abbrev pub PlacesAreKept : Type 0
+PlacesAreKept =
+    (base image : Image) (sizes : List ℕ) (found : Found) (names : List (List ℕ)) (line : Line) (now : ℕ) (group : Group) → CanCarryOut base sizes found names line now → found.group ≡ Some group
+    → HasFirstBatches (batches_of (state_in found names) line now) base image
+    → (lv sector : ℕ) (at : At) → primary group lv sector ≡ Some at → at_place image found.disk_of at ≡ at_place base found.disk_of at
+
+-- and its visible volumes have their contents
+abbrev pub ViewIsKept : Type 0
+ViewIsKept =
+    (base image : Image) (sizes : List ℕ) (found : Found) (names : List (List ℕ)) (line : Line) (now : ℕ) (group : Group) → CanCarryOut base sizes found names line now → found.group ≡ Some group
+    → HasFirstBatches (batches_of (state_in found names) line now) base image → view image group found.disk_of ≡ view base group found.disk_of

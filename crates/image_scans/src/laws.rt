@@ -1,0 +1,19 @@
+//! What holds of the images on the way of a line: each function does nothing, and its clauses are proved.
+ghost use Rattle.image_scans.specs.Laws.{BaseScans, ImagesScan, LastScans, PlacesAreKept, PlacesAreOutside, ViewIsKept};
+
+/// A scan of an image on the way of a line finds the version of the group that was found before or the new one, and once all
+/// is written the new one. Where the line makes a new physical volume it finds the version that was found, on the way with
+/// that disk left out, and at the end without leaving it out.
+pub fn change_scans()
+    ensures base { BaseScans }
+    ensures on_the_way { ImagesScan }
+    ensures at_the_end { LastScans }
+{}
+
+/// What a line writes covers no primary place of a volume of the group that was found, so that in every image on its way
+/// its visible volumes have the contents that they have in the base.
+pub fn change_keeps_view()
+    ensures outside { PlacesAreOutside }
+    ensures kept { PlacesAreKept }
+    ensures view { ViewIsKept }
+{}
