@@ -1,0 +1,99 @@
+-- The laws of histories.
+use Rattle.std.specs.Prelude.{◌≡◌, ◌≤◌, ℕ, suc, ◌+◌, Bool, true, List, [], ◌∷◌, length, map, Option, Some}
+use Rattle.disk_model.specs.Steps.{Image, Step}
+use Rattle.image_scans.specs.Versions.{FindsVersion, Version}
+use Rattle.lvm_script.specs.declared.answer.Answer.TheVariants as answer
+use Rattle.lvm_script.specs.declared.line.Line.{Line}
+use Rattle.lvm_script.specs.declared.op_refusal.OpRefusal.{OpRefusal}
+use Rattle.volume_rules.specs.Rules.{IsAccepted}
+use Rattle.volume_view.specs.View.{view}
+use Rattle.volume_history.specs.Placed.{Place, PlacedVolume, values_on, volumes_of}
+use Rattle.volume_history.specs.Chronicles.{AreUpto, Entry, Answered, Origin, Chronicle, moment_of, chronicle_at, origin_on, with_step, with_entry}
+use Rattle.volume_history.specs.Replay.{plain_state}
+use Rattle.volume_history.specs.Candidates.{base, candidates, IsConsistentMoment, IsIn}
+use Rattle.volume_history.specs.Parts.{PlaceHolds}
+use Rattle.volume_history.specs.Quiet.{IsQuietMoment, is_quiet}
+use Rattle.volume_history.specs.Runs.{HasHistory, Run, journal_of, lines_of}
+use Rattle.volume_history.specs.Single.{CommitLaw, CreateLaw, CreatedLaw, DoneLaw, GivenUpLaw, LeavesDisk, StaysLaw, created_entries, done_entries, end_of, fenced_entries, given_up_entries, answered_entries}
+use Rattle.volume_history.specs.Sources.{HoldsFrom, IsSource, MovesNone, Source, value_of}
+
+-- an earlier moment stays what it was, whatever is told or entered later
+abbrev pub PastStays : Type 0
+PastStays =
+    (c : Chronicle) (moment : ℕ) (step : Step) (e : Entry)
+    → (moment ≤ length c.origin.told.steps → chronicle_at moment (with_step step c) ≡ chronicle_at moment c)
+    × (suc moment ≤ moment_of e → chronicle_at moment (with_entry e c) ≡ chronicle_at moment c)
+
+-- the machine depends on what was told by the moments of its entries
+abbrev pub ReplayStays : Type 0
+ReplayStays = (step : Step) (o : Origin) (es : List Entry) → o.first ≤ length o.told.steps → AreUpto (length o.told.steps) es → plain_state (origin_on step o) es ≡ plain_state o es
+
+-- only an answer ok or a birth moves a base
+abbrev pub BasesStay : Type 0
+BasesStay = (o : Origin) (es : List Entry) (key x : ℕ) (e : Entry) → MovesNone o es key x e → base o (e ∷ es) key x ≡ base o es key x
+
+-- what has a source is a candidate
+abbrev pub SourcesAreCandidates : Type 0
+SourcesAreCandidates = (o : Origin) (es : List Entry) (key x : ℕ) (s : Source) → IsSource o es key x s → IsIn (candidates o es key x) (value_of o es key x s)
+
+-- an answer ok keeps a sector at its place where the place holds from the new base on
+abbrev pub AnswersKeep : Type 0
+AnswersKeep =
+    (o : Origin) (es : List Entry) (key x : ℕ) (place : Place) (m n : ℕ)
+    → HoldsFrom o es (base o (Answered m n answer.Fine ∷ es) key x) key x place → PlaceHolds o (Answered m n answer.Fine ∷ es) key x place
+
+-- a moment of a quiet history is consistent
+abbrev pub QuietIsConsistent : Type 0
+QuietIsConsistent = (c : Chronicle) (moment : ℕ) → c.origin.first ≤ moment → moment ≤ length c.origin.told.steps → IsQuietMoment c moment → IsConsistentMoment c moment
+
+-- a scan of an image that leaves the same disks out finds one version at most
+abbrev pub ScansAreOne : Type 0
+ScansAreOne =
+    (sizes : List ℕ) (image : Image) (out : ℕ → Bool) (version other : Option Version) → FindsVersion sizes image out version → FindsVersion sizes image out other
+    → version ≡ other
+
+-- the values at the places of the volumes of an accepted version, with the volumes' names, are the view of its group
+abbrev pub VolumesAreViewed : Type 0
+VolumesAreViewed =
+    (image : Image) (version : Version) → IsAccepted version.group
+    → map (λ (v : PlacedVolume). (v.name, values_on image v.places)) (volumes_of (Some version)) ≡ view image version.group version.disk_of
+
+-- ---- single commands
+
+-- the run that an origin tells of
+abbrev pub run_of : Origin → Run
+run_of o = record { told = o.told; first = o.first; sizes = o.sizes; names = o.names; clock = o.clock }
+
+-- its history has these entries
+abbrev pub Tells : Origin → List Entry → Type 0
+Tells o es = HasHistory (run_of o) (journal_of es) (lines_of es es)
+
+-- a run that ended before its line
+abbrev pub NoLine : Type 0
+NoLine = (o : Origin) → StaysLaw o → Tells o []
+
+-- a line that was refused
+abbrev pub RefusedLine : Type 0
+RefusedLine =
+    (o : Origin) (line : Line) (refusal : OpRefusal) → StaysLaw o → is_quiet line.command ≡ true → LeavesDisk o line
+    → Tells o (answered_entries o line (answer.Refused refusal))
+
+-- a commit that was done
+abbrev pub DoneCommit : Type 0
+DoneCommit = (o : Origin) (line : Line) (version : Option Version) → CommitLaw o line version → DoneLaw o version → Tells o (done_entries o line version)
+
+-- one that was given up
+abbrev pub GivenUpCommit : Type 0
+GivenUpCommit = (o : Origin) (line : Line) (version : Option Version) (pv : ℕ) → CommitLaw o line version → GivenUpLaw o → Tells o (given_up_entries o line version pv)
+
+-- one that fences the group
+abbrev pub FencedCommit : Type 0
+FencedCommit = (o : Origin) (line : Line) (version : Option Version) (pv : ℕ) → CommitLaw o line version → Tells o (fenced_entries o line version pv)
+
+-- a pvcreate that was done
+abbrev pub DoneCreate : Type 0
+DoneCreate = (o : Origin) (line : Line) (disk : ℕ) → CreateLaw o line disk (end_of o) → CreatedLaw o → Tells o (created_entries o line)
+
+-- one that failed
+abbrev pub FailedCreate : Type 0
+FailedCreate = (o : Origin) (line : Line) (disk pv : ℕ) → CreateLaw o line disk (end_of o + 1) → Tells o (answered_entries o line (answer.PvFailed pv))

@@ -1,0 +1,209 @@
+-- Legal histories: what each entry needs of those before it.
+use Rattle.std.specs.Prelude.{◌≡◌, ◌≤◌, ◌<◌, ◌⊎◌, ℕ, ◌+◌, nat_lt, Bool, true, false, not, ◌==◌, ◌&&◌, ◌||◌, IsTrue, if◌then◌else◌, List, [], ◌∷◌, length, map, Option, Some, None, slice_index_or, is_some}
+use Rattle.std.specs.List.{range_with_len}
+use Rattle.sector_base.specs.declared.places.Piece.{Piece}
+use Rattle.group_ops.specs.Laws.{state_in}
+use Rattle.group_ops.specs.Planning.{change_of, refusal_of}
+use Rattle.group_ops.specs.declared.state.Change.{Change}
+use Rattle.image_scans.specs.Versions.{FindsVersion, Version}
+use Rattle.line_table.specs.Machine.{PlainState, key_of, list_of, sector_of}
+use Rattle.lvm_script.specs.Options.{Word}
+use Rattle.lvm_script.specs.declared.answer.Answer.{Answer}
+use Rattle.lvm_script.specs.declared.answer.Answer.TheVariants as answer
+use Rattle.lvm_script.specs.declared.line.Line.{Line}
+use Rattle.meta_model.specs.declared.group.Group.{Group}
+use Rattle.volume_history.specs.Commands.{is_data, is_wait, is_move, is_tended, failed_pv, is_good, is_refused, writes, commits, covers_sector, range_of, value_for, volume_named}
+use Rattle.volume_history.specs.Chronicles.{Entry, Begun, Opened, Took, Changed, GivenUp, Failed, Answered, Origin, Chronicle, origin_at, moment_of, now_at, begun_in, count_begun, is_open, open_among, every, pending, in_force, may_begin, piece_covers, took_at, settled_at, has_took, left_out}
+use Rattle.volume_history.specs.Replay.{key_or, plain_state, shown_at}
+
+-- ---- the order of entries, which needs no content
+
+-- whether each of these sectors passes the test
+abbrev pub all_in : (ℕ → Bool) → List ℕ → Bool
+all_in test [] = true
+all_in test (x ∷ xs) = test x && all_in test xs
+
+-- the sectors of a range
+abbrev pub sectors_in : Option (ℕ × ℕ) → List ℕ
+sectors_in None = []
+sectors_in (Some r) = range_with_len r.0 r.1
+
+-- whether the piece has sectors, which are of the line's range, and of which no piece of the line has one
+abbrev pub is_new_piece : List Entry → ℕ → Line → ℕ → Piece → Bool
+is_new_piece es number line key piece =
+    (piece.volume == key) && nat_lt 0 piece.count
+    && all_in (λ x. covers_sector line.command x && not (settled_at es number key x)) (range_with_len piece.first piece.count)
+
+-- whether it is the piece of an entry of a command
+abbrev pub is_zero_piece : Piece → Bool
+is_zero_piece piece = (piece.volume == 0) && (piece.first == 0) && (piece.count == 0)
+
+-- whether a piece of a line may take place: a new one of a line that reads or writes, or the one of a command that commits
+-- nothing
+abbrev pub may_take : List Entry → ℕ → Option (Line × ℕ) → Piece → Bool
+may_take es number None piece = false
+may_take es number (Some l) piece =
+    if is_data l.0.command then is_new_piece es number l.0 l.1 piece else (not (commits l.0.command) && is_zero_piece piece && not (has_took es number))
+
+-- whether a piece of a line may fail
+abbrev pub may_fail : List Entry → ℕ → Option (Line × ℕ) → Piece → Bool
+may_fail es number None piece = false
+may_fail es number (Some l) piece = is_data l.0.command && is_new_piece es number l.0 l.1 piece
+
+-- whether both are true, or both false
+abbrev pub same : Bool → Bool → Bool
+same true b = b
+same false b = not b
+
+-- whether a line that reads or writes may be answered so: as done exactly where each sector took place, and, unless it is
+-- refused, once each sector took place or failed
+abbrev pub may_answer_data : List Entry → ℕ → Line → ℕ → Answer → Bool
+may_answer_data es number line key answer =
+    same (is_good answer) (all_in (λ x. took_at es number key x) (sectors_in (range_of line.command)))
+    && (is_refused answer || all_in (λ x. settled_at es number key x) (sectors_in (range_of line.command)))
+
+-- whether no other line is open
+abbrev pub is_alone : List (ℕ × Line) → ℕ → Bool
+is_alone os number = every (λ o. o.0 == number) os
+
+-- whether a command may be answered so: as done only after a Took, as refused only without one, but for a move; a wait once
+-- every other line is answered
+abbrev pub may_answer_command : List Entry → ℕ → Line → Answer → Bool
+may_answer_command es number line answer =
+    (not (is_good answer) || has_took es number) && (not (is_refused answer) || is_move line.command || not (has_took es number))
+    && (not (is_wait line.command) || is_alone (open_among es es) number)
+
+-- whether a commit of the line is open
+abbrev pub is_pending : Option (ℕ × Option Version) → ℕ → Bool
+is_pending None number = false
+is_pending (Some p) number = p.0 == number
+
+-- whether a line may be answered so; a command whose commit is open only where that fences the group
+abbrev pub may_answer : List Entry → ℕ → Option (Line × ℕ) → Answer → Bool
+may_answer es number None answer = false
+may_answer es number (Some l) answer =
+    if is_data l.0.command
+    then may_answer_data es number l.0 l.1 answer
+    else (may_answer_command es number l.0 answer && (not (is_pending (pending es) number) || is_some (failed_pv answer)))
+
+-- whether a commit of the line may start: none is open
+abbrev pub may_open : Option (Line × ℕ) → Option (ℕ × Option Version) → Bool
+may_open (Some l) None = commits l.0.command
+may_open _ _ = false
+
+-- whether the entry may come behind the others
+abbrev pub is_in_order : List Entry → Entry → Bool
+is_in_order es (Begun moment n line key) = (n == count_begun es) && may_begin es line
+is_in_order es (Opened moment n version) =
+    is_open es n && may_open (begun_in es n) (pending es)
+    && every (λ o. (o.0 == n) || not (commits o.1.command) || is_tended o.1.command) (open_among es es)
+is_in_order es (Took moment n piece) = is_open es n && may_take es n (begun_in es n) piece
+is_in_order es (Changed moment n version) = is_open es n && is_pending (pending es) n
+is_in_order es (GivenUp moment n) = is_open es n && is_pending (pending es) n
+is_in_order es (Failed moment n piece) = is_open es n && may_fail es n (begun_in es n) piece
+is_in_order es (Answered moment n answer) = is_open es n && may_answer es n (begun_in es n) answer
+
+-- the moment of the newest entry, or of the start
+abbrev pub last_moment : ℕ → List Entry → ℕ
+last_moment start [] = start
+last_moment start (e ∷ es) = moment_of e
+
+-- what a commit makes is what it was opened for
+abbrev pub MakesPending : List Entry → Entry → Type 0
+MakesPending es (Changed moment n version) = pending es ≡ Some (n, version)
+MakesPending es _ = Unit {0}
+
+-- the entry may come behind the others: no earlier than the last of them
+pub record IsOrdered (start : ℕ) (es : List Entry) (e : Entry) : Type 0 where
+  pub moments : last_moment start es ≤ moment_of e
+  pub order : IsTrue (is_in_order es e)
+  pub makes : MakesPending es e
+
+-- ---- what entries say of the machine and of the disks
+
+-- what a read gave of a sector: what the machine had when the line's piece of it took place
+abbrev pub read_sector : Origin → List Entry → ℕ → ℕ → ℕ → List ℕ
+read_sector o [] number key x = []
+read_sector o (Took moment n piece ∷ es) number key x = if (n == number) && piece_covers piece key x then sector_of (plain_state o es) key x else read_sector o es number key x
+read_sector o (_ ∷ es) number key x = read_sector o es number key x
+
+-- the machine when the command took place
+abbrev pub state_taken : Origin → List Entry → ℕ → PlainState
+state_taken o [] number = plain_state o []
+state_taken o (Took moment n piece ∷ es) number = if n == number then plain_state o es else state_taken o es number
+state_taken o (_ ∷ es) number = state_taken o es number
+
+-- what a read gave of all its sectors
+abbrev pub read_values : Origin → List Entry → ℕ → Option (Line × ℕ) → List (List ℕ)
+read_values o es number None = []
+read_values o es number (Some l) = map (λ (x : ℕ). read_sector o es number l.1 x) (sectors_in (range_of l.0.command))
+
+-- an answer gives what the machine had
+abbrev pub GivesMachine : Origin → List Entry → ℕ → Answer → Type 0
+GivesMachine o es number (answer.Read sectors) = sectors ≡ read_values o es number (begun_in es number)
+GivesMachine o es number (answer.Listed volumes) = volumes ≡ list_of (state_taken o es number)
+GivesMachine o es number _ = Unit {0}
+
+-- a write piece that failed left each of its sectors old or written
+abbrev pub LeavesOldOrNew : Origin → List Entry → Option (Line × ℕ) → ℕ → Piece → Type 0
+LeavesOldOrNew o es None moment piece = Unit {0}
+LeavesOldOrNew o es (Some l) moment piece =
+    (i : ℕ) → i < piece.count → IsTrue (writes l.0.command)
+    → (slice_index_or (shown_at (in_force o es) (plain_state o es) (now_at o moment) piece) i [] ≡ sector_of (plain_state o es) piece.volume (piece.first + i))
+    ⊎ (slice_index_or (shown_at (in_force o es) (plain_state o es) (now_at o moment) piece) i [] ≡ value_for l.0.command (piece.first + i))
+
+-- the key of the volume of this name, if there is one
+abbrev pub key_named : Origin → List Entry → Option Word → ℕ
+key_named o es None = 0
+key_named o es (Some name) = key_or (key_of (plain_state o es).volumes name)
+
+-- a scan of what a read gave at the moment, without the disks that are left out, finds this version
+abbrev pub FindsNow : Origin → List Entry → ℕ → Option Version → Type 0
+FindsNow o es moment version = FindsVersion o.sizes (now_at o moment) (left_out o es moment) version
+
+-- the version that a change makes, where the group has no other physical volumes on these disks
+abbrev pub version_made : Change → Option Version
+version_made change = option_version change.group
+  where
+    option_version : Option Group → Option Version
+    option_version None = None
+    option_version (Some group) = Some (record { group = group; disk_of = change.disk_of })
+
+-- the line makes one version of another: a scan of what a read gives finds the one, by it and by the time no refusal of the
+-- line holds, and its change is the other
+pub record Makes (o : Origin) (es : List Entry) (moment : ℕ) (line : Line) (after : Option Version) : Type 0 where
+  pub before : FindsNow o es moment (in_force o es)
+  pub accepted : refusal_of (state_in before.found o.names) line o.clock ≡ None
+  pub change : after ≡ version_made (change_of (state_in before.found o.names) line)
+
+-- the same of a line that was begun
+abbrev pub MakesFrom : Origin → List Entry → ℕ → Option (Line × ℕ) → Option Version → Type 0
+MakesFrom o es moment None after = ⊥
+MakesFrom o es moment (Some l) after = Makes o es moment l.0 after
+
+-- the entry agrees with the machine and with what stands on the disks
+abbrev pub IsFaithful : Origin → List Entry → Entry → Type 0
+IsFaithful o es (Begun moment n line key) = key ≡ key_named o es (volume_named line.command)
+IsFaithful o es (Opened moment n version) = MakesFrom o es moment (begun_in es n) version
+IsFaithful o es (Took moment n piece) = Unit {0}
+IsFaithful o es (Changed moment n version) = FindsNow o es moment version
+IsFaithful o es (GivenUp moment n) = Unit {0}
+IsFaithful o es (Failed moment n piece) = LeavesOldOrNew o es (begun_in es n) moment piece
+IsFaithful o es (Answered moment n answer) = GivesMachine o es n answer
+
+-- each entry may come behind those before it
+abbrev pub AllOrdered : ℕ → List Entry → Type 0
+AllOrdered start [] = Unit {0}
+AllOrdered start (e ∷ es) = IsOrdered start es e × AllOrdered start es
+
+-- each entry is faithful, of what was told by its moment
+abbrev pub AllFaithful : Origin → List Entry → Type 0
+AllFaithful o [] = Unit {0}
+AllFaithful o (e ∷ es) = IsFaithful (origin_at (moment_of e) o) es e × AllFaithful o es
+
+-- a legal history: a scan at the start finds the version in force, and each entry has its order and is faithful
+pub record IsLegalHistory (c : Chronicle) : Type 0 where
+  pub opening : FindsNow (origin_at c.origin.start c.origin) [] c.origin.start c.origin.version
+  pub told : last_moment c.origin.start c.entries ≤ length c.origin.told.steps
+  pub ordered : AllOrdered c.origin.start c.entries
+  pub faithful : AllFaithful c.origin c.entries

@@ -1,0 +1,12 @@
+pub mod Placed
+pub mod Commands
+pub mod Chronicles
+pub mod Replay
+pub mod Legal
+pub mod Candidates
+pub mod Sources
+pub mod Parts
+pub mod Quiet
+pub mod Runs
+pub mod Single
+pub mod Laws

@@ -1,0 +1,123 @@
+-- The histories of a single command that leaves the volumes as they are, by how it ends.
+use Rattle.std.specs.Prelude.{◌≡◌, ◌≤◌, ◌<◌, ◌⊎◌, ℕ, ◌-◌, ◌==◌, ◌&&◌, Bool, false, List, [], ◌∷◌, length, take, Option, Some}
+use Rattle.disk_model.specs.CrashValues.{IsImage}
+use Rattle.disk_model.specs.Moments.{at_moment}
+use Rattle.disk_model.specs.Steps.{Image, Told}
+use Rattle.image_scans.specs.Versions.{FindsVersion, Version}
+use Rattle.lvm_script.specs.declared.answer.Answer.{Answer}
+use Rattle.lvm_script.specs.declared.answer.Answer.TheVariants as answer
+use Rattle.lvm_script.specs.declared.command.Command.{Command}
+use Rattle.lvm_script.specs.declared.command.Command.TheVariants.{Vgcreate, Vgextend}
+use Rattle.lvm_script.specs.declared.line.Line.{Line}
+use Rattle.volume_history.specs.Placed.{group_name, volumes_of}
+use Rattle.volume_history.specs.Commands.{created_disk}
+use Rattle.volume_history.specs.Chronicles.{Entry, Begun, Opened, Took, Changed, GivenUp, Answered, Origin, has_written, now_at, origin_at, steps_upto}
+use Rattle.volume_history.specs.Legal.{FindsNow, Makes}
+use Rattle.volume_history.specs.Quiet.{AllUntouched}
+use Rattle.volume_history.specs.Runs.{zero_piece}
+
+-- ---- entries, the newest first
+
+-- the last moment that is told
+abbrev pub end_of : Origin → ℕ
+end_of o = length o.told.steps
+
+-- the line is begun at the start
+abbrev pub begun_entries : Origin → Line → List Entry
+begun_entries o line = Begun o.start 0 line 0 ∷ []
+
+-- it is answered so at the end
+abbrev pub answered_entries : Origin → Line → Answer → List Entry
+answered_entries o line answer = Answered (end_of o) 0 answer ∷ begun_entries o line
+
+-- its commit of this version starts
+abbrev pub open_entries : Origin → Line → Option Version → List Entry
+open_entries o line version = Opened o.start 0 version ∷ begun_entries o line
+
+-- it was made, and the line answered
+abbrev pub done_entries : Origin → Line → Option Version → List Entry
+done_entries o line version = Answered (end_of o) 0 answer.Fine ∷ Changed (end_of o) 0 version ∷ open_entries o line version
+
+-- it was given up, since an operation on this disk failed before it was published
+abbrev pub given_up_entries : Origin → Line → Option Version → ℕ → List Entry
+given_up_entries o line version pv = Answered (end_of o) 0 (answer.PvFailed pv) ∷ GivenUp (end_of o) 0 ∷ open_entries o line version
+
+-- it fences the group, since an operation on this disk failed while it was published
+abbrev pub fenced_entries : Origin → Line → Option Version → ℕ → List Entry
+fenced_entries o line version pv = Answered (end_of o) 0 (answer.PvFailed pv) ∷ open_entries o line version
+
+-- a pvcreate was done
+abbrev pub created_entries : Origin → Line → List Entry
+created_entries o line = Answered (end_of o) 0 answer.Fine ∷ Took (end_of o) 0 (zero_piece 0) ∷ begun_entries o line
+
+-- ---- what the layers below give
+
+-- in every image a scan that leaves these disks out finds this version
+abbrev pub AllFind : List ℕ → (ℕ → Bool) → Option Version → Told → Type 0
+AllFind sizes out version told = (image : Image) → IsImage told image → FindsVersion sizes image out version
+
+-- no disk
+abbrev pub none_out : ℕ → Bool
+none_out pv = false
+
+-- in every image a scan of all disks finds one of these two
+abbrev pub AllFindEither : List ℕ → Option Version → Option Version → Told → Type 0
+AllFindEither sizes version next told = (image : Image) → IsImage told image → FindsVersion sizes image none_out version ⊎ FindsVersion sizes image none_out next
+
+-- up to the start every image shows the version in force, and so does a scan then; no place of its volumes is touched at any
+-- moment
+pub record IsStill (o : Origin) : Type 0 where
+  pub from : o.first ≤ o.start
+  pub until : o.start ≤ end_of o
+  pub before : (m : ℕ) → o.first ≤ m → m ≤ o.start → AllFind o.sizes none_out o.version (at_moment m o.told)
+  pub untouched : (m : ℕ) → o.first ≤ m → m ≤ end_of o → AllUntouched (now_at o o.first) (volumes_of o.version) (at_moment m o.told)
+  pub found : FindsNow (origin_at o.start o) [] o.start o.version
+
+-- every moment from the start on shows it too
+pub record StaysLaw (o : Origin) : Type 0 where
+  pub still : IsStill o
+  pub after : (m : ℕ) → o.start ≤ m → m ≤ end_of o → AllFind o.sizes none_out o.version (at_moment m o.told)
+
+-- the line has submitted no write of the disk on which it is to create a physical volume, if it is
+abbrev pub LeavesDisk : Origin → Line → Type 0
+LeavesDisk o line = (disk : ℕ) → created_disk o.names line.command ≡ Some disk → has_written (take (end_of o - o.start) o.told.steps) disk ≡ false
+
+-- the command makes a version with the same volumes at the same places, under the name that the machine then has
+abbrev pub KeepsVolumes : Command → Option Version → Option Version → Type 0
+KeepsVolumes (Vgcreate vg extent_size pvs) before after = (volumes_of after ≡ volumes_of before) × (group_name after ≡ Some vg)
+KeepsVolumes (Vgextend vg pvs) before after = (volumes_of after ≡ volumes_of before) × (group_name after ≡ group_name before)
+KeepsVolumes _ before after = ⊥
+
+-- a commit that was begun at the start: until the end every image shows the version in force or the next one
+pub record CommitLaw (o : Origin) (line : Line) (version : Option Version) : Type 0 where
+  pub still : IsStill o
+  pub keeps : KeepsVolumes line.command o.version version
+  pub makes : Makes (origin_at o.start o) (begun_entries o line) o.start line version
+  pub between : (m : ℕ) → o.start ≤ m → m ≤ end_of o → AllFindEither o.sizes o.version version (at_moment m o.told)
+
+-- it was done: something was told since the start, and at the end every image shows the next version, and so does a scan
+pub record DoneLaw (o : Origin) (version : Option Version) : Type 0 where
+  pub told : o.start < end_of o
+  pub after : AllFind o.sizes none_out version o.told
+  pub found : FindsNow o [] (end_of o) version
+
+-- it was given up: at the end every image shows the version in force
+pub record GivenUpLaw (o : Origin) : Type 0 where
+  pub told : o.start < end_of o
+  pub after : AllFind o.sizes none_out o.version o.told
+
+-- whether it is this disk, and a write of it was submitted since the start
+abbrev pub is_half_made : Origin → ℕ → ℕ → ℕ → Bool
+is_half_made o disk m pv = (disk == pv) && has_written (take (m - o.start) (steps_upto o m)) pv
+
+-- a pvcreate of this disk that was begun at the start: at each moment before this one every image shows the version in
+-- force, where the disk is left out once a write of it was submitted
+pub record CreateLaw (o : Origin) (line : Line) (disk before : ℕ) : Type 0 where
+  pub still : IsStill o
+  pub names : created_disk o.names line.command ≡ Some disk
+  pub between : (m : ℕ) → o.start ≤ m → m < before → AllFind o.sizes (is_half_made o disk m) o.version (at_moment m o.told)
+
+-- it was done: at the end no disk is left out
+pub record CreatedLaw (o : Origin) : Type 0 where
+  pub told : o.start < end_of o
+  pub after : AllFind o.sizes none_out o.version o.told
