@@ -6,3 +6,9 @@
 //! moment is; `specs/Runs`, the promise. `specs/Sources`, `specs/Parts` and `specs/Quiet` are the parts of the invariant that
 //! give it, and `specs/Single` the histories of single commands.
 #![tactic(auto)]
+
+mod laws;
+
+pub use laws::{
+    histories_stay, quiet_histories, scans_are_one, single_commands, volumes_are_viewed,
+};

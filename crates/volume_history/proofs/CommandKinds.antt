@@ -1,0 +1,151 @@
+-- What commands are that leave the volumes as they are, and those that create no sector.
+use Rattle.std.proofs.Common.{◌≡◌, ℕ, Bool, true, false, List, Option, Some, None, refl, sym, ◌∙◌}
+use Rattle.disk_model.specs.Steps.{Image}
+use Rattle.image_scans.specs.Versions.{Version}
+use Rattle.line_table.specs.Machine.{PlainState, plain_after}
+use Rattle.lvm_script.specs.Options.{Word}
+use Rattle.lvm_script.specs.declared.command.Command.{Command}
+use Rattle.volume_history.specs.Candidates.{is_born}
+use Rattle.volume_history.specs.Commands.{commits, created_disk, is_data, volume_named, writes}
+use Rattle.volume_history.specs.Placed.{group_name, volumes_of}
+use Rattle.volume_history.specs.Quiet.{is_quiet}
+use Rattle.volume_history.specs.Replay.{command_step}
+use Rattle.volume_history.specs.Single.{KeepsVolumes}
+use Rattle.lvm_script.specs.declared.command.Command.TheVariants as command
+
+-- what is known of a command that leaves the volumes as they are
+pub record IsQuietCommand (c : Command) : Type 0 where
+  pub step : (before after : Option Version) (state : PlainState) (image : Image) → (plain_after state (command_step c before after state image)).volumes ≡ state.volumes
+  pub births : (before after : Option Version) (state : PlainState) (image : Image) (key x : ℕ) → is_born (command_step c before after state image) state key x ≡ false
+  pub writes_xl : writes c ≡ false
+  pub data_xl : is_data c ≡ false
+  pub unnamed : volume_named c ≡ None
+
+pub quiet_command : (c : Command) → is_quiet c ≡ true → IsQuietCommand c
+quiet_command (command.Pvcreate pv copies) q = record { step = λ b a s i. refl; births = λ b a s i k x. refl; writes_xl = refl; data_xl = refl; unnamed = refl }
+quiet_command (command.Pvmove moving) q = record { step = λ b a s i. refl; births = λ b a s i k x. refl; writes_xl = refl; data_xl = refl; unnamed = refl }
+quiet_command (command.Pvck pv) q = record { step = λ b a s i. refl; births = λ b a s i k x. refl; writes_xl = refl; data_xl = refl; unnamed = refl }
+quiet_command command.Pvs q = record { step = λ b a s i. refl; births = λ b a s i k x. refl; writes_xl = refl; data_xl = refl; unnamed = refl }
+quiet_command (command.Vgcreate vg extent_size pvs) q = record { step = λ b a s i. refl; births = λ b a s i k x. refl; writes_xl = refl; data_xl = refl; unnamed = refl }
+quiet_command (command.Vgextend vg pvs) q = record { step = λ b a s i. refl; births = λ b a s i k x. refl; writes_xl = refl; data_xl = refl; unnamed = refl }
+quiet_command (command.Vgreduce vg pv) q = record { step = λ b a s i. refl; births = λ b a s i k x. refl; writes_xl = refl; data_xl = refl; unnamed = refl }
+quiet_command (command.Vgrename vg new) q = record { step = λ b a s i. refl; births = λ b a s i k x. refl; writes_xl = refl; data_xl = refl; unnamed = refl }
+quiet_command (command.Vgcfgbackup vg) q = record { step = λ b a s i. refl; births = λ b a s i k x. refl; writes_xl = refl; data_xl = refl; unnamed = refl }
+quiet_command command.Vgck q = record { step = λ b a s i. refl; births = λ b a s i k x. refl; writes_xl = refl; data_xl = refl; unnamed = refl }
+quiet_command command.Vgs q = record { step = λ b a s i. refl; births = λ b a s i k x. refl; writes_xl = refl; data_xl = refl; unnamed = refl }
+quiet_command command.Lvs q = record { step = λ b a s i. refl; births = λ b a s i k x. refl; writes_xl = refl; data_xl = refl; unnamed = refl }
+quiet_command command.List q = record { step = λ b a s i. refl; births = λ b a s i k x. refl; writes_xl = refl; data_xl = refl; unnamed = refl }
+quiet_command command.Wait q = record { step = λ b a s i. refl; births = λ b a s i k x. refl; writes_xl = refl; data_xl = refl; unnamed = refl }
+quiet_command (command.Resync path) q = record { step = λ b a s i. refl; births = λ b a s i k x. refl; writes_xl = refl; data_xl = refl; unnamed = refl }
+quiet_command (command.Vgremove vg) q = cc
+quiet_command (command.Vgcfgrestore vg text) q = cc
+quiet_command (command.Lvcreate new) q = cc
+quiet_command (command.Lvextend path growth pvs) q = cc
+quiet_command (command.Lvreduce path amount) q = cc
+quiet_command (command.Lvremove path) q = cc
+quiet_command (command.Lvrename vg old new) q = cc
+quiet_command (command.Read path start count) q = cc
+quiet_command (command.Fill path start count value) q = cc
+quiet_command (command.Write path start hex) q = cc
+
+-- a command that creates sectors, or may place them anew as new ones
+abbrev pub bears : Command → Bool
+bears (command.Lvcreate new) = true
+bears (command.Lvextend path growth pvs) = true
+bears (command.Vgcfgrestore vg text) = true
+bears _ = false
+
+-- the step of another command needs no image, and no sector is born in it
+pub record IsBearless (c : Command) : Type 0 where
+  pub step : (before after : Option Version) (state : PlainState) (i j : Image) → command_step c before after state i ≡ command_step c before after state j
+  pub births : (before after : Option Version) (state : PlainState) (i : Image) (key x : ℕ) → is_born (command_step c before after state i) state key x ≡ false
+
+pub bearless : (c : Command) → bears c ≡ false → IsBearless c
+bearless (command.Pvcreate pv copies) q = record { step = λ b a s i j. refl; births = λ b a s i k x. refl }
+bearless (command.Pvmove moving) q = record { step = λ b a s i j. refl; births = λ b a s i k x. refl }
+bearless (command.Pvck pv) q = record { step = λ b a s i j. refl; births = λ b a s i k x. refl }
+bearless command.Pvs q = record { step = λ b a s i j. refl; births = λ b a s i k x. refl }
+bearless (command.Vgcreate vg extent_size pvs) q = record { step = λ b a s i j. refl; births = λ b a s i k x. refl }
+bearless (command.Vgextend vg pvs) q = record { step = λ b a s i j. refl; births = λ b a s i k x. refl }
+bearless (command.Vgreduce vg pv) q = record { step = λ b a s i j. refl; births = λ b a s i k x. refl }
+bearless (command.Vgrename vg new) q = record { step = λ b a s i j. refl; births = λ b a s i k x. refl }
+bearless (command.Vgcfgbackup vg) q = record { step = λ b a s i j. refl; births = λ b a s i k x. refl }
+bearless command.Vgck q = record { step = λ b a s i j. refl; births = λ b a s i k x. refl }
+bearless command.Vgs q = record { step = λ b a s i j. refl; births = λ b a s i k x. refl }
+bearless command.Lvs q = record { step = λ b a s i j. refl; births = λ b a s i k x. refl }
+bearless command.List q = record { step = λ b a s i j. refl; births = λ b a s i k x. refl }
+bearless command.Wait q = record { step = λ b a s i j. refl; births = λ b a s i k x. refl }
+bearless (command.Resync path) q = record { step = λ b a s i j. refl; births = λ b a s i k x. refl }
+bearless (command.Vgremove vg) q = record { step = λ b a s i j. refl; births = λ b a s i k x. refl }
+bearless (command.Vgcfgrestore vg text) q = cc
+bearless (command.Lvcreate new) q = cc
+bearless (command.Lvextend path growth pvs) q = cc
+bearless (command.Lvreduce path amount) q = record { step = λ b a s i j. refl; births = λ b a s i k x. refl }
+bearless (command.Lvremove path) q = record { step = λ b a s i j. refl; births = λ b a s i k x. refl }
+bearless (command.Lvrename vg old new) q = record { step = λ b a s i j. refl; births = λ b a s i k x. refl }
+bearless (command.Read path start count) q = record { step = λ b a s i j. refl; births = λ b a s i k x. refl }
+bearless (command.Fill path start count value) q = record { step = λ b a s i j. refl; births = λ b a s i k x. refl }
+bearless (command.Write path start hex) q = record { step = λ b a s i j. refl; births = λ b a s i k x. refl }
+
+-- a command that creates a physical volume is a pvcreate
+pub created_quiet : (names : List Word) (disk : ℕ) (c : Command) → created_disk names c ≡ Some disk → (is_quiet c ≡ true) × (commits c ≡ false)
+created_quiet names disk (command.Pvcreate pv copies) e = (refl, refl)
+created_quiet names disk (command.Pvmove moving) e = cc
+created_quiet names disk (command.Pvck pv) e = cc
+created_quiet names disk command.Pvs e = cc
+created_quiet names disk (command.Vgcreate vg extent_size pvs) e = cc
+created_quiet names disk (command.Vgextend vg pvs) e = cc
+created_quiet names disk (command.Vgreduce vg pv) e = cc
+created_quiet names disk (command.Vgrename vg new) e = cc
+created_quiet names disk (command.Vgcfgbackup vg) e = cc
+created_quiet names disk command.Vgck e = cc
+created_quiet names disk command.Vgs e = cc
+created_quiet names disk command.Lvs e = cc
+created_quiet names disk command.List e = cc
+created_quiet names disk command.Wait e = cc
+created_quiet names disk (command.Resync path) e = cc
+created_quiet names disk (command.Vgremove vg) e = cc
+created_quiet names disk (command.Vgcfgrestore vg text) e = cc
+created_quiet names disk (command.Lvcreate new) e = cc
+created_quiet names disk (command.Lvextend path growth pvs) e = cc
+created_quiet names disk (command.Lvreduce path amount) e = cc
+created_quiet names disk (command.Lvremove path) e = cc
+created_quiet names disk (command.Lvrename vg old new) e = cc
+created_quiet names disk (command.Read path start count) e = cc
+created_quiet names disk (command.Fill path start count value) e = cc
+created_quiet names disk (command.Write path start hex) e = cc
+
+-- what is known of a command that commits a version with the same volumes
+pub record KeepsBy (c : Command) (before after : Option Version) : Type 0 where
+  pub quiet : is_quiet c ≡ true
+  pub commits_xl : commits c ≡ true
+  pub creates : (names : List Word) → created_disk names c ≡ None
+  pub volumes : volumes_of after ≡ volumes_of before
+  pub named : (state : PlainState) (image : Image) → state.group ≡ group_name before → group_name after ≡ (plain_after state (command_step c before after state image)).group
+
+pub keeps_by : (c : Command) (before after : Option Version) → KeepsVolumes c before after → KeepsBy c before after
+keeps_by (command.Pvcreate pv copies) before after keeps = absurd keeps
+keeps_by (command.Pvmove moving) before after keeps = absurd keeps
+keeps_by (command.Pvck pv) before after keeps = absurd keeps
+keeps_by command.Pvs before after keeps = absurd keeps
+keeps_by (command.Vgcreate vg extent_size pvs) before after keeps = record { quiet = refl; commits_xl = refl; creates = λ names. refl; volumes = keeps.0; named = λ state image same. keeps.1 }
+keeps_by (command.Vgextend vg pvs) before after keeps = record { quiet = refl; commits_xl = refl; creates = λ names. refl; volumes = keeps.0; named = λ state image same. keeps.1 ∙ sym same }
+keeps_by (command.Vgreduce vg pv) before after keeps = absurd keeps
+keeps_by (command.Vgrename vg new) before after keeps = absurd keeps
+keeps_by (command.Vgcfgbackup vg) before after keeps = absurd keeps
+keeps_by command.Vgck before after keeps = absurd keeps
+keeps_by command.Vgs before after keeps = absurd keeps
+keeps_by command.Lvs before after keeps = absurd keeps
+keeps_by command.List before after keeps = absurd keeps
+keeps_by command.Wait before after keeps = absurd keeps
+keeps_by (command.Resync path) before after keeps = absurd keeps
+keeps_by (command.Vgremove vg) before after keeps = absurd keeps
+keeps_by (command.Vgcfgrestore vg text) before after keeps = absurd keeps
+keeps_by (command.Lvcreate new) before after keeps = absurd keeps
+keeps_by (command.Lvextend path growth pvs) before after keeps = absurd keeps
+keeps_by (command.Lvreduce path amount) before after keeps = absurd keeps
+keeps_by (command.Lvremove path) before after keeps = absurd keeps
+keeps_by (command.Lvrename vg old new) before after keeps = absurd keeps
+keeps_by (command.Read path start count) before after keeps = absurd keeps
+keeps_by (command.Fill path start count value) before after keeps = absurd keeps
+keeps_by (command.Write path start hex) before after keeps = absurd keeps

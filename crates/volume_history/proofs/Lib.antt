@@ -1,0 +1,22 @@
+mod Bits
+pub mod Past
+pub mod Legal
+pub mod Bases
+pub mod Acknowledged
+pub mod CommandKinds
+pub mod Consistent
+pub mod Quiet
+pub mod Places
+pub mod WriteLife
+pub mod AtTake
+pub mod Untouched
+pub mod Phases
+mod Written
+mod LegalLines
+pub mod SingleLines
+mod OneVersion
+mod Viewed
+mod SmallGroups
+mod Examples
+mod SmallRun
+mod WrongRuns

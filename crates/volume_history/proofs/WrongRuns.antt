@@ -1,0 +1,73 @@
+-- Two wrong runs are refused: a command that is answered before its header is flushed, and a fill that is.
+use Rattle.std.proofs.Common.{◌≡◌, ◌<◌, ℕ, zero, suc, true, slice_index_or, List, [], ◌∷◌, Contains, Option, Some, None, inl, ⊎_elim, refl, ap, subst, arith}
+use Rattle.std.specs.Hash.{le_bytes}
+use Rattle.disk_model.specs.Steps.{Submitted, Told, Writing}
+use Rattle.image_scans.specs.Versions.{FindsVersion, Version}
+use Rattle.volume_history.proofs.Phases.{finds_with}
+use Rattle.volume_history.proofs.SmallGroups.{filling, making, version_1, version_of, volume_5}
+use Rattle.volume_history.proofs.SmallRun.{header, new_header, opened, origin_of}
+use Rattle.volume_history.specs.Candidates.{IsConsistent, IsConsistentMoment, ShowsInForce}
+use Rattle.volume_history.specs.Chronicles.{Answered, Begun, Chronicle, Took, left_out, origin_at}
+use Rattle.volume_history.specs.Commands.{number_sector}
+use Rattle.volume_history.specs.Placed.{place_of, volumes_of}
+use Rattle.volume_history.specs.Single.{done_entries, none_out}
+use Rattle.volume_view.specs.InSegments.{leg_spot, met}
+use Rattle.volume_view.specs.Places.{primary}
+use Rattle.lvm_script.specs.declared.answer.Answer.TheVariants as answer
+
+-- the answer stands at the moment when the write was submitted
+abbrev early_told : Told
+early_told = record { opened = opened; steps = Submitted 1 (Writing header (new_header ∷ [])) ∷ [] }
+
+abbrev early : Chronicle
+early = record { origin = origin_of early_told; entries = done_entries (origin_of early_told) making (Some version_1) }
+
+-- where a scan of what was opened finds no group, and nothing else
+module _ (no_group : FindsVersion (99 ∷ []) opened none_out None) (one : (v : Option Version) → FindsVersion (99 ∷ []) opened none_out v → None ≡ v) where
+  differ : (v : Option Version) → None ≡ v → v ≡ Some version_1 → ⊥
+  differ None e f = cc
+  differ (Some w) e f = cc
+
+  wrong : IsConsistent (origin_at 1 (origin_of early_told)) (done_entries (origin_of early_told) making (Some version_1)) opened → ⊥
+  wrong c =
+      ⊎_elim
+      (λ force. differ c.version (one c.version (finds_with (99 ∷ []) opened (left_out (origin_at 1 (origin_of early_told)) (done_entries (origin_of early_told) making (Some version_1)) 1) none_out c.version (λ pv. refl) c.scan)) force.0)
+      (λ none. none)
+      c.shows
+
+  pub early_refused : IsConsistentMoment early 1 → ⊥
+  early_refused is = wrong (is opened (λ pv sector. (None, inl (refl, refl))))
+
+-- a group with one volume of one sector, which is filled, and the fill answered when its write was submitted
+abbrev holding : Version
+holding = version_of 1 (volume_5 0 1 ∷ [])
+
+abbrev unflushed : Chronicle
+unflushed = record {
+  origin = record (origin_of (record { opened = opened; steps = Submitted 1 (Writing (record { pv = 0; first = 10; count = 1 }) (number_sector 7 ∷ [])) ∷ [] })) { version = Some holding };
+  entries = Answered 1 0 answer.Fine ∷ Took 1 0 (record { volume = 0; first = 0; count = 1; write = true }) ∷ Begun 0 0 (filling 0 1 7) 0 ∷ [];
+}
+
+different : (n : ℕ) → n ≡ 7 → n ≡ 0 → ⊥
+different n e f = omega (arith, e, f)
+
+seven : (k : ℕ) → k < 1 → slice_index_or {A = List ℕ} (number_sector 7 ∷ []) k (0 ∷ []) ≡ 0 ∷ [] → ⊥
+unfolding le_bytes
+seven zero lt e = different (slice_index_or (number_sector 7) 0 0) refl (ap (λ (l : List ℕ). slice_index_or l 0 0) e)
+seven (suc k) lt e = absurd (omega (arith, lt))
+
+only_seven : Contains {X = List ℕ} (number_sector 7 ∷ []) (0 ∷ []) → ⊥
+only_seven c = seven c.0 c.1 c.2
+
+unflushed_wrong : IsConsistent unflushed.origin unflushed.entries opened → ⊥
+unfolding volumes_of place_of primary met leg_spot
+unflushed_wrong c =
+    ⊎_elim
+    (λ force.
+    let f : ShowsInForce unflushed.origin unflushed.entries opened (Some holding) = subst (λ (v : Option Version). ShowsInForce unflushed.origin unflushed.entries opened v) force.0 force in
+    only_seven (f.2.2 0 (omega arith)))
+    (λ none. none)
+    c.shows
+
+pub unflushed_refused : IsConsistentMoment unflushed 1 → ⊥
+unflushed_refused is = unflushed_wrong (is opened (λ pv sector. (None, inl (refl, refl))))

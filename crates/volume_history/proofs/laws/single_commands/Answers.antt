@@ -1,0 +1,23 @@
+use Rattle.volume_history.proofs.SingleLines.{done_commit, done_create, failed_create, fenced_commit, given_up_commit, no_line, refused_line}
+use Rattle.volume_history.proofs.laws.single_commands.Goals as goal
+
+pub returns-clause-no_line : goal.returns-clause-no_line
+returns-clause-no_line c = λ o law. no_line o law
+
+pub returns-clause-refused : goal.returns-clause-refused
+returns-clause-refused c = λ o line refusal law quiet alone. refused_line o line refusal law quiet alone
+
+pub returns-clause-done : goal.returns-clause-done
+returns-clause-done c = λ o line version law done. done_commit o line version law done
+
+pub returns-clause-given_up : goal.returns-clause-given_up
+returns-clause-given_up c = λ o line version pv law given_up. given_up_commit o line version law pv given_up
+
+pub returns-clause-fenced : goal.returns-clause-fenced
+returns-clause-fenced c = λ o line version pv law. fenced_commit o line version law pv
+
+pub returns-clause-created : goal.returns-clause-created
+returns-clause-created c = λ o line disk law done. done_create o line disk law done
+
+pub returns-clause-failed : goal.returns-clause-failed
+returns-clause-failed c = λ o line disk pv law. failed_create o line disk pv law
