@@ -12,3 +12,6 @@ pub mod StaleOthers
 pub mod KeptImages
 pub mod Nothing
 pub mod TakenOff
+pub mod Flagged
+pub mod RepairedEntries
+pub mod RepairedSizes

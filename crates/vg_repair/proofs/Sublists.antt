@@ -36,10 +36,10 @@ some_all P (x ∷ xs) (y ∷ ys) (inl here) all = All-cons P x xs (subst P (sym 
 some_all P (x ∷ xs) (y ∷ ys) (inr later) all = some_all P (x ∷ xs) ys later (All-tail P y ys all)
 
 module _ {X : Type 0} (R : X → X → Type 0) where
-  pairs_first : (x : X) (xs : List X) → AllPairs R (x ∷ xs) → All (R x) xs
+  pub pairs_first : (x : X) (xs : List X) → AllPairs R (x ∷ xs) → All (R x) xs
   pairs_first x xs pairs k d within = pairs 0 (suc k) d (omega arith) (omega arith)
 
-  pairs_later : (x : X) (xs : List X) → AllPairs R (x ∷ xs) → AllPairs R xs
+  pub pairs_later : (x : X) (xs : List X) → AllPairs R (x ∷ xs) → AllPairs R xs
   pairs_later x xs pairs i j d before within = pairs (suc i) (suc j) d (omega arith) (omega arith)
 
   -- and of all pairs, of all pairs of these
