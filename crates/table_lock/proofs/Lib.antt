@@ -1,0 +1,5 @@
+pub mod Prefixes
+pub mod Totals
+pub mod Histories
+pub mod Views
+pub mod Keeps
