@@ -4,7 +4,7 @@ use Rattle.std.specs.Option.{option_map_or}
 use mathlib.Core.List.{IsPrefix}
 use Rattle.table_lock.specs.declared.event.LockEvent.{LockEvent}
 use Rattle.table_lock.specs.declared.event.LockEvent.TheVariants.{Given, Taken, Missed}
-use Rattle.table_lock.specs.History.{turn_after, value_after, is_taken, last_value, IsOpenedWith, story_at, Continues, Follows, IsLegalFrom, IsLegal, Adds, GivesBack}
+use Rattle.table_lock.specs.History.{turn_after, value_after, last_value, IsOpenedWith, story_at, Continues, IsLegalFrom, IsLegal, Adds, GivesBack}
 use Rattle.table_lock.proofs.Prefixes.{prefix_self, prefix_trans}
 
 module _ {T : Type 0} where

@@ -1,5 +1,5 @@
 -- Each step keeps the rule.
-use Rattle.std.proofs.Common.{◌≡◌, ◌≢◌, ℕ, ◌+◌, ◌<◌, ◌≤◌, ◌⊎◌, inl, inr, ⊎_elim, Bool, true, false, eqb, List, [], ◌∷◌, ◌++◌, length, get_or, set, sym, refl, ap, ◌∙◌, subst, arith, eq-eqb, ne_eqb, Option, Some, None, unwrap_or, replicate, length-append}
+use Rattle.std.proofs.Common.{◌≡◌, ℕ, ◌+◌, ◌<◌, ◌≤◌, ◌⊎◌, inl, inr, ⊎_elim, Bool, true, false, eqb, List, [], ◌∷◌, ◌++◌, length, get_or, set, sym, refl, ap, ◌∙◌, subst, arith, eq-eqb, ne_eqb, Option, Some, None, unwrap_or, replicate, length-append}
 use mathlib.Core.Logic.{dite}
 use mathlib.Core.Option.{none, some, some-ne-none, some-injective}
 use mathlib.Core.List.{IsPrefix}
@@ -12,11 +12,11 @@ use Rattle.atomic_table.proofs.Lists.{set_here, set_else}
 use Rattle.table_lock.specs.declared.event.LockEvent.{LockEvent}
 use Rattle.table_lock.specs.declared.event.LockEvent.TheVariants.{Given, Taken, Missed}
 use Rattle.table_lock.specs.declared.view.SeatView.{SeatView}
-use Rattle.table_lock.specs.History.{turn_after, value_after, is_taken, last_value, IsOpenedWith, story_at, Continues, Follows, IsLegalFrom, IsLegal, Adds, GivesBack}
-use Rattle.table_lock.specs.Views.{weight, turns, view, first_view, less_one_part, one_part, joined_views, spent_view, EachBegins, IsSpent}
-use Rattle.table_lock.specs.Rule.{IsKnown, IsHome, IsSince, IsKept, TakesTurn, MissesTurn, Takes, FreesTurn, Frees, SettlesHistory, Settles}
-use Rattle.table_lock.proofs.Prefixes.{prefix_self, prefix_trans, prefix_shorter, prefix_both, prefix_of_nothing}
-use Rattle.table_lock.proofs.Totals.{total-set, total-snoc, total-at, total-two, some_one}
+use Rattle.table_lock.specs.History.{is_taken, last_value, IsOpenedWith, story_at, Continues, Follows, IsLegal, Adds}
+use Rattle.table_lock.specs.Views.{weight, turns, view, first_view, less_one_part, one_part, joined_views, spent_view, EachBegins}
+use Rattle.table_lock.specs.Rule.{IsKnown, IsKept, Takes, FreesTurn, Frees, Settles}
+use Rattle.table_lock.proofs.Prefixes.{prefix_self, prefix_shorter, prefix_both, prefix_of_nothing}
+use Rattle.table_lock.proofs.Totals.{total-set, total-snoc, total-two, some_one}
 use Rattle.table_lock.proofs.Histories.{turn-append, value-append, value_kept, legal-append, prefix_legal, last_origin}
 use Rattle.table_lock.proofs.Views.{weight_none, weight_one, weight_most, at_here, Begins, Knows, each_set, each_snoc, each_longer, spent_set, spent_snoc, held_set, held_snoc, none_held, known_here, known_set, known_snoc, has_seen, since_miss}
 
@@ -54,7 +54,7 @@ module _ {T O E : Type 0} (origin : T → O) (story : T → List E) where
   abbrev N : V → ℕ
   N v = v.moves
 
-  pub opens : (value : T) → IsKept origin story (opening (0 ∷ []) (Some value ∷ []) (first_view value))
+  opens : (value : T) → IsKept origin story (opening (0 ∷ []) (Some value ∷ []) (first_view value))
   opens value =
       let w : V = first_view value in
       let h : H = Given value ∷ [] in record {
@@ -70,6 +70,10 @@ module _ {T O E : Type 0} (origin : T → O) (story : T → List E) where
         parts = refl;
         spent = spent_snoc [] w (λ k u at. absurd (some-ne-none u (sym at))) (λ e. absurd (omega arith));
       }
+
+  -- the same of a copy of the value, and of slots that were filled
+  pub opens_with : (key value : T) (xs : List (Option T)) → key ≡ value → xs ≡ Some value ∷ [] → IsKept origin story (opening (0 ∷ []) xs (first_view key))
+  opens_with key value xs same items = subst (λ (ys : List (Option T)). IsKept origin story (opening (0 ∷ []) ys (first_view key))) (ap (λ (x : T). Some x ∷ []) same ∙ sym items) (opens key)
 
   word_is : (s : St) → (k : IsKept origin story s) → get_or s.words 0 0 ≡ weight (is_taken k.history)
   word_is s k = ap (λ ws. get_or ws 0 0) k.word

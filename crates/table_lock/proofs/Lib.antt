@@ -3,3 +3,5 @@ pub mod Totals
 pub mod Histories
 pub mod Views
 pub mod Keeps
+pub mod Steps
+pub mod Rows

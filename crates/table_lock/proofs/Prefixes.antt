@@ -25,9 +25,8 @@ prefix_both [] [] p q = refl
 prefix_both [] (y ∷ ys) p q = absurd (cc (q.1))
 prefix_both (x ∷ xs) [] p q = absurd (cc (p.1))
 prefix_both (x ∷ xs) (y ∷ ys) p q =
-    let heads : x ≡ y = cc (p.1) in
     let rest = prefix_both xs ys (p.0, cc (p.1)) (q.0, cc (q.1)) in
-    cc (heads, rest)
+    cc (q.1, rest)
 
 -- only the empty list begins it
 pub prefix_of_nothing : {A : Type 0} (xs : List A) → IsPrefix xs [] → xs ≡ []

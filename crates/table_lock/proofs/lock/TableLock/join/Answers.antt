@@ -1,11 +1,8 @@
-use Rattle.std.proofs.Common.{List, arith, ap, sym, ◌∙◌, subst}
-use mathlib.Core.List.{IsPrefix}
-use Rattle.table_lock.specs.declared.event.LockEvent.{LockEvent}
-use Rattle.table_lock.specs.History.{story_at}
-use Rattle.table_lock.specs.Seats.{history, seen}
+use Rattle.std.proofs.Common.{arith, ap, ◌∙◌}
+use Rattle.table_lock.specs.Seats.{history}
 use Rattle.table_lock.specs.Views.{slots_of}
-use Rattle.table_lock.proofs.Histories.{story_longer}
 use Rattle.table_lock.proofs.Keeps.{joins, settles}
+use Rattle.table_lock.proofs.Steps.{joined_seat}
 use Rattle.table_lock.proofs.lock.TableLock.join.Goals as goal
 
 pub join_seat-requires : goal.join_seat-requires
@@ -26,10 +23,5 @@ load-requires g c = let seat = c.join_seat.new.seat in (
 
 pub returns-clause-seen : goal.returns-clause-seen
 returns-clause-seen g c =
-    let old = c.join_seat.ensures.2 in
-    let r = c.load.ensures.2 in
-    let new = sym (ap (λ m. m.0.history) r.is) in
-    let own = subst (λ (l : List (LockEvent g.row.T.Denot)). IsPrefix l r.both) (ap (λ m. m.0.history) old) r.own in
-    let told = subst (λ (l : List (LockEvent g.row.T.Denot)). IsPrefix l r.both) (ap (λ m. m.0.told) old) r.told in
-    subst (λ (l : List (LockEvent g.row.T.Denot)). IsPrefix (seen c.args.seat.now) (story_at g.T.Grows.story l) × IsPrefix (seen c.args.other) (story_at g.T.Grows.story l)) new
-    (story_longer g.T.Grows.origin g.T.Grows.story (history c.args.seat.now) r.both own r.legal, story_longer g.T.Grows.origin g.T.Grows.story (history c.args.other) r.both told r.legal)
+    joined_seat g.T.Grows.origin g.T.Grows.story c.join_seat.new.seat.me c.load.new.seat.me (history c.args.seat.now) (history c.args.other) c.load.ensures.2
+    (ap (λ m. m.0.history) c.join_seat.ensures.2) (ap (λ m. m.0.told) c.join_seat.ensures.2)

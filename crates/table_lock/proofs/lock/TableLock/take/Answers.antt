@@ -1,4 +1,4 @@
-use Rattle.std.proofs.Common.{◌≡◌, ◌++◌, ◌∷◌, [], ◌∙◌, ap, refl}
+use Rattle.std.proofs.Common.{◌++◌, ◌∷◌, [], ◌∙◌, ap, refl}
 use Rattle.table_lock.specs.declared.event.LockEvent.TheVariants.{Taken, Missed}
 use Rattle.table_lock.specs.Seats.{history, seen}
 use Rattle.table_lock.proofs.Histories.{adds_longer, adds_after}

@@ -1,12 +1,8 @@
-use Rattle.std.proofs.Common.{◌≡◌, List, Option, IfSome, arith, ap, sym, ◌∙◌, subst, ◌∷◌, Some}
-use mathlib.Core.List.{IsPrefix}
+use Rattle.std.proofs.Common.{arith, ap, sym, ◌∙◌, ◌∷◌, Some}
 use Rattle.atomic_table.specs.Table.{rest}
-use Rattle.table_lock.specs.declared.event.LockEvent.{LockEvent}
-use Rattle.table_lock.specs.declared.event.LockEvent.TheVariants.{Taken, Missed}
-use Rattle.table_lock.specs.History.{IsOpenedWith, last_value, story_at}
-use Rattle.table_lock.specs.Seats.{opened, history, seen}
-use Rattle.table_lock.proofs.Histories.{opened_longer, adds_longer, story_longer, taken_value}
-use Rattle.table_lock.proofs.Keeps.{takes_turn, head_value}
+use Rattle.table_lock.specs.Seats.{opened}
+use Rattle.table_lock.proofs.Keeps.{takes_turn}
+use Rattle.table_lock.proofs.Steps.{missed_seat, taken_seat}
 use Rattle.table_lock.proofs.lock.TableLock.try_take.Goals as goal
 
 pub compare_exchange-requires : goal.compare_exchange-requires
@@ -24,50 +20,25 @@ exchange-requires g c =
 
 pub returns-then-compare_exchange-ne-FREE-clause-of : goal.returns-then-compare_exchange-ne-FREE-clause-of
 returns-then-compare_exchange-ne-FREE-clause-of g c =
-    let t = c.compare_exchange.ensures.2.1 c.if-compare_exchange-ne-FREE.true in
-    let new = ap (λ m. m.0) t.is in
-    let longer = adds_longer g.T.Grows.origin g.T.Grows.story (history c.args.seat.now) t.after Missed t.adds in (
-      record {
-        table = c.compare_exchange.ensures.0 ∙ c.requires.of.table;
-        opening = subst (IsOpenedWith (opened c.args.self.now)) (sym (ap (λ v. v.history) new)) (opened_longer (opened c.args.self.now) (history c.args.seat.now) t.after longer c.requires.of.opening);
-      },
-      ap (λ v. v.parts) new,
-      ap (λ v. v.moves) new,
-    )
+    let r = missed_seat g.T.Grows.origin g.T.Grows.story (opened c.args.self.now) c.args.seat.now.seat.me c.compare_exchange.new.seat.me c.requires.of.opening (c.compare_exchange.ensures.2.1 c.if-compare_exchange-ne-FREE.true) in
+    (record { table = c.compare_exchange.ensures.0 ∙ c.requires.of.table; opening = r.0 }, r.1, r.2)
 
 pub returns-then-compare_exchange-ne-FREE-clause-seen : goal.returns-then-compare_exchange-ne-FREE-clause-seen
 returns-then-compare_exchange-ne-FREE-clause-seen g c =
-    let t = c.compare_exchange.ensures.2.1 c.if-compare_exchange-ne-FREE.true in
-    let longer = adds_longer g.T.Grows.origin g.T.Grows.story (history c.args.seat.now) t.after Missed t.adds in
-    subst (λ (l : List (LockEvent g.row.T.Denot)). IsPrefix (seen c.args.seat.now) (story_at g.T.Grows.story l)) (sym (ap (λ m. m.0.history) t.is))
-    (story_longer g.T.Grows.origin g.T.Grows.story (history c.args.seat.now) t.after longer t.adds.legal)
+    (missed_seat g.T.Grows.origin g.T.Grows.story (opened c.args.self.now) c.args.seat.now.seat.me c.compare_exchange.new.seat.me c.requires.of.opening (c.compare_exchange.ensures.2.1 c.if-compare_exchange-ne-FREE.true)).3
 
 pub returns-clause-of : goal.returns-clause-of
 returns-clause-of g c =
-    let t = c.compare_exchange.ensures.2.0 c.if-compare_exchange-ne-FREE.false in
-    let new = ap (λ m. m.0) c.exchange.ensures.3 ∙ ap (λ m. m.0) t.is in
-    let longer = adds_longer g.T.Grows.origin g.T.Grows.story (history c.args.seat.now) t.after Taken t.adds in (
-      record {
-        table = c.exchange.ensures.0 ∙ (c.compare_exchange.ensures.0 ∙ c.requires.of.table);
-        opening = subst (IsOpenedWith (opened c.args.self.now)) (sym (ap (λ v. v.history) new)) (opened_longer (opened c.args.self.now) (history c.args.seat.now) t.after longer c.requires.of.opening);
-      },
-      ap (λ v. v.parts) new,
-      ap (λ v. v.moves) new,
-    )
+    let r = taken_seat g.T.Grows.origin g.T.Grows.story (opened c.args.self.now) c.args.seat.now.seat.me c.compare_exchange.new.seat.me c.exchange.new.seat.me c.exchange.result c.requires.of.opening
+    (c.compare_exchange.ensures.2.0 c.if-compare_exchange-ne-FREE.false) c.exchange.ensures.2 (ap (λ m. m.0) c.exchange.ensures.3) in
+    (record { table = c.exchange.ensures.0 ∙ (c.compare_exchange.ensures.0 ∙ c.requires.of.table); opening = r.0 }, r.1, r.2)
 
 pub returns-clause-seen : goal.returns-clause-seen
 returns-clause-seen g c =
-    let t = c.compare_exchange.ensures.2.0 c.if-compare_exchange-ne-FREE.false in
-    let new = ap (λ m. m.0) c.exchange.ensures.3 ∙ ap (λ m. m.0) t.is in
-    let longer = adds_longer g.T.Grows.origin g.T.Grows.story (history c.args.seat.now) t.after Taken t.adds in
-    subst (λ (l : List (LockEvent g.row.T.Denot)). IsPrefix (seen c.args.seat.now) (story_at g.T.Grows.story l)) (sym (ap (λ v. v.history) new))
-    (story_longer g.T.Grows.origin g.T.Grows.story (history c.args.seat.now) t.after longer t.adds.legal)
+    (taken_seat g.T.Grows.origin g.T.Grows.story (opened c.args.self.now) c.args.seat.now.seat.me c.compare_exchange.new.seat.me c.exchange.new.seat.me c.exchange.result c.requires.of.opening
+    (c.compare_exchange.ensures.2.0 c.if-compare_exchange-ne-FREE.false) c.exchange.ensures.2 (ap (λ m. m.0) c.exchange.ensures.3)).3
 
 pub returns-clause-value : goal.returns-clause-value
 returns-clause-value g c =
-    let t = c.compare_exchange.ensures.2.0 c.if-compare_exchange-ne-FREE.false in
-    let new = ap (λ m. m.0) c.exchange.ensures.3 ∙ ap (λ m. m.0) t.is in
-    let is : Some t.value ≡ c.exchange.result = head_value (Some t.value) c.exchange.result (sym (ap (λ m. m.1) t.is) ∙ c.exchange.ensures.2) in
-    let r = taken_value g.T.Grows.origin g.T.Grows.story (opened c.args.self.now) (history c.args.seat.now) t.after t.value c.requires.of.opening t.adds t.last in
-    subst (λ (o : Option g.row.T.Denot). IfSome o (λ v. (last_value c.exchange.new.seat.me.0.history ≡ Some v) × (story_at g.T.Grows.story c.exchange.new.seat.me.0.history ≡ g.T.Grows.story v) × (g.T.Grows.origin v ≡ g.T.Grows.origin (opened c.args.self.now)))) is
-    (subst (λ (l : List (LockEvent g.row.T.Denot)). (last_value l ≡ Some t.value) × (story_at g.T.Grows.story l ≡ g.T.Grows.story t.value) × (g.T.Grows.origin t.value ≡ g.T.Grows.origin (opened c.args.self.now))) (sym (ap (λ v. v.history) new)) r)
+    (taken_seat g.T.Grows.origin g.T.Grows.story (opened c.args.self.now) c.args.seat.now.seat.me c.compare_exchange.new.seat.me c.exchange.new.seat.me c.exchange.result c.requires.of.opening
+    (c.compare_exchange.ensures.2.0 c.if-compare_exchange-ne-FREE.false) c.exchange.ensures.2 (ap (λ m. m.0) c.exchange.ensures.3)).4
