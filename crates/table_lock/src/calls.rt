@@ -108,7 +108,7 @@ impl<T: Grows + Send> TableLock<T> {
             if let Some(value) = self.try_take(seat) {
                 return value;
             }
-            self.table.shared.park(rt, 0, 1);
+            self.table.shared.park(rt, 0, TAKEN as u32);
         }
         unreachable!()
     }
