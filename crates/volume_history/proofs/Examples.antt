@@ -259,3 +259,8 @@ not_left_out = refl
 back_again : left_out origin (Answered 4 0 answer.Fine ∷ Took 4 0 zero_piece ∷ Begun 0 0 pvcreating 0 ∷ []) 4 0 ≡ false
 unfolding number_named
 back_again = refl
+
+-- it is too where that wrote and was refused
+refused_out : left_out origin (Answered 4 0 (answer.Refused refusal.ReadOnly) ∷ Begun 0 0 pvcreating 0 ∷ []) 4 0 ≡ true
+unfolding number_named
+refused_out = refl

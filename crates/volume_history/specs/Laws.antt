@@ -7,11 +7,12 @@ use Rattle.lvm_script.specs.declared.line.Line.{Line}
 use Rattle.lvm_script.specs.declared.op_refusal.OpRefusal.{OpRefusal}
 use Rattle.volume_rules.specs.Rules.{IsAccepted}
 use Rattle.volume_view.specs.View.{view}
-use Rattle.volume_history.specs.Placed.{Place, PlacedVolume, values_on, volumes_of}
-use Rattle.volume_history.specs.Chronicles.{AreUpto, Entry, Answered, Origin, Chronicle, moment_of, chronicle_at, origin_on, with_step, with_entry}
+use Rattle.volume_history.specs.Placed.{Place, PlacedVolume, group_name, values_on, volumes_of}
+use Rattle.volume_history.specs.Chronicles.{AreUpto, Entry, Answered, Origin, Chronicle, moment_of, chronicle_at, in_force, origin_at, origin_on, pending, with_step, with_entry}
 use Rattle.volume_history.specs.Replay.{plain_state}
-use Rattle.volume_history.specs.Candidates.{base, candidates, IsConsistentMoment, IsIn}
-use Rattle.volume_history.specs.Parts.{PlaceHolds}
+use Rattle.volume_history.specs.Legal.{IsFaithful, IsLegalHistory, IsOrdered}
+use Rattle.volume_history.specs.Candidates.{base, candidates, IsConsistentMoment, IsConsistentNow, IsIn}
+use Rattle.volume_history.specs.Parts.{NextPart, PlaceHolds, Primaries, ScansPart}
 use Rattle.volume_history.specs.Quiet.{IsQuietMoment, is_quiet}
 use Rattle.volume_history.specs.Runs.{HasHistory, Run, journal_of, lines_of}
 use Rattle.volume_history.specs.Single.{CommitLaw, CreateLaw, CreatedLaw, DoneLaw, GivenUpLaw, LeavesDisk, StaysLaw, created_entries, done_entries, end_of, fenced_entries, given_up_entries, answered_entries}
@@ -28,6 +29,13 @@ PastStays =
 abbrev pub ReplayStays : Type 0
 ReplayStays = (step : Step) (o : Origin) (es : List Entry) → o.first ≤ length o.told.steps → AreUpto (length o.told.steps) es → plain_state (origin_on step o) es ≡ plain_state o es
 
+-- one lawful entry more keeps a history legal, and so does one step more that is told
+abbrev pub HistoriesGrow : Type 0
+HistoriesGrow =
+    (c : Chronicle) (e : Entry) (step : Step) → IsLegalHistory c
+    → (IsOrdered c.origin.start c.entries e → IsFaithful (origin_at (moment_of e) c.origin) c.entries e → moment_of e ≤ length c.origin.told.steps → IsLegalHistory (with_entry e c))
+    × IsLegalHistory (with_step step c)
+
 -- only an answer ok or a birth moves a base
 abbrev pub BasesStay : Type 0
 BasesStay = (o : Origin) (es : List Entry) (key x : ℕ) (e : Entry) → MovesNone o es key x e → base o (e ∷ es) key x ≡ base o es key x
@@ -41,6 +49,13 @@ abbrev pub AnswersKeep : Type 0
 AnswersKeep =
     (o : Origin) (es : List Entry) (key x : ℕ) (place : Place) (m n : ℕ)
     → HoldsFrom o es (base o (Answered m n answer.Fine ∷ es) key x) key x place → PlaceHolds o (Answered m n answer.Fine ∷ es) key x place
+
+-- now is consistent where scans of every image find the version in force or the pending one, and these have the machine's
+-- names and lengths, and each sector its place
+abbrev pub PartsMakeConsistent : Type 0
+PartsMakeConsistent =
+    (c : Chronicle) → ScansPart c.origin c.entries → Primaries c.origin c.entries (volumes_of (in_force c.origin c.entries)) (plain_state c.origin c.entries).volumes
+    → group_name (in_force c.origin c.entries) ≡ (plain_state c.origin c.entries).group → NextPart c.origin c.entries (pending c.entries) → IsConsistentNow c
 
 -- a moment of a quiet history is consistent
 abbrev pub QuietIsConsistent : Type 0

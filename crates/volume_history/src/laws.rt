@@ -1,18 +1,25 @@
 //! Laws of histories: each function does nothing, and its clauses are proved.
-ghost use Rattle.volume_history.specs.Laws.{AnswersKeep, BasesStay, PastStays, ReplayStays, SourcesAreCandidates};
-ghost use Rattle.volume_history.specs.Laws.{QuietIsConsistent, ScansAreOne, VolumesAreViewed};
+ghost use Rattle.volume_history.specs.Laws.{AnswersKeep, BasesStay, HistoriesGrow, PastStays, ReplayStays, SourcesAreCandidates};
+ghost use Rattle.volume_history.specs.Laws.{PartsMakeConsistent, QuietIsConsistent, ScansAreOne, VolumesAreViewed};
 ghost use Rattle.volume_history.specs.Laws.{DoneCommit, DoneCreate, FailedCreate, FencedCommit, GivenUpCommit, NoLine, RefusedLine};
 
 use vg_scan::one_reading;
 use volume_view::places_stand;
 
-/// What later steps and entries leave as it was, what moves a base, and what a sector may hold.
+/// What later steps and entries leave as it was and keep legal, what moves a base, and what a sector may hold.
 pub fn histories_stay()
     ensures past { PastStays }
     ensures replay { ReplayStays }
+    ensures grow { HistoriesGrow }
     ensures bases { BasesStay }
     ensures sources { SourcesAreCandidates }
     ensures answers { AnswersKeep }
+{}
+
+/// Now is consistent where scans of every image find the version in force or that of the pending command, and each sector of
+/// both has its place.
+pub fn parts_make_consistent()
+    ensures { PartsMakeConsistent }
 {}
 
 /// A moment is consistent where the volumes are as they were, a scan of every image finds the version in force or that of

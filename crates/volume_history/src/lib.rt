@@ -10,5 +10,6 @@
 mod laws;
 
 pub use laws::{
-    histories_stay, quiet_histories, scans_are_one, single_commands, volumes_are_viewed,
+    histories_stay, parts_make_consistent, quiet_histories, scans_are_one, single_commands,
+    volumes_are_viewed,
 };

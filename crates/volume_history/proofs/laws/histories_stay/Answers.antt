@@ -1,4 +1,5 @@
 use Rattle.volume_history.proofs.Past.{entry_stays, replay_stays, step_stays}
+use Rattle.volume_history.proofs.Legal.{legal_append, legal_step}
 use Rattle.volume_history.proofs.Bases.{base_moves, source_is_candidate}
 use Rattle.volume_history.proofs.Places.{place_by_ok}
 use Rattle.volume_history.proofs.laws.histories_stay.Goals as goal
@@ -8,6 +9,9 @@ returns-clause-past c = λ d moment step e. (λ le. step_stays step d moment le,
 
 pub returns-clause-replay : goal.returns-clause-replay
 returns-clause-replay c = λ step o es. replay_stays step o es
+
+pub returns-clause-grow : goal.returns-clause-grow
+returns-clause-grow c = λ d e step legal. (λ ordered faithful by. legal_append e d legal ordered faithful by, legal_step step d legal)
 
 pub returns-clause-bases : goal.returns-clause-bases
 returns-clause-bases c = λ o es key x e. base_moves o es key x e
