@@ -2,10 +2,11 @@
 use Rattle.std.proofs.Common.{◌≡◌, ℕ, ◌&&◌, Bool, true, false, List, [], ◌∷◌, Some, None, refl}
 use Rattle.disk_model.specs.Steps.{Completed, Flushing, Image, Step, Submitted, Writing}
 use Rattle.disk_model.specs.ValueList.{values}
-use Rattle.line_table.specs.Machine.{list_of, plain_after, sector_of}
+use Rattle.image_scans.specs.Versions.{Version}
+use Rattle.line_table.specs.Machine.{key_of, list_of, plain_after, sector_of}
 use Rattle.lvm_script.specs.Options.{number_named}
 use Rattle.sector_base.specs.declared.places.Piece.{Piece}
-use Rattle.volume_history.proofs.SmallGroups.{creating, extending, filling, making, moving, pvcreating, reading, version_1, version_2, version_3, version_4}
+use Rattle.volume_history.proofs.SmallGroups.{creating, extending, filling, making, moving, pvcreating, reading, reducing, removing, renaming, restoring, version_1, version_2, version_3, version_4, version_5, version_6, version_7}
 use Rattle.volume_history.specs.Candidates.{Anything, OneOf, base, candidates, pending_candidates, pending_step}
 use Rattle.volume_history.specs.Chronicles.{Answered, Begun, Changed, Entry, Failed, GivenUp, Opened, Origin, Took, fenced_by, in_force, is_failed_disk, left_out, may_begin, pending, upto}
 use Rattle.volume_history.specs.Commands.{number_sector, zero_sector}
@@ -218,6 +219,120 @@ extending_new = refl
 extending_old : pending_candidates origin extends_so (pending_step origin extends_so 3 (Some version_4)) 0 0 ≡ OneOf (number_sector 7 ∷ [])
 unfolding volumes_of place_of primary met leg_spot
 extending_old = refl
+
+-- the base of a sector that is added is its birth, and it has what stood there
+abbrev extended : List Entry
+extended = Changed 12 3 (Some version_4) ∷ extends_so
+
+extended_base : base origin extended 0 10 ≡ extended
+unfolding volumes_of place_of primary met leg_spot
+extended_base = refl
+
+extended_candidates : candidates origin extended 0 10 ≡ OneOf ((99 ∷ []) ∷ [])
+unfolding volumes_of place_of primary met leg_spot
+extended_candidates = refl
+
+extended_old : candidates origin extended 0 0 ≡ OneOf (number_sector 7 ∷ [])
+unfolding volumes_of place_of primary met leg_spot
+extended_old = refl
+
+-- a reduction takes the last sectors off
+abbrev reduced : List Entry
+reduced = Changed 12 3 (Some version_5) ∷ Opened 12 3 (Some version_5) ∷ Begun 12 3 reducing 0 ∷ filled
+
+reduced_lengths : list_of (plain_state origin reduced) ≡ (5 ∷ [], 6) ∷ []
+unfolding volumes_of place_of primary met leg_spot
+reduced_lengths = refl
+
+reduced_old : candidates origin reduced 0 0 ≡ OneOf (number_sector 7 ∷ [])
+unfolding volumes_of place_of primary met leg_spot
+reduced_old = refl
+
+-- another name is the same volume
+abbrev renamed : List Entry
+renamed = Changed 12 3 (Some version_6) ∷ Opened 12 3 (Some version_6) ∷ Begun 12 3 renaming 0 ∷ filled
+
+renamed_key : key_of (plain_state origin renamed).volumes (6 ∷ []) ≡ Some 0
+unfolding volumes_of place_of primary met leg_spot
+renamed_key = refl
+
+renamed_old : candidates origin renamed 0 0 ≡ OneOf (number_sector 7 ∷ [])
+unfolding volumes_of place_of primary met leg_spot
+renamed_old = refl
+
+-- a volume that is removed and made again is another one
+abbrev removed : List Entry
+removed = Answered 12 3 answer.Fine ∷ Changed 12 3 (Some version_1) ∷ Opened 12 3 (Some version_1) ∷ Begun 12 3 removing 0 ∷ filled
+
+abbrev again : List Entry
+again = Changed 13 4 (Some version_7) ∷ Opened 13 4 (Some version_7) ∷ Begun 13 4 creating 0 ∷ removed
+
+removed_volumes : list_of (plain_state origin removed) ≡ []
+unfolding volumes_of place_of primary met leg_spot
+removed_volumes = refl
+
+again_key : key_of (plain_state origin again).volumes (5 ∷ []) ≡ Some 1
+unfolding volumes_of place_of primary met leg_spot
+again_key = refl
+
+again_zero : candidates origin again 1 0 ≡ OneOf (zero_sector ∷ [])
+unfolding volumes_of place_of primary met leg_spot
+again_zero = refl
+
+again_in_order : ordered_all (Answered 13 4 answer.Fine ∷ again) ≡ true
+again_in_order = refl
+
+-- a text that is restored: what it places elsewhere is open until then, and has what stands there; the rest stays
+abbrev restores : Version → List Entry
+restores version = Opened 12 3 (Some version) ∷ Begun 12 3 restoring 0 ∷ filled
+
+abbrev restored : Version → List Entry
+restored version = Changed 12 3 (Some version) ∷ restores version
+
+restores_elsewhere : pending_candidates origin (restores version_3) (pending_step origin (restores version_3) 3 (Some version_3)) 0 0 ≡ Anything
+unfolding volumes_of place_of primary met leg_spot
+restores_elsewhere = refl
+
+restored_elsewhere : candidates origin (restored version_3) 0 0 ≡ OneOf ((99 ∷ []) ∷ [])
+unfolding volumes_of place_of primary met leg_spot
+restored_elsewhere = refl
+
+restores_there : pending_candidates origin (restores version_4) (pending_step origin (restores version_4) 3 (Some version_4)) 0 0 ≡ OneOf (number_sector 7 ∷ [])
+unfolding volumes_of place_of primary met leg_spot
+restores_there = refl
+
+restored_there : candidates origin (restored version_4) 0 0 ≡ OneOf (number_sector 7 ∷ [])
+unfolding volumes_of place_of primary met leg_spot
+restored_there = refl
+
+restored_more : candidates origin (restored version_4) 0 10 ≡ OneOf ((99 ∷ []) ∷ [])
+unfolding volumes_of place_of primary met leg_spot
+restored_more = refl
+
+-- a fill of two sectors in two pieces: each may hold its number once it is begun, and it is answered once both took place
+abbrev in_pieces : List Entry
+in_pieces = Took 12 2 piece ∷ Begun 8 2 (filling 0 2 7) 0 ∷ created
+
+abbrev second_piece : Piece
+second_piece = record { volume = 0; first = 1; count = 1; write = true }
+
+pieces_first : candidates origin in_pieces 0 0 ≡ OneOf (zero_sector ∷ number_sector 7 ∷ [])
+unfolding volumes_of place_of primary met leg_spot
+pieces_first = refl
+
+pieces_second : candidates origin in_pieces 0 1 ≡ OneOf (zero_sector ∷ number_sector 8 ∷ [])
+unfolding volumes_of place_of primary met leg_spot
+pieces_second = refl
+
+pieces_early : is_in_order in_pieces (Answered 12 2 answer.Fine) ≡ false
+pieces_early = refl
+
+pieces_done : ordered_all (Answered 12 2 answer.Fine ∷ Took 12 2 second_piece ∷ in_pieces) ≡ true
+pieces_done = refl
+
+pieces_acknowledged : candidates origin (Answered 12 2 answer.Fine ∷ Took 12 2 second_piece ∷ in_pieces) 0 1 ≡ OneOf (number_sector 8 ∷ [])
+unfolding volumes_of place_of primary met leg_spot
+pieces_acknowledged = refl
 
 -- and lvcreate's zeros are zeros before it has taken place
 creating_zeros : pending_candidates origin (upto 7 flies) (pending_step origin (upto 7 flies) 1 (Some version_2)) 0 3 ≡ OneOf (zero_sector ∷ [])

@@ -64,6 +64,16 @@ version_3 = version_of 3 (volume_5 20 10 ∷ [])
 abbrev pub version_4 : Version
 version_4 = version_of 3 (volume_5 0 11 ∷ [])
 
+-- with six of its sectors, under another name, and the first again, later
+abbrev pub version_5 : Version
+version_5 = version_of 3 (volume_5 0 6 ∷ [])
+
+abbrev pub version_6 : Version
+version_6 = version_of 3 ((6 ∷ [], (volume_5 0 10).1) ∷ [])
+
+abbrev pub version_7 : Version
+version_7 = version_of 4 (volume_5 0 10 ∷ [])
+
 -- the volume by its group's name and its own
 abbrev pub path : Path
 path = record { vg = 70 ∷ []; lv = 5 ∷ [] }
@@ -79,6 +89,18 @@ creating = line (command.Lvcreate (record { vg = 70 ∷ []; lv = 5 ∷ []; amoun
 
 abbrev pub extending : Line
 extending = line (command.Lvextend path (To (Extents 11)) [])
+
+abbrev pub reducing : Line
+reducing = line (command.Lvreduce path (Extents 6))
+
+abbrev pub removing : Line
+removing = line (command.Lvremove path)
+
+abbrev pub renaming : Line
+renaming = line (command.Lvrename (70 ∷ []) (5 ∷ []) (6 ∷ []))
+
+abbrev pub restoring : Line
+restoring = line (command.Vgcfgrestore (70 ∷ []) [])
 
 abbrev pub moving : Line
 moving = line (command.Pvmove GoOn)
