@@ -3,7 +3,7 @@ use Rattle.std.specs.Prelude.{◌≡◌, ◌≤◌, ◌<◌, ◌⊎◌, ℕ, ◌
 use Rattle.std.specs.List.{range_with_len}
 use Rattle.sector_base.specs.declared.places.Piece.{Piece}
 use Rattle.group_ops.specs.Laws.{state_in}
-use Rattle.group_ops.specs.Planning.{change_of, refusal_of}
+use Rattle.group_ops.specs.Planning.{IsPlanned, change_of, refusal_of}
 use Rattle.group_ops.specs.declared.state.Change.{Change}
 use Rattle.image_scans.specs.Versions.{FindsVersion, Version}
 use Rattle.line_table.specs.Machine.{PlainState, key_of, list_of, sector_of}
@@ -169,9 +169,10 @@ version_made change = option_version change.group
     option_version None = None
     option_version (Some group) = Some (record { group = group; disk_of = change.disk_of })
 
--- the line makes one version of another: a scan of what a read gives finds the one, by it and by the time no refusal of the
--- line holds, and its change is the other
+-- the line makes one version of another: it is one that can be planned, a scan of what a read gives finds the one, by it and
+-- by the time no refusal of the line holds, and its change is the other
 pub record Makes (o : Origin) (es : List Entry) (moment : ℕ) (line : Line) (after : Option Version) : Type 0 where
+  pub planned : IsPlanned line.id line.command
   pub before : FindsNow o es moment (in_force o es)
   pub accepted : refusal_of (state_in before.found o.names) line o.clock ≡ None
   pub change : after ≡ version_made (change_of (state_in before.found o.names) line)

@@ -95,15 +95,13 @@ pub record CommitLaw (o : Origin) (line : Line) (version : Option Version) : Typ
   pub makes : Makes (origin_at o.start o) (begun_entries o line) o.start line version
   pub between : (m : ℕ) → o.start ≤ m → m ≤ end_of o → AllFindEither o.sizes o.version version (at_moment m o.told)
 
--- it was done: something was told since the start, and at the end every image shows the next version, and so does a scan
+-- it was done: at the end every image shows the next version, and so does a scan
 pub record DoneLaw (o : Origin) (version : Option Version) : Type 0 where
-  pub told : o.start < end_of o
   pub after : AllFind o.sizes none_out version o.told
   pub found : FindsNow o [] (end_of o) version
 
 -- it was given up: at the end every image shows the version in force
 pub record GivenUpLaw (o : Origin) : Type 0 where
-  pub told : o.start < end_of o
   pub after : AllFind o.sizes none_out o.version o.told
 
 -- whether it is this disk, and a write of it was submitted since the start
@@ -119,5 +117,4 @@ pub record CreateLaw (o : Origin) (line : Line) (disk before : ℕ) : Type 0 whe
 
 -- it was done: at the end no disk is left out
 pub record CreatedLaw (o : Origin) : Type 0 where
-  pub told : o.start < end_of o
   pub after : AllFind o.sizes none_out o.version o.told
