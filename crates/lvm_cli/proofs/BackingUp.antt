@@ -1,14 +1,12 @@
 -- vgcfgbackup: a scan, and then the backup of the group or none.
-use Rattle.std.proofs.Common.{◌≡◌, ◌≢◌, ◌⊎◌, ℕ, Bool, true, false, List, [], Option, Some, None, IfSome, inl, inr, refl, sym, ap, subst, ◌∙◌}
+use Rattle.std.proofs.Common.{◌≡◌, ℕ, true, List, [], Option, Some, None, inl, inr, refl, sym, subst}
 use Rattle.std.specs.FinSet as set
 use Rattle.std.specs.Ordering.{nat_cmp}
-use Rattle.std.specs.Prelude.{◌↔◌, IsTrue}
 use Rattle.conf_text.specs.Printed.{printed}
 use Rattle.disk_model.specs.Faults.{HasSameFaults}
 use Rattle.disk_model.specs.Idle.{IsIdleAgain}
 use Rattle.disk_model.specs.Since.{BetweenTold}
 use Rattle.disk_model.specs.State.{State}
-use Rattle.disk_model.specs.Steps.{Image}
 use Rattle.meta_model.specs.Standing.{HasTree}
 use Rattle.meta_model.specs.declared.group.Group.{Group}
 use Rattle.meta_print.specs.Layout.{backup_of}
@@ -17,9 +15,10 @@ use Rattle.vg_found.specs.declared.found.Found.{Found}
 use Rattle.vg_found.specs.declared.whole.NotWhole.{NotWhole}
 use Rattle.vg_found.specs.declared.whole.NotWhole.TheVariants.{ReadFailed, Partial as IsPartial}
 use Rattle.vg_found.specs.Whole.{IsNotWhole, IsWhole}
-use Rattle.vg_scan.specs.Scans.{FailedOn, HoldsNow, IsScan, IsScanOf, IsScanRefused, ReadsFew}
+use Rattle.vg_scan.specs.Scans.{FailedOn, IsScan, IsScanOf, IsScanRefused, ReadsFew}
 use Rattle.lvm_script.specs.Options.{Word}
 use Rattle.lvm_script.specs.declared.answer.Answer.TheVariants.{Refused}
+use Rattle.lvm_script.specs.declared.answer.Answer.TheVariants as answer
 use Rattle.lvm_script.specs.declared.op_refusal.OpRefusal.TheVariants.{UnknownGroup}
 use Rattle.lvm_cli.specs.declared.ending.Ending.{Ending}
 use Rattle.lvm_cli.specs.declared.ending.Ending.TheVariants.{NoMemory, ScanReadFailed, ScanRefused}
@@ -29,7 +28,7 @@ use Rattle.lvm_cli.specs.declared.scan_refusal.ScanRefusal.TheVariants.{Disks, P
 use Rattle.lvm_cli.specs.Backup.{IsBackedUp, IsGroupBackedUp, IsWholeBackedUp}
 use Rattle.lvm_cli.specs.CommandSpec.{Context, Finds, Refuses, Lacks, group_in}
 use Rattle.lvm_cli.specs.Commands.Vgcfgbackup.{vgcfgbackup}
-use Rattle.lvm_cli.specs.Meets.{ChangesDisks, IsScanned, IsUnwritten, Meets}
+use Rattle.lvm_cli.specs.Meets.{DoesToDisks, IsScanned, IsTaken, Meets}
 use Rattle.lvm_cli.specs.Scan.{FindsWhole}
 use Rattle.lvm_cli.specs.ScanEndings.{IsEndingOf, partial_ending}
 use Rattle.lvm_cli.proofs.ChangedDisks.{holds_now_anyway, holds_now_weaker}
@@ -41,11 +40,11 @@ module _ (names : List Word) (id : Option (List ℕ)) (vg : List ℕ) (time : �
   abbrev context : Context
   context = record { names = names; sizes = old.sizes; id = id; now = time }
 
-  changed : (outcome : Outcome) → IsUnwritten outcome → BetweenTold (ChangesDisks (vgcfgbackup vg) context outcome) old.told new.told
-  changed = scan_reads (vgcfgbackup vg) context old new refl (λ image spans few. few) told
+  does : (outcome : Outcome) → BetweenTold (DoesToDisks (vgcfgbackup vg) context outcome) old.told new.told
+  does = scan_reads (vgcfgbackup vg) context old new refl (λ image spans few. few) told
 
   without_memory : Meets (vgcfgbackup vg) context old (Ended NoMemory) new
-  without_memory = record { cause = tt; told = changed (Ended NoMemory) tt; again = again }
+  without_memory = record { cause = tt; told = does (Ended NoMemory); again = again }
 
   -- the ending where the scan was refused
   pub backup_ends : (why : ScanRefusal) (unread : set.FinSet nat_cmp) (ending : Ending) → IsScanRefused old why unread new → IsEndingOf why unread ending → Meets (vgcfgbackup vg) context old (Ended ending) new
@@ -54,7 +53,7 @@ module _ (names : List Word) (id : Option (List ℕ)) (vg : List ℕ) (time : �
       let r = refused_is old new why unread ends.1 is in
       let meets : Meets (vgcfgbackup vg) context old (Ended (ScanRefused (Disks why) whole)) new = record {
         cause = (unread, record { failed = r.1; all = ends.2 }, r.0);
-        told = changed (Ended (ScanRefused (Disks why) whole)) tt;
+        told = does (Ended (ScanRefused (Disks why) whole));
         again = again;
       } in
       subst (λ (w : ScanRefusal). Meets (vgcfgbackup vg) context old (Ended (ScanRefused (Disks w) whole)) new) (sym ends.0) meets
@@ -72,7 +71,7 @@ module _ (names : List Word) (id : Option (List ℕ)) (vg : List ℕ) (time : �
           holds_now_weaker old.told (λ image. IsScanOf image old.sizes found) (λ image. FindsWhole image old.sizes found.unread (Lacks pv)) (λ image h. (found, h, refl, unread)) is.now,
         ),
       );
-      told = changed (Ended (ScanReadFailed pv)) tt;
+      told = does (Ended (ScanReadFailed pv));
       again = again;
     }
     not_whole IsPartial missing = record {
@@ -82,7 +81,7 @@ module _ (names : List Word) (id : Option (List ℕ)) (vg : List ℕ) (time : �
         holds_now_weaker old.told (λ image. IsScanOf image old.sizes found) (λ image. FindsWhole image old.sizes found.unread (Refuses (Partial found.missing)))
             (λ image h. (found, h, refl, missing.0, refl, missing.1)) is.now,
       );
-      told = changed (Ended (ScanRefused (Partial found.missing) true)) tt;
+      told = does (Ended (ScanRefused (Partial found.missing) true));
       again = again;
     }
 
@@ -90,14 +89,17 @@ module _ (names : List Word) (id : Option (List ℕ)) (vg : List ℕ) (time : �
       scanned : IsScanned (vgcfgbackup vg) context set.empty old (Finds (Some found))
       scanned = holds_now_weaker old.told (λ image. IsScanOf image old.sizes found) (λ image. IsScanOf image old.sizes found × (found.unread ≡ set.empty) × IsWhole found) (λ image h. (h, whole.read, whole)) is.now
 
+      taken : IsTaken (vgcfgbackup vg) context old (Some found) None
+      taken = record { scanned = scanned; stuck_xl = refl }
+
       no_faults : HasSameFaults old new
       no_faults = none_failed_on found.unread old new whole.read is.faults
 
       -- the group in force
       of_group : (group : Group) → found.group ≡ Some group → HasTree group → (outcome : Outcome) → IsBackedUp group vg time outcome → Meets (vgcfgbackup vg) context old outcome new
       of_group group there stands (Answered line (Refused (UnknownGroup name))) up = record {
-        cause = (up.0, no_faults, (Some found, scanned, rw (there, up.2, up.1) refl));
-        told = changed (Answered line (Refused (UnknownGroup name))) tt;
+        cause = (up.0, no_faults, (Some found, taken, rw (there, up.2, up.1) refl));
+        told = does (Answered line (Refused (UnknownGroup name)));
         again = again;
       }
       of_group group there stands (Reported text all) up = record {
@@ -112,18 +114,18 @@ module _ (names : List Word) (id : Option (List ℕ)) (vg : List ℕ) (time : �
             holds_now_anyway old.told (λ image. (g : Group) × (group_in (Some found) ≡ Some g) × HasTree g × (text ≡ printed (backup_of g time))) (λ image. (group, there, stands, up.1)),
           ),
         );
-        told = changed (Reported text all) tt;
+        told = does (Reported text all);
         again = again;
       }
-      of_group group there stands (Ended NoMemory) up = without_memory
+      of_group group there stands (Answered line answer.NoMemory) up = record { cause = (up, tt); told = does (Answered line answer.NoMemory); again = again }
       of_group group there stands _ up = absurd up
 
       of_found : (group : Option Group) → found.group ≡ group → (outcome : Outcome) → IsGroupBackedUp group vg time outcome → Meets (vgcfgbackup vg) context old outcome new
       of_found (Some group) there outcome up = of_group group there up.0 outcome up.1
       of_found None there outcome up =
           let meets : Meets (vgcfgbackup vg) context old (Answered 1 (Refused (UnknownGroup vg))) new = record {
-            cause = (refl, no_faults, (Some found, scanned, rw there refl));
-            told = changed (Answered 1 (Refused (UnknownGroup vg))) tt;
+            cause = (refl, no_faults, (Some found, taken, rw there refl));
+            told = does (Answered 1 (Refused (UnknownGroup vg)));
             again = again;
           } in
           subst (λ (o : Outcome). Meets (vgcfgbackup vg) context old o new) (sym up) meets

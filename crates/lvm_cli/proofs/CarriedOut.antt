@@ -1,25 +1,27 @@
 -- Each exit of a command that changes something.
-use Rattle.std.proofs.Common.{◌≡◌, ◌<◌, ℕ, Bool, true, false, List, [], ◌++◌, length, Option, Some, None, IfSome, refl, sym, ap, subst, ◌∙◌, append-nil}
+use Rattle.std.proofs.Common.{◌≡◌, ◌<◌, ℕ, Bool, true, false, List, length, Option, Some, None, refl, sym, ap, subst, ◌∙◌, arith}
 use Rattle.std.specs.FinSet as set
-use Rattle.std.specs.Ordering.{nat_cmp}
 use Rattle.std.specs.Prelude.{Result, Ok, Err, MatchResult}
-use Rattle.sector_base.specs.declared.spans.Span.{Span}
-use Rattle.disk_batch.specs.InTurn.{Put, WritesInTurn}
+use Rattle.disk_batch.specs.InTurn.{HasFirstBatches, Put, WritesInTurn, with_batches}
 use Rattle.disk_model.specs.Durability.{IsBase}
 use Rattle.disk_model.specs.Record.{IsRecord}
 use Rattle.disk_model.proofs.NowStands.{now_base}
 use Rattle.disk_model.specs.Faults.{HasSameFaults}
 use Rattle.disk_model.specs.Idle.{IsIdleAgain}
+use Rattle.disk_model.specs.Moments.{EveryImageSince}
 use Rattle.disk_model.specs.Since.{BetweenTold}
 use Rattle.disk_model.specs.State.{State}
 use Rattle.disk_model.specs.Steps.{Image, Told, now_after}
+use Rattle.disk_model.proofs.EveryMoment.{since_weaken}
 use Rattle.disk_model.proofs.LastFault.{same_faults_both}
 use Rattle.disk_model.proofs.StepsSince.{between_both, between_weaker}
 use Rattle.group_ops.specs.Laws.{state_in}
 use Rattle.group_ops.specs.Planning.{refusal_of}
 use Rattle.group_ops.specs.declared.state.GroupState.{GroupState}
 use Rattle.lvm_script.specs.Options.{Word}
-use Rattle.lvm_script.specs.declared.answer.Answer.TheVariants.{Fine, PvFailed, Refused}
+use Rattle.lvm_script.specs.declared.answer.Answer.{Answer}
+use Rattle.lvm_script.specs.declared.answer.Answer.TheVariants.{Fine, PvFailed}
+use Rattle.lvm_script.specs.declared.answer.Answer.TheVariants as answer
 use Rattle.lvm_script.specs.declared.command.Command.{Command}
 use Rattle.lvm_script.specs.declared.line.Line.{Line}
 use Rattle.lvm_script.specs.declared.op_refusal.OpRefusal.{OpRefusal}
@@ -29,18 +31,27 @@ use Rattle.vg_change.specs.Laws.{ShowsEntries}
 use Rattle.vg_change.specs.declared.fault.ChangeFault.{ChangeFault}
 use Rattle.vg_change.specs.declared.fault.ChangeFault.TheVariants as fault
 use Rattle.vg_found.specs.declared.found.Found.{Found}
-use Rattle.vg_scan.specs.Scans.{AreFewReads, HoldsNow, IsScanOf}
-use Rattle.lvm_cli.specs.Changing.{IsCarriedOut, changing, line_in, outcome_of}
+use Rattle.vg_repair.specs.Batches.{repair_batches}
+use Rattle.vg_repair.specs.Repaired.{repaired_of}
+use Rattle.vg_repair.specs.Laws.{KeepsImages as RepairKeepsImages, StraysAreOthers}
+use Rattle.vg_repair.specs.Repairing.{HasBegun as HasRepairBegun, IsFault as IsRepairFault, IsRepaired, Repairs}
+use Rattle.vg_repair.specs.Stale.{too_large}
+use Rattle.vg_repair.specs.declared.fault.RepairFault.{RepairFault}
+use Rattle.vg_repair.specs.declared.fault.RepairFault.TheVariants as repair
+use Rattle.vg_repair.proofs.RepairedEntries.{repaired_entries}
+use Rattle.vg_scan.specs.Scans.{HoldsNow, IsScanOf}
+use Rattle.lvm_cli.specs.Changing.{GoesOn, IsCarriedOut, IsChanged, changing, ending_of, line_in, outcome_of}
 use Rattle.lvm_cli.specs.CommandSpec.{Context, Finds}
-use Rattle.lvm_cli.specs.Meets.{ChangesDisks, IsJudged, IsDone, IsUnwritten, Meets}
-use Rattle.lvm_cli.specs.Scan.{FindsSettled, IsOpenCause, IsSettled, OpensDisks}
+use Rattle.lvm_cli.specs.Meets.{ChangesDisks, IsJudged, IsTaken, Meets, batches_if, is_done, line_begun}
+use Rattle.lvm_cli.specs.Scan.{FindsWhole, IsOpenCause, IsOpened, OpensDisks}
 use Rattle.lvm_cli.specs.declared.ending.Ending.{Ending}
-use Rattle.lvm_cli.specs.declared.ending.Ending.TheVariants.{WordsRefused, NoMemory, OpenFailed, ScanReadFailed, ScanRefused}
+use Rattle.lvm_cli.specs.declared.ending.Ending.TheVariants.{WordsRefused, NoMemory, OpenFailed, ScanReadFailed, ScanRefused, RepairFailed, RepairRefused}
 use Rattle.lvm_cli.specs.declared.outcome.Outcome.{Outcome}
 use Rattle.lvm_cli.specs.declared.outcome.Outcome.TheVariants.{Ended, Answered}
-use Rattle.lvm_cli.proofs.ChangedDisks.{changes_in_turn, changes_nothing}
+use Rattle.lvm_cli.proofs.ChangedDisks.{looks, none_begun, none_in_turn, unpassed, untrue}
 use Rattle.lvm_cli.proofs.FlushedAndScanned.{same_image}
 use Rattle.lvm_cli.proofs.ScannedEntries.{scan_names}
+use Rattle.lvm_cli.proofs.StraysApart.{strays_are_others}
 
 module _ (names : List Word) (command : Command) (id : Option (List ℕ)) (time : ℕ) (old : State) where
   abbrev context : Context
@@ -49,109 +60,264 @@ module _ (names : List Word) (command : Command) (id : Option (List ℕ)) (time 
   abbrev here : Line
   here = line_in context command
 
-  few : (image : Image) (spans : List Span) → AreFewReads image old.sizes spans → AreFewReads image old.sizes (spans ++ [])
-  few image spans are = subst (λ (l : List Span). AreFewReads image old.sizes l) (sym (append-nil spans)) are
-
-  -- nothing was written
-  untouched : (outcome : Outcome) → IsUnwritten outcome → (passes : Bool) (after : Option Told) → BetweenTold (λ a b. OpensDisks old.sizes a passes b) old.told after
-      → BetweenTold (ChangesDisks (changing command) context outcome) old.told after
-  untouched outcome unwritten passes after opens =
-      between_weaker (λ a b. OpensDisks old.sizes a passes b) (ChangesDisks (changing command) context outcome) old.told after
-      (changes_nothing (changing command) context refl few outcome unwritten passes) opens
+  abbrev Does : Outcome → Told → Told → Type 0
+  Does outcome = ChangesDisks (changing command) context outcome
 
   -- the disks weren't taken
   pub meets_unopened : (new : State) (ending : Ending) → IsIdleAgain old new → IsOpenCause old new ending → BetweenTold (λ a b. OpensDisks old.sizes a false b) old.told new.told
       → Meets (changing command) context old (Ended ending) new
   meets_unopened new WordsRefused again cause opens = absurd cause
-  meets_unopened new NoMemory again cause opens = record { cause = tt; told = untouched (Ended NoMemory) tt false new.told opens; again = again }
-  meets_unopened new (OpenFailed pv) again cause opens = record { cause = (refl, cause); told = untouched (Ended (OpenFailed pv)) tt false new.told opens; again = again }
+  meets_unopened new NoMemory again cause opens = record {
+    cause = tt;
+    told = between_weaker (λ a b. OpensDisks old.sizes a false b) (Does (Ended NoMemory)) old.told new.told
+        (λ a b o. looks (changing command) context (Ended NoMemory) refl refl refl None a b (λ taken. absurd (cc)) o) opens;
+    again = again;
+  }
+  meets_unopened new (OpenFailed pv) again cause opens = record {
+    cause = (refl, cause);
+    told = between_weaker (λ a b. OpensDisks old.sizes a false b) (Does (Ended (OpenFailed pv))) old.told new.told
+        (λ a b o. looks (changing command) context (Ended (OpenFailed pv)) refl refl refl None a b (λ taken. absurd (cc)) o) opens;
+    again = again;
+  }
   meets_unopened new (ScanReadFailed pv) again cause opens = record {
     cause = (λ judged. absurd (cc), cause);
-    told = untouched (Ended (ScanReadFailed pv)) tt false new.told opens;
+    told = between_weaker (λ a b. OpensDisks old.sizes a false b) (Does (Ended (ScanReadFailed pv))) old.told new.told
+        (λ a b o. looks (changing command) context (Ended (ScanReadFailed pv)) refl refl refl None a b (λ taken. absurd (cc)) o) opens;
     again = again;
   }
   meets_unopened new (ScanRefused refusal whole) again cause opens = record {
     cause = cause;
-    told = untouched (Ended (ScanRefused refusal whole)) tt false new.told opens;
+    told = between_weaker (λ a b. OpensDisks old.sizes a false b) (Does (Ended (ScanRefused refusal whole))) old.told new.told
+        (λ a b o. looks (changing command) context (Ended (ScanRefused refusal whole)) refl refl refl None a b (λ taken. absurd (cc)) o) opens;
     again = again;
   }
+  meets_unopened new (RepairFailed pv) again cause opens = absurd cause
+  meets_unopened new (RepairRefused pv need room) again cause opens = absurd cause
 
   -- they were taken as this was found
-  module _ (found : Found) (mid new : State) (settled : IsSettled old found mid) (opened : IsIdleAgain old mid) (opens : BetweenTold (λ a b. OpensDisks old.sizes a true b) old.told mid.told)
+  module _ (found : Found) (mid : State) (opened : IsOpened old found mid) (idle : IsIdleAgain old mid) (opens : BetweenTold (λ a b. OpensDisks old.sizes a true b) old.told mid.told)
       (follows : (told : Told) → old.told ≡ Some told → IsRecord told.steps) where
-    abbrev state : GroupState
-    state = state_in found names
-
-    abbrev batches : List (List Put)
-    batches = batches_of state here time
-
     abbrev Held : Image → Type 0
-    Held image = FindsSettled image old.sizes set.empty (Finds (Some found))
+    Held image = FindsWhole image old.sizes set.empty (Finds (Some found))
 
     scanned : HoldsNow old.told Held
-    scanned = go old.told settled.now
+    scanned = go old.told opened.now
       where
         go : (o : Option Told) → HoldsNow o (λ image. IsScanOf image old.sizes found) → HoldsNow o Held
         go None h = tt
-        go (Some t) h = (h, settled.whole.read, settled.whole, settled.settled)
+        go (Some t) h = (h, opened.whole.read, opened.whole)
 
-    judged : (refusal : Option OpRefusal) → refusal_of state here time ≡ refusal → IsJudged (changing command) context old refusal
-    judged refusal is = (Some found, scanned, is)
+    held_now : (told : Told) → old.told ≡ Some told → Held (now_after told.opened told.steps)
+    held_now told is = subst (λ (x : Option Told). HoldsNow x Held) is scanned
 
-    again_both : IsIdleAgain mid new → IsIdleAgain old new
-    again_both again = record { idle = again.idle; sizes = again.sizes ∙ opened.sizes }
+    taken : (stuck : Option (ℕ × ℕ × ℕ)) → too_large found ≡ stuck → IsTaken (changing command) context old (Some found) stuck
+    taken stuck is = record { scanned = scanned; stuck_xl = is }
 
-    -- the scan found what stands on the disks
-    names_now : (told : Told) → old.told ≡ Some told → ShowsEntries found.areas (now_after told.opened told.steps)
-    names_now told is =
-        scan_names (now_after told.opened told.steps) old.sizes found
-        (subst (λ (o : Option Told). HoldsNow o (λ image. IsScanOf image old.sizes found)) is settled.now)
+    -- ---- the repair ended the run
+    module _ (new : State) (again : IsIdleAgain mid new) where
+      again_both : IsIdleAgain old new
+      again_both = record { idle = again.idle; sizes = again.sizes ∙ idle.sizes }
 
-    names_base : (told : Told) → old.told ≡ Some told → IsRecord told.steps → (base : Image) → IsBase told base → ShowsEntries found.areas base
-    names_base told is record_is base base_is =
-        subst (λ (image : Image). ShowsEntries found.areas image) (same_image (now_after told.opened told.steps) base (now_base told base record_is base_is)) (names_now told is)
-
-    -- its batches were written, as far as they came
-    in_turn : refusal_of state here time ≡ None → KeepsImages state here time → (outcome : Outcome) → (IsUnwritten outcome → ⊥) → (well : Bool) → (IsDone outcome → well ≡ true)
-        → BetweenTold (λ a b. WritesInTurn a batches well b) mid.told new.told → BetweenTold (ChangesDisks (changing command) context outcome) old.told new.told
-    in_turn passed images outcome written well done writes told is =
-        let o = opens told is in
-        let w = writes o.0 o.1 in
-        let held : Held (now_after told.opened told.steps) = subst (λ (x : Option Told). HoldsNow x Held) is scanned in (
-          w.0,
-          w.1,
-          changes_in_turn (changing command) context refl few outcome told o.0 w.0 batches well o.2 w.2 written done (Some found) (held, passed) refl
-              (λ base base_is image has. (found, refl, images.kept base image (names_base told is (follows told is) base base_is) has))
-              (found, refl, images.found (now_after told.opened told.steps) (names_now told is)),
-        )
-
-    -- nothing was done after they were taken
-    stopped : (outcome : Outcome) → IsUnwritten outcome → BetweenTold (λ a b. b ≡ a) mid.told new.told → BetweenTold (ChangesDisks (changing command) context outcome) old.told new.told
-    stopped outcome unwritten same =
-        untouched outcome unwritten true new.told
-        (between_both (λ a b. OpensDisks old.sizes a true b) (λ a b. b ≡ a) (λ a b. OpensDisks old.sizes a true b) old.told mid.told new.told
-        (λ a m b o e. subst (λ (t : Told). OpensDisks old.sizes a true t) (sym e) o) opens same)
-
-    module _ (again : IsIdleAgain mid new) where
-      meets_by : (result : Result (Unit {0}) ChangeFault) → MatchResult result (λ _. HasSameFaults mid new × (refusal_of state here time ≡ None)) (IsFault state here time mid new)
-          → (HasBegun result → KeepsImages state here time) → BetweenTold (Carries batches result) mid.told new.told → Meets (changing command) context old (outcome_of result) new
-      meets_by (Ok done) cause images told = record {
-        cause = (refl, refl, same_faults_both old mid new settled.faults cause.0, judged None cause.1);
-        told = in_turn cause.1 (images tt) (Answered 1 Fine) (λ unwritten. unwritten) true (λ done'. refl) told;
-        again = again_both again;
+      meets_fault : (why : RepairFault) → IsRepairFault found mid new why → BetweenTold (Repairs (repair_batches found) (Err why)) mid.told new.told
+          → Meets (changing command) context old (Ended (ending_of why)) new
+      meets_fault repair.NoMemory cause told = record {
+        cause = tt;
+        told = between_both (λ a b. OpensDisks old.sizes a true b) (λ a b. b ≡ a) (Does (Ended NoMemory)) old.told mid.told new.told
+            (λ a m b o e. looks (changing command) context (Ended NoMemory) refl refl refl None a b (λ t. absurd (cc)) (subst (λ (t : Told). OpensDisks old.sizes a false t) (sym e) (unpassed old.sizes a m o)))
+            opens told;
+        again = again_both;
       }
-      meets_by (Err fault.NoMemory) cause images told = record { cause = tt; told = stopped (Ended NoMemory) tt told; again = again_both again }
-      meets_by (Err (fault.Refused refusal)) cause images told = record {
-        cause = (refl, same_faults_both old mid new settled.faults cause.0, judged (Some refusal) cause.1);
-        told = stopped (Answered 1 (Refused refusal)) tt told;
-        again = again_both again;
+      meets_fault (repair.Pv pv) cause told = record {
+        cause = (refl, Some found, taken None cause.0, subst (λ (n : ℕ). n < new.faults pv) (opened.faults pv) cause.1);
+        told = λ before is.
+            let o = opens before is in
+            let w = told o.0 o.1 in (
+              w.0,
+              w.1,
+              record {
+                found = Some found;
+                scanned = λ t. held_now before is;
+                opened = o.0;
+                opening = o.2;
+                start = w.0;
+                repair = w.2;
+                line = none_in_turn w.0 false;
+                keeps = λ begun. absurd (cc);
+                found_after = λ done. absurd (cc);
+              },
+            );
+        again = again_both;
       }
-      meets_by (Err (fault.Failed pv)) cause images told = record {
-        cause = (refl, refl, judged None cause.0, subst (λ (n : ℕ). n < new.faults pv) (settled.faults pv) cause.1);
-        told = in_turn cause.0 (images tt) (Answered 1 (PvFailed pv)) (λ unwritten. unwritten) false (λ done. absurd done) told;
-        again = again_both again;
+      meets_fault (repair.TooLarge pv need room) cause told = record {
+        cause = (refl, same_faults_both old mid new opened.faults cause.0, Some found, taken (Some (pv, need, room)) cause.1);
+        told = λ before is.
+            let o = opens before is in
+            let w = told o.0 o.1 in (
+              w.0,
+              w.1,
+              looks (changing command) context (Ended (RepairRefused pv need room)) refl refl refl (Some found) before w.0 (λ t. held_now before is)
+                  (subst (λ (t : Told). OpensDisks old.sizes before true t) (sym w.2) o.2),
+            );
+        again = again_both;
       }
 
-    pub meets_carried : (outcome : Outcome) → IsCarriedOut state here time mid outcome new → Meets (changing command) context old outcome new
-    meets_carried outcome carried =
-        subst (λ (o : Outcome). Meets (changing command) context old o new) (sym carried.is) (meets_by carried.again carried.result carried.cause carried.images carried.told)
+    -- ---- all was repaired
+    module _ (done new : State) (again : IsIdleAgain mid done) (repaired : IsRepaired found mid done (repaired_of found))
+        (repairs : BetweenTold (λ a b. WritesInTurn a (repair_batches found) true b) mid.told done.told) (images_kept : StraysAreOthers found → RepairKeepsImages found) where
+      abbrev state : GroupState
+      state = state_in (repaired_of found) names
+
+      abbrev batches : List (List Put)
+      batches = batches_of state here time
+
+      judged : (refusal : Option OpRefusal) → refusal_of state here time ≡ refusal → IsJudged (changing command) context old refusal
+      judged refusal is = (Some found, taken None repaired.fits, is)
+
+      faults_since : HasSameFaults old done
+      faults_since = same_faults_both old mid done opened.faults repaired.faults
+
+      -- the entries of the areas stand in every base once all was repaired
+      entries_now : (told : Told) → old.told ≡ Some told → ShowsEntries found.areas (now_after told.opened told.steps)
+      entries_now told is =
+          scan_names (now_after told.opened told.steps) old.sizes found
+          (subst (λ (o : Option Told). HoldsNow o (λ image. IsScanOf image old.sizes found)) is opened.now)
+
+      module _ (before : Told) (is : old.told ≡ Some before) where
+        abbrev look : Told
+        look = (opens before is).0
+
+        abbrev start : Told
+        start = (repairs look (opens before is).1).0
+
+        start_told : done.told ≡ Some start
+        start_told = (repairs look (opens before is).1).1
+
+        written : WritesInTurn look (repair_batches found) true start
+        written = (repairs look (opens before is).1).2
+
+        -- what a read gives at the start
+        now_start : now_after start.opened start.steps ≡ with_batches (repair_batches found) (now_after before.opened before.steps)
+        now_start =
+            same_image (now_after start.opened start.steps) (with_batches (repair_batches found) (now_after look.opened look.steps)) (written.now refl)
+            ∙ ap (λ (image : Image). with_batches (repair_batches found) image) (same_image (now_after look.opened look.steps) (now_after before.opened before.steps) (opens before is).2.same)
+
+        entries_start : ShowsEntries (repaired_of found).areas (now_after start.opened start.steps)
+        entries_start =
+            subst (λ (image : Image). ShowsEntries (repaired_of found).areas image) (sym now_start)
+            (repaired_entries found opened.shape (images_kept (strays_are_others (now_after before.opened before.steps) old.sizes found (held_now before is).0)) (now_after before.opened before.steps) (entries_now before is))
+
+        entries_base : IsRecord start.steps → (base : Image) → IsBase start base → ShowsEntries (repaired_of found).areas base
+        entries_base record_is base base_is =
+            subst (λ (image : Image). ShowsEntries (repaired_of found).areas image) (same_image (now_after start.opened start.steps) base (now_base start base record_is base_is)) entries_start
+
+      module _ (again_line : IsIdleAgain done new) (record_start : (told : Told) → done.told ≡ Some told → IsRecord told.steps) where
+        again_all : IsIdleAgain old new
+        again_all = record { idle = again_line.idle; sizes = again_line.sizes ∙ again.sizes ∙ idle.sizes }
+
+        -- nothing of its own was written
+        module _ (said : Answer) (unlined : line_begun (Answered 1 said) ≡ false) (undone : is_done (Answered 1 said) ≡ false) where
+          judged_alone : BetweenTold (λ a b. b ≡ a) done.told new.told → BetweenTold (Does (Answered 1 said)) old.told new.told
+          judged_alone same before is =
+              let l = same (start before is) (start_told before is) in (
+                l.0,
+                l.1,
+                record {
+                  found = Some found;
+                  scanned = λ t. held_now before is;
+                  opened = look before is;
+                  opening = (opens before is).2;
+                  start = start before is;
+                  repair = written before is;
+                  line = subst (λ (t : Told). WritesInTurn (start before is) (batches_if (line_begun (Answered 1 said)) batches) (is_done (Answered 1 said)) t) (sym l.2)
+                      (none_begun (line_begun (Answered 1 said)) (is_done (Answered 1 said)) batches (start before is) unlined);
+                  keeps = λ begun. absurd (untrue (line_begun (Answered 1 said)) unlined begun);
+                  found_after = λ done'. absurd (untrue (is_done (Answered 1 said)) undone done');
+                },
+              )
+
+        -- its batches were written, as far as they came
+        module _ (images : KeepsImages state here time) (before : Told) (is : old.told ≡ Some before) (after : Told) (well : Bool) (w : WritesInTurn (start before is) batches well after) where
+          kept : (base : Image) → IsBase (start before is) base → EveryImageSince (length (start before is).steps) after ((changing command).keeps context (Some found) base)
+          kept base base_is =
+              since_weaken after (length (start before is).steps) (length (start before is).steps) (HasFirstBatches batches base) ((changing command).keeps context (Some found) base) (omega arith)
+              (λ image has. (found, refl, images.kept base image (entries_base before is (record_start (start before is) (start_told before is)) base base_is) has))
+              (w.every_image base base_is)
+
+          found_there : well ≡ true → (changing command).finds context (Some found) (now_after after.opened after.steps)
+          found_there went =
+              subst (λ (image : Image). (changing command).finds context (Some found) image)
+              (sym (same_image (now_after after.opened after.steps) (with_batches batches (now_after (start before is).opened (start before is).steps)) (w.now went)))
+              (found, refl, images.found (now_after (start before is).opened (start before is).steps) (entries_start before is))
+
+        meets_by : (result : Result (Unit {0}) ChangeFault) → MatchResult result (λ _. HasSameFaults done new × (refusal_of state here time ≡ None)) (IsFault state here time done new)
+            → (HasBegun result → KeepsImages state here time) → BetweenTold (Carries batches result) done.told new.told → Meets (changing command) context old (outcome_of result) new
+        meets_by (Ok well) cause images told = record {
+          cause = (refl, refl, same_faults_both old done new faults_since cause.0, judged None cause.1);
+          told = λ before is.
+              let l = told (start before is) (start_told before is) in (
+                l.0,
+                l.1,
+                record {
+                  found = Some found;
+                  scanned = λ t. held_now before is;
+                  opened = look before is;
+                  opening = (opens before is).2;
+                  start = start before is;
+                  repair = written before is;
+                  line = l.2;
+                  keeps = λ begun. kept (images tt) before is l.0 true l.2;
+                  found_after = λ done'. found_there (images tt) before is l.0 true l.2 refl;
+                },
+              );
+          again = again_all;
+        }
+        meets_by (Err fault.NoMemory) cause images told = record {
+          cause = (refl, tt);
+          told = judged_alone answer.NoMemory refl refl told;
+          again = again_all;
+        }
+        meets_by (Err (fault.Refused refusal)) cause images told = record {
+          cause = (refl, same_faults_both old done new faults_since cause.0, judged (Some refusal) cause.1);
+          told = judged_alone (answer.Refused refusal) refl refl told;
+          again = again_all;
+        }
+        meets_by (Err (fault.Failed pv)) cause images told = record {
+          cause = (refl, refl, judged None cause.0, subst (λ (n : ℕ). n < new.faults pv) (faults_since pv) cause.1);
+          told = λ before is.
+              let l = told (start before is) (start_told before is) in (
+                l.0,
+                l.1,
+                record {
+                  found = Some found;
+                  scanned = λ t. held_now before is;
+                  opened = look before is;
+                  opening = (opens before is).2;
+                  start = start before is;
+                  repair = written before is;
+                  line = l.2;
+                  keeps = λ begun. kept (images tt) before is l.0 false l.2;
+                  found_after = λ done'. absurd (cc);
+                },
+              );
+          again = again_all;
+        }
+
+        meets_carried : (outcome : Outcome) → IsCarriedOut state here time done outcome new → Meets (changing command) context old outcome new
+        meets_carried outcome carried =
+            subst (λ (o : Outcome). Meets (changing command) context old o new) (sym carried.is) (meets_by carried.result carried.cause carried.images carried.told)
+
+    -- ---- the one or the other
+    meets_on : (result : Result Found RepairFault) (done new : State) → IsIdleAgain mid done → ((told : Told) → done.told ≡ Some told → IsRecord told.steps)
+        → MatchResult result (IsRepaired found mid done) (IsRepairFault found mid done) → BetweenTold (Repairs (repair_batches found) result) mid.told done.told
+        → (HasRepairBegun result → StraysAreOthers found → RepairKeepsImages found)
+        → (outcome : Outcome) → GoesOn names here time result done outcome new → Meets (changing command) context old outcome new
+    meets_on (Err why) done new again record_is cause told images outcome goes =
+        subst (λ (o : Outcome). Meets (changing command) context old o new) (sym goes.0)
+        (subst (λ (s : State). Meets (changing command) context old (Ended (ending_of why)) s) (sym goes.1) (meets_fault done again why cause told))
+    meets_on (Ok r) done new again record_is cause told images outcome goes =
+        let same : r ≡ repaired_of found = cause.repaired_xl in
+        let carried : IsCarriedOut (state_in (repaired_of found) names) here time done outcome new = subst (λ (f : Found). IsCarriedOut (state_in f names) here time done outcome new) same goes in
+        meets_carried done new again (subst (IsRepaired found mid done) same cause) told (images tt) carried.again record_is outcome carried
+
+    pub meets_changed : (outcome : Outcome) (new : State) → IsChanged found names here time mid outcome new → Meets (changing command) context old outcome new
+    meets_changed outcome new changed = meets_on changed.result changed.mid new changed.again changed.follows changed.cause changed.told changed.images outcome changed.goes

@@ -17,14 +17,15 @@ use Rattle.disk_contents.specs.Reads.{AreAreasOf, ReadsAllOf, ReadsFirstOf, area
 use Rattle.lvm_report.specs.Report.{IsReport}
 use Rattle.lvm_script.specs.Options.{Word, number_named}
 use Rattle.lvm_script.specs.declared.answer.Answer.TheVariants.{Refused}
+use Rattle.lvm_script.specs.declared.answer.Answer.TheVariants as answer
 use Rattle.lvm_script.specs.declared.op_refusal.OpRefusal.TheVariants.{UnknownPv}
 use Rattle.lvm_cli.specs.declared.ending.Ending.TheVariants.{NoMemory, ScanReadFailed}
 use Rattle.lvm_cli.specs.declared.outcome.Outcome.{Outcome}
 use Rattle.lvm_cli.specs.declared.outcome.Outcome.TheVariants.{Ended, Answered, Reported}
 use Rattle.lvm_cli.specs.CommandSpec.{Context, Finds, number_in}
 use Rattle.lvm_cli.specs.Commands.Pvck.{pvck}
-use Rattle.lvm_cli.specs.Meets.{ChangesDisks, IsScanned, IsUnwritten, Meets}
-use Rattle.lvm_cli.proofs.ChangedDisks.{between_reading, changes_by_reading, holds_now_anyway, none_failed}
+use Rattle.lvm_cli.specs.Meets.{DoesToDisks, IsScanned, IsTaken, Meets}
+use Rattle.lvm_cli.proofs.ChangedDisks.{between_reading, holds_now_anyway, none_failed, reads_disks}
 
 -- the metadata areas of what was found are those that the header names
 areas_of_found : (sector_at : ℕ → List ℕ) (disk : ℕ) (found : PvFound) → IsFound sector_at disk found → AreAreasOf sector_at disk (areas_found found)
@@ -40,14 +41,17 @@ module _ (names : List Word) (id : Option (List ℕ)) (pv : List ℕ) (time : �
   no_scan : IsScanned (pvck pv) context set.empty old (Finds None)
   no_scan = holds_now_anyway old.told (λ image. Finds None ≡ Finds None) (λ image. refl)
 
+  taken : IsTaken (pvck pv) context old None None
+  taken = record { scanned = no_scan; stuck_xl = refl }
+
   -- no disk has the name
   pub meets_unknown : number_named names pv ≡ None → old.in_flight ≡ [] → Meets (pvck pv) context old (Answered 1 (Refused (UnknownPv pv))) old
   meets_unknown unknown idle = record {
-    cause = (refl, λ disk. refl, (None, no_scan, rw unknown refl));
+    cause = (refl, λ disk. refl, (None, taken, rw unknown refl));
     told = λ told e. (
       told,
       e,
-      changes_by_reading (pvck pv) context refl (Answered 1 (Refused (UnknownPv pv))) tt told told [] (label_span (number_in context pv) ∷ [])
+      reads_disks (pvck pv) context refl (Answered 1 (Refused (UnknownPv pv))) told told [] (label_span (number_in context pv) ∷ [])
           (record { since = []; steps = refl; reads = tt; spans_are = refl }) ([], inl refl, refl),
     );
     again = record { idle = idle; sizes = refl };
@@ -60,7 +64,7 @@ module _ (names : List Word) (id : Option (List ℕ)) (pv : List ℕ) (time : �
     told = λ told e. (
       told,
       e,
-      changes_by_reading (pvck pv) context refl (Ended NoMemory) tt told told [] (label_span (number_in context pv) ∷ [])
+      reads_disks (pvck pv) context refl (Ended NoMemory) told told [] (label_span (number_in context pv) ∷ [])
           (record { since = []; steps = refl; reads = tt; spans_are = refl }) ([], inl refl, refl),
     );
     again = record { idle = idle; sizes = refl };
@@ -79,18 +83,18 @@ module _ (names : List Word) (id : Option (List ℕ)) (pv : List ℕ) (time : �
     reads_named : (image : Image) (spans : List Span) → ReadsOn disk image spans → (pvck pv).reads context image spans
     reads_named image spans reads = subst (λ (n : ℕ). ReadsOn n image spans) (sym number_is) reads
 
-    told_all : (outcome : Outcome) → IsUnwritten outcome → ReadsAllOf disk (slice_index_or old.sizes disk 0) old new → BetweenTold (ChangesDisks (pvck pv) context outcome) old.told new.told
-    told_all outcome unwritten r =
+    told_all : (outcome : Outcome) → ReadsAllOf disk (slice_index_or old.sizes disk 0) old new → BetweenTold (DoesToDisks (pvck pv) context outcome) old.told new.told
+    told_all outcome r =
         let spans = label_span disk ∷ area_spans disk (areas_found r.found) in
-        between_reading (ChangesDisks (pvck pv) context outcome) old.told new.told spans disk (λ sector_at. IsFound sector_at (slice_index_or old.sizes disk 0) r.found) r.reads r.is
-        (λ before after reads is. changes_by_reading (pvck pv) context refl outcome unwritten before after spans [] reads
+        between_reading (DoesToDisks (pvck pv) context outcome) old.told new.told spans disk (λ sector_at. IsFound sector_at (slice_index_or old.sizes disk 0) r.found) r.reads r.is
+        (λ before after reads is. reads_disks (pvck pv) context refl outcome before after spans [] reads
         (reads_named (now_after before.opened before.steps) (spans ++ [])
         (areas_found r.found, areas_of_found (now_after before.opened before.steps disk) (slice_index_or old.sizes disk 0) r.found is, append-nil spans)))
 
-    told_first : (outcome : Outcome) → IsUnwritten outcome → ReadsFirstOf disk (slice_index_or old.sizes disk 0) old new → BetweenTold (ChangesDisks (pvck pv) context outcome) old.told new.told
-    told_first outcome unwritten r =
-        between_reading (ChangesDisks (pvck pv) context outcome) old.told new.told r.read disk (λ sector_at. AreAreasOf sector_at (slice_index_or old.sizes disk 0) r.areas) r.reads r.are
-        (λ before after reads are. changes_by_reading (pvck pv) context refl outcome unwritten before after r.read r.rest reads
+    told_first : (outcome : Outcome) → ReadsFirstOf disk (slice_index_or old.sizes disk 0) old new → BetweenTold (DoesToDisks (pvck pv) context outcome) old.told new.told
+    told_first outcome r =
+        between_reading (DoesToDisks (pvck pv) context outcome) old.told new.told r.read disk (λ sector_at. AreAreasOf sector_at (slice_index_or old.sizes disk 0) r.areas) r.reads r.are
+        (λ before after reads are. reads_disks (pvck pv) context refl outcome before after r.read r.rest reads
         (reads_named (now_after before.opened before.steps) (r.read ++ r.rest) (r.areas, are, r.front)))
 
     pub meets_reported : (text : List ℕ) (all : Bool) → all ≡ true → HasSameFaults old new → IsIdleAgain old new → ReadsAllOf disk (slice_index_or old.sizes disk 0) old new
@@ -107,7 +111,7 @@ module _ (names : List Word) (id : Option (List ℕ)) (pv : List ℕ) (time : �
           subst (λ (n : ℕ). IfSome old.told (λ told. IsReport (now_after told.opened told.steps n) (slice_index_or old.sizes n 0) text)) (sym number_is) report,
         ),
       );
-      told = told_all (Reported text all) tt reads;
+      told = told_all (Reported text all) reads;
       again = again;
     }
 
@@ -115,13 +119,13 @@ module _ (names : List Word) (id : Option (List ℕ)) (pv : List ℕ) (time : �
         → Meets (pvck pv) context old (Ended (ScanReadFailed pv')) new
     meets_read_failed pv' span is fault again reads = record {
       cause = (λ e. passes, (span, subst (λ (n : ℕ). IsLastFault old new n (Reading span)) (sym is) fault));
-      told = told_first (Ended (ScanReadFailed pv')) tt reads;
+      told = told_first (Ended (ScanReadFailed pv')) reads;
       again = again;
     }
 
-    pub meets_without_memory : HasSameFaults old new → IsIdleAgain old new → ReadsFirstOf disk (slice_index_or old.sizes disk 0) old new → Meets (pvck pv) context old (Ended NoMemory) new
+    pub meets_without_memory : HasSameFaults old new → IsIdleAgain old new → ReadsFirstOf disk (slice_index_or old.sizes disk 0) old new → Meets (pvck pv) context old (Answered 1 answer.NoMemory) new
     meets_without_memory same again reads = record {
-      cause = same;
-      told = told_first (Ended NoMemory) tt reads;
+      cause = (refl, same);
+      told = told_first (Answered 1 answer.NoMemory) reads;
       again = again;
     }

@@ -1,17 +1,17 @@
 -- The disks are flushed and scanned, and nothing is written.
-use Rattle.std.proofs.Common.{◌≡◌, ◌≢◌, ◌<◌, ◌≤◌, ◌⊎◌, ℕ, ◌+◌, ◌*◌, Bool, true, false, IsTrue, List, [], ◌∷◌, ◌++◌, length, Option, Some, None, IfSome, refl, inl, inr, sym, ap, subst, ◌∙◌, arith}
+use Rattle.std.proofs.Common.{◌≡◌, ◌<◌, ℕ, Bool, true, false, List, [], ◌∷◌, ◌++◌, length, Option, Some, None, refl, inl, sym, ap, subst, ◌∙◌, arith}
 use Rattle.std.specs.FinSet as set
 use Rattle.std.specs.Ordering.{nat_cmp}
-use Rattle.std.specs.Prelude.{◌↔◌, Result, Ok, Err, MatchResult}
+use Rattle.std.specs.Prelude.{Result, Ok, Err, MatchResult}
 use Rattle.std.proofs.Math.Path.{fun_ext}
 use Rattle.sector_base.specs.declared.spans.Span.{Span}
 use Rattle.disk_model.specs.Calls.{Reserves}
-use Rattle.disk_model.specs.Faults.{HasSameFaults, IsLastFault}
+use Rattle.disk_model.specs.Faults.{HasSameFaults}
 use Rattle.disk_model.specs.Idle.{IsIdleAgain}
-use Rattle.disk_model.specs.Order.{HasFlushed, WritesNothing}
-use Rattle.disk_model.specs.Since.{BetweenTold, ReadsAlone, spans_read, writes_submitted}
+use Rattle.disk_model.specs.Order.{HasFlushed}
+use Rattle.disk_model.specs.Since.{BetweenTold, spans_read}
 use Rattle.disk_model.specs.State.{State}
-use Rattle.disk_model.specs.Steps.{Image, IsSame, Reading, Writing, Flushing, Step, Submitted, Completed, Told, now_after, steps_on}
+use Rattle.disk_model.specs.Steps.{Image, IsSame, Reading, Writing, Flushing, Step, Submitted, Completed, Told, now_after}
 use Rattle.disk_model.proofs.Ordered.{flushed_later, writes_nothing_append}
 use Rattle.disk_model.proofs.ReadingAlone.{now_after-reads, reads_write_nothing}
 use Rattle.disk_model.proofs.StepsSince.{between_both, between_weaker, spans_read-append, steps_joined}
@@ -20,28 +20,20 @@ use Rattle.vg_change.specs.Flushing.{FlushesAll}
 use Rattle.vg_found.specs.declared.found.Found.{Found}
 use Rattle.vg_found.specs.declared.whole.NotWhole.{NotWhole}
 use Rattle.vg_found.specs.declared.whole.NotWhole.TheVariants as not_whole
-use Rattle.vg_found.specs.Whole.{IsNotWhole, IsWhole}
+use Rattle.vg_found.specs.Whole.{IsNotWhole}
 use Rattle.vg_scan.specs.Scans.{AreFewReads, FailedOn, HoldsNow, IsRefusalOfScan, IsScan, IsScanOf, IsScanRefused, ReadsFew}
-use Rattle.lvm_cli.specs.CommandSpec.{Finds, Lacks, Refuses}
-use Rattle.lvm_cli.specs.Scan.{FindsSettled, FlushesBeforeReads, IsOpenCause, IsSettled, IsTakenAsFound, IsUnreadBy, OpensDisks, first_unsettled}
+use Rattle.lvm_cli.specs.CommandSpec.{Lacks, Refuses}
+use Rattle.lvm_cli.specs.Scan.{FindsWhole, FlushesBeforeReads, IsOpenCause, IsOpened, IsTakenAsFound, OpensDisks}
 use Rattle.lvm_cli.specs.ScanEndings.{IsEndingOf, partial_ending}
 use Rattle.lvm_cli.specs.declared.ending.Ending.{Ending}
-use Rattle.lvm_cli.specs.declared.ending.Ending.TheVariants.{NoMemory, ScanReadFailed, ScanRefused}
-use Rattle.lvm_cli.specs.declared.scan_refusal.ScanRefusal.TheVariants.{Disks, NotYet, Partial}
+use Rattle.lvm_cli.specs.declared.ending.Ending.TheVariants.{NoMemory, ScanRefused}
+use Rattle.lvm_cli.specs.declared.scan_refusal.ScanRefusal.TheVariants.{Disks, Partial}
 use Rattle.lvm_cli.proofs.Refusals.{none_failed_on, refused_is}
 
 -- ---- steps
 
--- steps that write nothing submit no write
-pub no_writes : (steps : List Step) → WritesNothing steps → writes_submitted steps ≡ []
-no_writes [] nothing = refl
-no_writes (Submitted tag (Writing span sectors) ∷ steps) nothing = absurd nothing
-no_writes (Submitted tag (Reading span) ∷ steps) nothing = no_writes steps nothing
-no_writes (Submitted tag (Flushing pv) ∷ steps) nothing = no_writes steps nothing
-no_writes (Completed tag work well fresh ∷ steps) nothing = no_writes steps nothing
-
 -- once the disks were flushed, every read comes after that
-pub reads_later : (disks : ℕ) (newer older : List Step) → ((pv : ℕ) → pv < disks → HasFlushed pv older) → FlushesBeforeReads disks older → FlushesBeforeReads disks (newer ++ older)
+reads_later : (disks : ℕ) (newer older : List Step) → ((pv : ℕ) → pv < disks → HasFlushed pv older) → FlushesBeforeReads disks older → FlushesBeforeReads disks (newer ++ older)
 reads_later disks [] older flushed ordered = ordered
 reads_later disks (Submitted tag (Reading span) ∷ newer) older flushed ordered = (λ pv lt. flushed_later pv newer older (flushed pv lt), reads_later disks newer older flushed ordered)
 reads_later disks (Submitted tag (Writing span sectors) ∷ newer) older flushed ordered = reads_later disks newer older flushed ordered
@@ -164,20 +156,13 @@ module _ (old mid new : State) (same_sizes : mid.sizes ≡ old.sizes) (flushes :
     found_now : HoldsNow old.told (λ image. IsScanOf image old.sizes found)
     found_now = held (λ image sizes. IsScanOf image sizes found) is.now
 
-    with_more : (Q : Type 0) → Q → HoldsNow old.told (λ image. IsScanOf image old.sizes found × Q)
-    with_more Q q = go old.told found_now
-      where
-        go : (o : Option Told) → HoldsNow o (λ image. IsScanOf image old.sizes found) → HoldsNow o (λ image. IsScanOf image old.sizes found × Q)
-        go None h = tt
-        go (Some t) h = (h, q)
-
     not_whole_cause : (why : NotWhole) → IsNotWhole found why → IsOpenCause old new (partial_ending found why)
     not_whole_cause (not_whole.ReadFailed pv) unread = (found.unread, failed_since found.unread is.faults, lacks)
       where
-        lacks : HoldsNow old.told (λ image. FindsSettled image old.sizes found.unread (Lacks pv))
+        lacks : HoldsNow old.told (λ image. FindsWhole image old.sizes found.unread (Lacks pv))
         lacks = go old.told found_now
           where
-            go : (o : Option Told) → HoldsNow o (λ image. IsScanOf image old.sizes found) → HoldsNow o (λ image. FindsSettled image old.sizes found.unread (Lacks pv))
+            go : (o : Option Told) → HoldsNow o (λ image. IsScanOf image old.sizes found) → HoldsNow o (λ image. FindsWhole image old.sizes found.unread (Lacks pv))
             go None h = tt
             go (Some t) h = (found, h, refl, unread)
     not_whole_cause not_whole.Partial missing = (
@@ -186,43 +171,24 @@ module _ (old mid new : State) (same_sizes : mid.sizes ≡ old.sizes) (flushes :
       partial,
     )
       where
-        partial : HoldsNow old.told (λ image. FindsSettled image old.sizes found.unread (Refuses (Partial found.missing)))
+        partial : HoldsNow old.told (λ image. FindsWhole image old.sizes found.unread (Refuses (Partial found.missing)))
         partial = go old.told found_now
           where
-            go : (o : Option Told) → HoldsNow o (λ image. IsScanOf image old.sizes found) → HoldsNow o (λ image. FindsSettled image old.sizes found.unread (Refuses (Partial found.missing)))
+            go : (o : Option Told) → HoldsNow o (λ image. IsScanOf image old.sizes found) → HoldsNow o (λ image. FindsWhole image old.sizes found.unread (Refuses (Partial found.missing)))
             go None h = tt
             go (Some t) h = (found, h, refl, missing.0, refl, missing.1)
 
-    not_yet_cause : (pv : ℕ) → IsWhole found → first_unsettled found ≡ Some pv → IsOpenCause old new (ScanRefused (NotYet pv) true)
-    not_yet_cause pv whole first = (
-      found.unread,
-      record { failed = failed_since found.unread is.faults; all = (λ yes. whole.read, λ empty. refl) },
-      not_yet,
-    )
-      where
-        not_yet : HoldsNow old.told (λ image. FindsSettled image old.sizes found.unread (Refuses (NotYet pv)))
-        not_yet = go old.told found_now
-          where
-            go : (o : Option Told) → HoldsNow o (λ image. IsScanOf image old.sizes found) → HoldsNow o (λ image. FindsSettled image old.sizes found.unread (Refuses (NotYet pv)))
-            go None h = tt
-            go (Some t) h = (found, h, refl, whole, first)
-
-    -- it is taken where it is whole and settled
-    pub taken_cause : (result : Result Found Ending) → IsTakenAsFound found result → MatchResult result (λ taken. IsSettled old taken new) (IsOpenCause old new)
+    -- it is taken where it is whole
+    pub taken_cause : (result : Result Found Ending) → IsTakenAsFound found result → MatchResult result (λ taken. IsOpened old taken new) (IsOpenCause old new)
     taken_cause (Ok taken) is_taken =
-        subst (λ (f : Found). IsSettled old f new) (sym is_taken.0) (record {
+        subst (λ (f : Found). IsOpened old f new) (sym is_taken.0) (record {
           sizes = is.sizes ∙ same_sizes;
           now = found_now;
           faults = none_failed_on found.unread old new is_taken.1.read (failed_since found.unread is.faults);
           shape = is.shape;
           whole = is_taken.1;
-          settled = is_taken.2;
         })
-    taken_cause (Err ending) is_taken =
-        elim is_taken [
-          | inl n ↦ subst (IsOpenCause old new) (sym n.2) (not_whole_cause n.0 n.1)
-          | inr y ↦ subst (IsOpenCause old new) (sym y.3) (not_yet_cause y.0 y.1 y.2)
-        ]
+    taken_cause (Err ending) is_taken = subst (IsOpenCause old new) (sym is_taken.2) (not_whole_cause is_taken.0 is_taken.1)
 
 -- ---- after room was made for the flushes
 
@@ -254,5 +220,5 @@ module _ (s0 made s1 : State) (ops sectors : ℕ) (room : Reserves s0 ops sector
       pub refused_after : (why : RefusalOfScan) (unread : set.FinSet nat_cmp) (ending : Ending) → IsScanRefused s1 why unread s2 → IsEndingOf why unread ending → IsOpenCause s0 s2 ending
       refused_after = refused_cause s0 s1 s2 (again.sizes ∙ sizes_same) (flushes_since true flushes) (faults_since same)
 
-      pub taken_after : (found : Found) → IsScan s1 found s2 → (result : Result Found Ending) → IsTakenAsFound found result → MatchResult result (λ taken. IsSettled s0 taken s2) (IsOpenCause s0 s2)
+      pub taken_after : (found : Found) → IsScan s1 found s2 → (result : Result Found Ending) → IsTakenAsFound found result → MatchResult result (λ taken. IsOpened s0 taken s2) (IsOpenCause s0 s2)
       taken_after found is = taken_cause s0 s1 s2 (again.sizes ∙ sizes_same) (flushes_since true flushes) (faults_since same) found is

@@ -12,5 +12,6 @@ pub mod PlannedWords
 pub mod Refusals
 pub mod Reporting
 pub mod ScannedEntries
+pub mod StraysApart
 pub mod Undone
 pub mod ValuesWritten

@@ -1,5 +1,5 @@
 -- The line of a command that words ask for can be planned.
-use Rattle.std.proofs.Common.{◌≡◌, ◌∙◌, ℕ, List, Option, Some, None, IfSome, IsSomeAnd, is_some, true, false, true≢false, refl, ap, sym}
+use Rattle.std.proofs.Common.{◌≡◌, ◌∙◌, ℕ, List, Option, Some, None, IfSome, IsSomeAnd, is_some, true, true≢false, refl, ap, sym}
 use Rattle.lvm_id.specs.LvmId.{IsId}
 use Rattle.lvm_script.specs.declared.command.Command.{Command}
 use Rattle.lvm_script.specs.declared.command.Command.TheVariants.{Pvcreate, Pvmove, Pvck, Pvs, Vgcreate, Vgextend, Vgreduce, Vgremove, Vgrename, Vgcfgbackup, Vgcfgrestore, Vgck, Vgs, Lvcreate, Lvextend, Lvreduce, Lvremove, Lvrename, Lvs, Read, Fill, Write, List as ListVolumes, Wait, Resync}

@@ -1,5 +1,5 @@
 -- A report on a scan, and the ends of a run whose scan was refused.
-use Rattle.std.proofs.Common.{◌≡◌, ◌≢◌, ℕ, Bool, true, false, List, [], ◌++◌, Option, Some, refl, sym, ap, subst, ◌∙◌, inl, arith}
+use Rattle.std.proofs.Common.{◌≡◌, ℕ, Bool, false, List, [], ◌++◌, Option, Some, refl, sym, subst, inl, arith}
 use Rattle.std.proofs.lemmas.List.{append-nil}
 use Rattle.std.specs.FinSet as set
 use Rattle.std.specs.Ordering.{nat_cmp}
@@ -8,37 +8,36 @@ use Rattle.sector_base.specs.declared.spans.Span.{Span}
 use Rattle.disk_model.specs.Idle.{IsIdleAgain}
 use Rattle.disk_model.specs.Since.{BetweenTold, spans_read}
 use Rattle.disk_model.specs.State.{State}
-use Rattle.disk_model.specs.Steps.{Image, Told, now_after}
+use Rattle.disk_model.specs.Steps.{Image, now_after}
 use Rattle.scan_rules.specs.declared.decision.ScanRefusal.{ScanRefusal}
-use Rattle.scan_rules.specs.declared.decision.ScanRefusal.TheVariants as refusals
 use Rattle.vg_found.specs.declared.found.Found.{Found}
 use Rattle.vg_scan.specs.Scans.{AreFewReads, FailedOn, HoldsNow, IsRefusalOfScan, IsScan, IsScanOf, IsScanRefused, ReadsFew}
 use Rattle.lvm_script.specs.Options.{Word}
+use Rattle.lvm_script.specs.declared.answer.Answer.TheVariants as answer
 use Rattle.lvm_cli.specs.declared.commands.scan_report.ScanReport.{ScanReport}
 use Rattle.lvm_cli.specs.declared.commands.scan_report.ScanReport.TheVariants.{Pvs, Vgs, Lvs, Vgck}
 use Rattle.lvm_cli.specs.declared.ending.Ending.{Ending}
 use Rattle.lvm_cli.specs.declared.ending.Ending.TheVariants.{NoMemory, ScanRefused}
 use Rattle.lvm_cli.specs.declared.outcome.Outcome.{Outcome}
-use Rattle.lvm_cli.specs.declared.outcome.Outcome.TheVariants.{Ended, Reported}
+use Rattle.lvm_cli.specs.declared.outcome.Outcome.TheVariants.{Answered, Ended, Reported}
 use Rattle.lvm_cli.specs.declared.scan_refusal.ScanRefusal.TheVariants.{Disks}
-use Rattle.lvm_cli.specs.CommandSpec.{CommandSpec, Context, Finds, Refuses}
-use Rattle.lvm_cli.specs.Meets.{ChangesDisks, IsScanned, IsUnwritten, Meets}
-use Rattle.lvm_cli.specs.Scan.{IsUnreadBy}
+use Rattle.lvm_cli.specs.CommandSpec.{CommandSpec, Context}
+use Rattle.lvm_cli.specs.Meets.{DoesToDisks, Meets}
 use Rattle.lvm_cli.specs.ScanEndings.{IsEndingOf}
 use Rattle.lvm_cli.specs.ScanReport.{IsReported, command_of, scan_report, text_of}
 use Rattle.lvm_script.specs.Lines.{changes}
-use Rattle.lvm_cli.proofs.ChangedDisks.{changes_by_reading, holds_now_anyway, holds_now_weaker}
+use Rattle.lvm_cli.proofs.ChangedDisks.{holds_now_anyway, holds_now_weaker, reads_disks}
 use Rattle.lvm_cli.proofs.Refusals.{refused_is}
 
 -- what a scan reads is what the command may read
 pub scan_reads : (spec : CommandSpec) (context : Context) (old new : State) → spec.flushes ≡ false
     → ((image : Image) (spans : List Span) → AreFewReads image old.sizes spans → spec.reads context image spans)
-    → BetweenTold (ReadsFew old.sizes) old.told new.told → (outcome : Outcome) → IsUnwritten outcome → BetweenTold (ChangesDisks spec context outcome) old.told new.told
-scan_reads spec context old new alone may told outcome unwritten before e =
+    → BetweenTold (ReadsFew old.sizes) old.told new.told → (outcome : Outcome) → BetweenTold (DoesToDisks spec context outcome) old.told new.told
+scan_reads spec context old new alone may told outcome before e =
     let r = told before e in (
       r.0,
       r.1,
-      changes_by_reading spec context alone outcome unwritten before r.0 (spans_read r.2.since) []
+      reads_disks spec context alone outcome before r.0 (spans_read r.2.since) []
           (record { since = r.2.since; steps = r.2.steps; reads = r.2.reads; spans_are = refl })
           (may (now_after before.opened before.steps) (spans_read r.2.since ++ [])
           (subst (λ (l : List Span). AreFewReads (now_after before.opened before.steps) old.sizes l) (sym (append-nil (spans_read r.2.since))) r.2.few)),
@@ -55,13 +54,13 @@ module _ (report : ScanReport) (names : List Word) (id : Option (List ℕ)) (tim
   abbrev context : Context
   context = record { names = names; sizes = old.sizes; id = id; now = time }
 
-  changed : (outcome : Outcome) → IsUnwritten outcome → BetweenTold (ChangesDisks (scan_report report) context outcome) old.told new.told
-  changed = scan_reads (scan_report report) context old new (reads_alone report) (λ image spans few. few) told
+  does : (outcome : Outcome) → BetweenTold (DoesToDisks (scan_report report) context outcome) old.told new.told
+  does = scan_reads (scan_report report) context old new (reads_alone report) (λ image spans few. few) told
 
   without_memory : Meets (scan_report report) context old (Ended NoMemory) new
   without_memory = record {
     cause = tt;
-    told = changed (Ended NoMemory) tt;
+    told = does (Ended NoMemory);
     again = again;
   }
 
@@ -79,10 +78,10 @@ module _ (report : ScanReport) (names : List Word) (id : Option (List ℕ)) (tim
         holds_now_anyway old.told (λ image. (f : Found) × (Some found ≡ Some f) × (text ≡ text_of report f names)) (λ image. (found, refl, reported.0)),
       ),
     );
-    told = changed (Reported text whole) tt;
+    told = does (Reported text whole);
     again = again;
   }
-  report_meets found (Ended NoMemory) is reported = without_memory
+  report_meets found (Answered line answer.NoMemory) is reported = record { cause = (reported, tt); told = does (Answered line answer.NoMemory); again = again }
   report_meets found _ is reported = absurd reported
 
   refused_meets : (why : ScanRefusal) (unread : set.FinSet nat_cmp) (whole : Bool)
@@ -90,7 +89,7 @@ module _ (report : ScanReport) (names : List Word) (id : Option (List ℕ)) (tim
       → Meets (scan_report report) context old (Ended (ScanRefused (Disks why) whole)) new
   refused_meets why unread whole now failed all = record {
     cause = (unread, record { failed = failed; all = all }, now);
-    told = changed (Ended (ScanRefused (Disks why) whole)) tt;
+    told = does (Ended (ScanRefused (Disks why) whole));
     again = again;
   }
 

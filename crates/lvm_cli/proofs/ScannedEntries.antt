@@ -1,5 +1,5 @@
 -- What a scan gives of each metadata area is what its header says in the image.
-use Rattle.std.proofs.Common.{◌≡◌, ℕ, ◌+◌, ◌/◌, List, [], ◌∷◌, ◌++◌, Option, Some, None, inl, inr, sym, ap, subst, arith}
+use Rattle.std.proofs.Common.{◌≡◌, ℕ, ◌+◌, ◌/◌, List, [], ◌∷◌, Option, Some, None, inl, inr, sym, subst, arith}
 use Rattle.std.specs.Prelude.{All, filter_map}
 use Rattle.std.specs.FinSet as set
 use Rattle.std.specs.Ordering.{nat_cmp}

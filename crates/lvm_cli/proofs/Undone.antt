@@ -1,6 +1,5 @@
 -- Memory was wanting before a line was begun.
-use Rattle.std.proofs.Common.{◌≡◌, ℕ, true, List, [], Option, refl, inr}
-use Rattle.disk_model.specs.Since.{BetweenTold}
+use Rattle.std.proofs.Common.{◌≡◌, ℕ, List, [], Option, refl, inr}
 use Rattle.disk_model.specs.State.{State}
 use Rattle.lvm_script.specs.Options.{Word}
 use Rattle.lvm_script.specs.declared.command.Command.{Command}
@@ -13,7 +12,6 @@ use Rattle.lvm_cli.specs.declared.ending.Ending.TheVariants.{NoMemory}
 use Rattle.lvm_cli.specs.declared.outcome.Outcome.TheVariants.{Ended}
 use Rattle.lvm_cli.specs.Meets.{Meets}
 use Rattle.lvm_cli.specs.Runs.{RunsRequest}
-use Rattle.lvm_cli.specs.Scan.{OpensDisks}
 use Rattle.lvm_cli.proofs.BackingUp.{backup_undone}
 use Rattle.lvm_cli.proofs.CarriedOut.{meets_unopened}
 use Rattle.lvm_cli.proofs.Checking.{meets_undone}

@@ -6,13 +6,12 @@ use Rattle.meta_model.specs.Standing.{HasTree}
 use Rattle.meta_model.specs.declared.group.Group.{Group}
 use Rattle.meta_print.specs.Layout.{backup_of}
 use Rattle.lvm_script.specs.Options.{Word}
-use Rattle.lvm_script.specs.declared.answer.Answer.TheVariants.{Refused}
+use Rattle.lvm_script.specs.declared.answer.Answer.TheVariants.{NoMemory, Refused}
 use Rattle.lvm_script.specs.declared.op_refusal.OpRefusal.TheVariants.{UnknownGroup}
 use Rattle.vg_found.specs.declared.found.Found.{Found}
 use Rattle.vg_found.specs.declared.whole.NotWhole.{NotWhole}
 use Rattle.vg_found.specs.Whole.{IsNotWhole, IsWhole}
 use Rattle.lvm_cli.specs.ScanEndings.{partial_ending}
-use Rattle.lvm_cli.specs.declared.ending.Ending.TheVariants.{NoMemory}
 use Rattle.lvm_cli.specs.declared.outcome.Outcome.{Outcome}
 use Rattle.lvm_cli.specs.declared.outcome.Outcome.TheVariants.{Ended, Answered, Reported}
 
@@ -21,7 +20,7 @@ use Rattle.lvm_cli.specs.declared.outcome.Outcome.TheVariants.{Ended, Answered, 
 abbrev pub IsBackedUp : Group → Word → ℕ → Outcome → Type 0
 IsBackedUp group vg now (Answered line (Refused (UnknownGroup name))) = (line ≡ 1) × (name ≡ vg) × (pointwise nat_eq group.name vg ≡ false)
 IsBackedUp group vg now (Reported text whole) = (whole ≡ true) × (text ≡ printed (backup_of group now)) × (pointwise nat_eq group.name vg ≡ true)
-IsBackedUp group vg now (Ended NoMemory) = Unit {0}
+IsBackedUp group vg now (Answered line NoMemory) = line ≡ 1
 IsBackedUp group vg now _ = ⊥
 
 -- the same of what a scan found: one without a group has none of the name

@@ -1,17 +1,20 @@
--- A command that changes something: the disks are flushed and scanned, the line is judged by what was found, and its batches
--- are written.
+-- A command that changes something: the disks are flushed and scanned, what is stale or a stray is repaired, the line is judged
+-- by what stands there then, and its batches are written.
 use Rattle.std.specs.Prelude.{◌≡◌, ℕ, true, List, [], Option, Some, None, Result, Ok, Err, MatchResult}
 use Rattle.disk_batch.specs.InTurn.{Put}
 use Rattle.disk_model.specs.Faults.{HasSameFaults}
 use Rattle.disk_model.specs.Idle.{IsIdleAgain}
+use Rattle.disk_model.specs.Record.{IsRecord}
 use Rattle.disk_model.specs.Since.{BetweenTold}
 use Rattle.disk_model.specs.State.{State}
+use Rattle.disk_model.specs.Steps.{Told}
 use Rattle.group_ops.specs.Laws.{state_in}
 use Rattle.group_ops.specs.Planning.{refusal_of}
 use Rattle.group_ops.specs.declared.state.GroupState.{GroupState}
 use Rattle.lvm_script.specs.declared.command.Command.{Command}
-use Rattle.lvm_script.specs.declared.answer.Answer.TheVariants.{Fine, PvFailed, Refused}
+use Rattle.lvm_script.specs.declared.answer.Answer.TheVariants.{Fine, NoMemory, PvFailed, Refused}
 use Rattle.lvm_script.specs.declared.line.Line.{Line}
+use Rattle.lvm_script.specs.Options.{Word}
 use Rattle.lvm_script.specs.declared.op_refusal.OpRefusal.{OpRefusal}
 use Rattle.vg_change.specs.Batches.{batches_of}
 use Rattle.vg_change.specs.CarryingOut.{Carries, HasBegun, IsFault, KeepsImages}
@@ -19,45 +22,69 @@ use Rattle.vg_change.specs.declared.fault.ChangeFault.{ChangeFault}
 use Rattle.vg_change.specs.declared.fault.ChangeFault.TheVariants as fault
 use Rattle.vg_change.specs.Laws.{AreasAreKept, IsFoundAfter}
 use Rattle.vg_found.specs.declared.found.Found.{Found}
+use Rattle.vg_repair.specs.Batches.{repair_batches}
+use Rattle.vg_repair.specs.Repaired.{repaired_of}
+use Rattle.vg_repair.specs.Laws.{KeepsImages as RepairKeepsImages, StraysAreOthers}
+use Rattle.vg_repair.specs.Repairing.{HasBegun as HasRepairBegun, IsFault as IsRepairFault, IsRepaired, Repairs}
+use Rattle.vg_repair.specs.Stale.{too_large}
+use Rattle.vg_repair.specs.declared.fault.RepairFault.{RepairFault}
+use Rattle.vg_repair.specs.declared.fault.RepairFault.TheVariants as repair
 use Rattle.vg_scan.specs.Scans.{AreFewReads}
-use Rattle.lvm_cli.specs.declared.ending.Ending.TheVariants.{NoMemory}
+use Rattle.lvm_cli.specs.declared.ending.Ending.{Ending}
+use Rattle.lvm_cli.specs.declared.ending.Ending.TheVariants as ending
 use Rattle.lvm_cli.specs.declared.outcome.Outcome.{Outcome}
 use Rattle.lvm_cli.specs.declared.outcome.Outcome.TheVariants.{Ended, Answered}
 use Rattle.lvm_cli.specs.CommandSpec.{AtDisks, CommandSpec, Context}
-use Rattle.lvm_cli.specs.Scan.{FindsSettled}
+use Rattle.lvm_cli.specs.Scan.{FindsWhole}
 
 -- the line of the command
 abbrev pub line_in : Context → Command → Line
 line_in context command = record { number = 1; id = context.id; command = command }
 
+-- what it is judged against, by what was found: that once it is repaired
+abbrev pub state_by : Context → Found → GroupState
+state_by context found = state_in (repaired_of found) context.names
+
 -- its first refusal, by what was found
 abbrev pub refusal_by : Context → Command → Option Found → Option OpRefusal
 refusal_by context command None = None
-refusal_by context command (Some found) = refusal_of (state_in found context.names) (line_in context command) context.now
+refusal_by context command (Some found) = refusal_of (state_by context found) (line_in context command) context.now
 
 -- its batches, by what was found
 abbrev pub batches_by : Context → Command → Option Found → List (List Put)
 batches_by context command None = []
-batches_by context command (Some found) = batches_of (state_in found context.names) (line_in context command) context.now
+batches_by context command (Some found) = batches_of (state_by context found) (line_in context command) context.now
+
+-- the batches that repair what was found
+abbrev pub repairs_by : Option Found → List (List Put)
+repairs_by None = []
+repairs_by (Some found) = repair_batches found
+
+-- the first stale area in which the group's text has no room
+abbrev pub stuck_by : Option Found → Option (ℕ × ℕ × ℕ)
+stuck_by None = None
+stuck_by (Some found) = too_large found
 
 -- a command that changes something
 abbrev pub changing : Command → CommandSpec
 changing command = record {
   flushes = true;
   looks = AtDisks;
-  scan = λ context image unread scanned. FindsSettled image context.sizes unread scanned;
+  scan = λ context image unread scanned. FindsWhole image context.sizes unread scanned;
   refusal = λ context found. refusal_by context command found;
+  repairs = λ found. repairs_by found;
+  stuck = λ found. stuck_by found;
   batches = λ context found. batches_by context command found;
-  keeps = λ context found base image. (f : Found) × (found ≡ Some f) × AreasAreKept (state_in f context.names) (line_in context command) context.now base image;
+  keeps = λ context found base image. (f : Found) × (found ≡ Some f) × AreasAreKept (state_by context f) (line_in context command) context.now base image;
   reads = λ context image spans. AreFewReads image context.sizes spans;
-  finds = λ context found image. (f : Found) × (found ≡ Some f) × IsFoundAfter (state_in f context.names) (line_in context command) context.now image;
+  finds = λ context found image. (f : Found) × (found ≡ Some f) × IsFoundAfter (state_by context f) (line_in context command) context.now image;
   reports = λ context found image text. ⊥;
 }
 
 -- what a line that was carried out, or a fault of it, comes to
 abbrev pub outcome_of : Result (Unit {0}) ChangeFault → Outcome
 outcome_of (Ok done) = Answered 1 Fine
-outcome_of (Err fault.NoMemory) = Ended NoMemory
+outcome_of (Err fault.NoMemory) = Answered 1 NoMemory
 outcome_of (Err (fault.Refused refusal)) = Answered 1 (Refused refusal)
 outcome_of (Err (fault.Failed pv)) = Answered 1 (PvFailed pv)
 
@@ -69,3 +96,25 @@ pub record IsCarriedOut (state : GroupState) (line : Line) (now : ℕ) (old : St
   pub cause : MatchResult result (λ _. HasSameFaults old new × (refusal_of state line now ≡ None)) (IsFault state line now old new)
   pub images : HasBegun result → KeepsImages state line now
   pub told : BetweenTold (Carries (batches_of state line now) result) old.told new.told
+
+-- how a run ends whose disks can't be repaired
+abbrev pub ending_of : RepairFault → Ending
+ending_of repair.NoMemory = ending.NoMemory
+ending_of (repair.Pv pv) = ending.RepairFailed pv
+ending_of (repair.TooLarge pv need room) = ending.RepairRefused pv need room
+
+-- what followed on a repair: the line was carried out, or it ended with the fault
+abbrev pub GoesOn : List Word → Line → ℕ → Result Found RepairFault → State → Outcome → State → Type 0
+GoesOn names line now (Ok repaired) old outcome new = IsCarriedOut (state_in repaired names) line now old outcome new
+GoesOn names line now (Err fault) old outcome new = (outcome ≡ Ended (ending_of fault)) × (new ≡ old)
+
+-- what was found was repaired, and then the line carried out, as far as they came, and this is the outcome
+pub record IsChanged (found : Found) (names : List Word) (line : Line) (now : ℕ) (old : State) (outcome : Outcome) (new : State) : Type 0 where
+  pub result : Result Found RepairFault
+  pub mid : State
+  pub again : IsIdleAgain old mid
+  pub follows : (told : Told) → mid.told ≡ Some told → IsRecord told.steps
+  pub cause : MatchResult result (IsRepaired found old mid) (IsRepairFault found old mid)
+  pub told : BetweenTold (Repairs (repair_batches found) result) old.told mid.told
+  pub images : HasRepairBegun result → StraysAreOthers found → RepairKeepsImages found
+  pub goes : GoesOn names line now result mid outcome new

@@ -1,5 +1,5 @@
 -- All that is said of a command.
-use Rattle.std.specs.Prelude.{ℕ, Bool, if◌then◌else◌, List, [], ◌∷◌, Option, Some, None, is_none, slice_index_or, unwrap_or}
+use Rattle.std.specs.Prelude.{ℕ, Bool, if◌then◌else◌, List, [], Option, Some, None, is_none, slice_index_or, unwrap_or}
 use Rattle.std.specs.FinSet as set
 use Rattle.std.specs.Ordering.{nat_cmp}
 use Rattle.sector_base.specs.declared.spans.Span.{Span}
@@ -43,11 +43,15 @@ pub record CommandSpec : Type 1 where
   pub looks : Looks
   -- what the look comes to, by what stands on the disks and by which of them are unread
   pub scan : Context → Image → set.FinSet nat_cmp → Scanned → Type 0
-  -- its first refusal, where one holds, by what the scan finds
+  -- its first refusal, where one holds, by what the scan finds and, where it changes something, once that is repaired
   pub refusal : Context → Option Found → Option OpRefusal
-  -- the batches of writes that it makes, in their order, where it isn't refused
+  -- where it changes something, the batches of writes that repair what the scan finds to be stale or a stray, and of the first
+  -- stale area in which the group's text has no room its disk, how many sectors it needs and how many there are
+  pub repairs : Option Found → List (List Put)
+  pub stuck : Option Found → Option (ℕ × ℕ × ℕ)
+  -- its own batches, behind those, where it isn't refused
   pub batches : Context → Option Found → List (List Put)
-  -- what every image that a crash may leave on the way keeps of what the disks held before
+  -- what every image that a crash may leave from then on keeps of what the disks held at its start
   pub keeps : Context → Option Found → Image → Image → Type 0
   -- the spans that it may read, in their order, by what stands on the disks
   pub reads : Context → Image → List Span → Type 0

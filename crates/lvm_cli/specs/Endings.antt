@@ -8,9 +8,9 @@ use Rattle.scan_rules.specs.declared.decision.ScanRefusal.{ScanRefusal as Refusa
 use Rattle.scan_rules.specs.declared.decision.ScanRefusal.TheVariants as scan
 use Rattle.lvm_script.specs.Options.{Word}
 use Rattle.lvm_cli.specs.declared.ending.Ending.{Ending}
-use Rattle.lvm_cli.specs.declared.ending.Ending.TheVariants.{WordsRefused, NoMemory, OpenFailed, ScanReadFailed, ScanRefused}
+use Rattle.lvm_cli.specs.declared.ending.Ending.TheVariants.{WordsRefused, NoMemory, OpenFailed, ScanReadFailed, ScanRefused, RepairFailed, RepairRefused}
 use Rattle.lvm_cli.specs.declared.scan_refusal.ScanRefusal.{ScanRefusal}
-use Rattle.lvm_cli.specs.declared.scan_refusal.ScanRefusal.TheVariants.{NotYet, Disks, Partial}
+use Rattle.lvm_cli.specs.declared.scan_refusal.ScanRefusal.TheVariants.{Disks, Partial}
 
 -- the name of a disk
 abbrev pub named : List Word → ℕ → Value
@@ -36,9 +36,12 @@ shown_refusal names (scan.PvShape pv) = (codes "PvShape", named names pv ∷ [])
 
 -- a refusal of a run whose disks aren't taken as a scan finds them
 abbrev pub shown_scan : List Word → ScanRefusal → List ℕ × List Value
-shown_scan names (NotYet pv) = (codes "NotYet", named names pv ∷ [])
 shown_scan names (Disks refusal) = shown_refusal names refusal
 shown_scan names (Partial ids) = (codes "Partial", flat_map id_values ids)
+
+-- of a repair for which there is no room: the disk, how many sectors it needs, and how many there are
+abbrev pub repair_values : List Word → ℕ → ℕ → ℕ → List Value
+repair_values names pv need room = named names pv ∷ number need ∷ number room ∷ []
 
 -- what the run prints
 abbrev pub ending_text : List Word → Ending → List ℕ
@@ -47,6 +50,9 @@ ending_text names NoMemory = []
 ending_text names (OpenFailed pv) = codes "open failed " ++ slice_index_or names pv [] ++ codes "\n"
 ending_text names (ScanReadFailed pv) = codes "scan refused ReadFailed " ++ slice_index_or names pv [] ++ codes "\n"
 ending_text names (ScanRefused refusal whole) = codes "scan refused " ++ shown_text (shown_scan names refusal) ++ codes "\n"
+ending_text names (RepairFailed pv) = codes "repair failed " ++ slice_index_or names pv [] ++ codes "\n"
+ending_text names (RepairRefused pv need room) =
+    codes "repair refused" ++ shown_text ([], repair_values names pv need room) ++ codes "\n"
 
 -- its exit status; 6 for a refusal of the scan where a read failed too
 abbrev pub status_of_ending : Ending → ℕ
@@ -56,3 +62,5 @@ status_of_ending (OpenFailed pv) = 6
 status_of_ending (ScanReadFailed pv) = 6
 status_of_ending (ScanRefused refusal true) = 5
 status_of_ending (ScanRefused refusal false) = 6
+status_of_ending (RepairFailed pv) = 6
+status_of_ending (RepairRefused pv need room) = 5

@@ -1,9 +1,7 @@
 -- The disks are flushed, for a command that changes something, and looked at.
-use Rattle.std.specs.Prelude.{◌≡◌, ◌≢◌, ◌<◌, ◌↔◌, ◌⊎◌, ◌||◌, ◌==◌, ℕ, Bool, true, IsTrue, List, [], ◌∷◌, length, map, find, Option, Some, None, Result, Ok, Err}
-use Rattle.std.specs.List.{list_any, range_with_len}
+use Rattle.std.specs.Prelude.{◌≡◌, ◌≢◌, ◌<◌, ◌↔◌, ℕ, Bool, IsTrue, List, [], ◌∷◌, length, map, Some, Result, Ok, Err}
 use Rattle.std.specs.FinSet as set
 use Rattle.std.specs.Ordering.{nat_cmp}
-use Rattle.sector_base.specs.declared.spans.Span.{Span}
 use Rattle.disk_model.specs.Faults.{HasSameFaults, IsLastFault}
 use Rattle.disk_model.specs.Order.{HasFlushed, WritesNothing}
 use Rattle.disk_model.specs.Since.{spans_read}
@@ -13,14 +11,13 @@ use Rattle.vg_found.specs.declared.disk.Disk.{Disk}
 use Rattle.vg_found.specs.declared.found.Found.{Found}
 use Rattle.vg_found.specs.declared.whole.NotWhole.{NotWhole}
 use Rattle.vg_found.specs.Whole.{IsNotWhole, IsWhole, first_of}
-use Rattle.vg_found.specs.StaleAreas.{is_on}
 use Rattle.vg_found.specs.Shape.{HasShape}
 use Rattle.vg_scan.specs.Scans.{AreFewReads, FailedOn, HoldsNow, IsRefusalOfScan, IsScanOf}
 use Rattle.lvm_cli.specs.CommandSpec.{Scanned, Finds, Refuses, Lacks}
 use Rattle.lvm_cli.specs.ScanEndings.{partial_ending}
 use Rattle.lvm_cli.specs.declared.ending.Ending.{Ending}
 use Rattle.lvm_cli.specs.declared.ending.Ending.TheVariants.{NoMemory, OpenFailed, ScanReadFailed, ScanRefused}
-use Rattle.lvm_cli.specs.declared.scan_refusal.ScanRefusal.TheVariants.{NotYet, Disks, Partial}
+use Rattle.lvm_cli.specs.declared.scan_refusal.ScanRefusal.TheVariants.{Disks, Partial}
 
 -- what a scan of disks of these sizes finds, whatever is missing and whichever are unread
 abbrev pub FindsAnything : Image → List ℕ → set.FinSet nat_cmp → Scanned → Type 0
@@ -36,20 +33,6 @@ FindsWhole image sizes unread (Refuses (Partial ids)) = (found : Found) × IsSca
 FindsWhole image sizes unread (Refuses (Disks refusal)) = IsRefusalOfScan image sizes unread refusal
 FindsWhole image sizes unread (Lacks pv) = (found : Found) × IsScanOf image sizes found × (found.unread ≡ unread) × (first_of unread ≡ Some pv)
 FindsWhole image sizes unread _ = ⊥
-
--- something on the disk is stale, or it holds something of a group without being listed
-abbrev pub is_unsettled : Found → ℕ → Bool
-is_unsettled found pv = set.contains found.strays pv || list_any (is_on pv) found.stale
-
--- the first such disk
-unfoldable pub first_unsettled : Found → Option ℕ
-first_unsettled found = find (is_unsettled found) (range_with_len 0 64)
-
--- the same where nothing on the disks may be stale or a stray: the first disk with such is refused
-abbrev pub FindsSettled : Image → List ℕ → set.FinSet nat_cmp → Scanned → Type 0
-FindsSettled image sizes unread (Finds (Some found)) = IsScanOf image sizes found × (found.unread ≡ unread) × IsWhole found × (first_unsettled found ≡ None)
-FindsSettled image sizes unread (Refuses (NotYet pv)) = (found : Found) × IsScanOf image sizes found × (found.unread ≡ unread) × IsWhole found × (first_unsettled found ≡ Some pv)
-FindsSettled image sizes unread scanned = FindsWhole image sizes unread scanned
 
 -- before each submission of a read in these steps, a flush of each of so many disks had completed well in them
 abbrev pub FlushesBeforeReads : ℕ → List Step → Type 0
@@ -67,14 +50,13 @@ pub record OpensDisks (sizes : List ℕ) (old : Told) (passes : Bool) (new : Tol
   pub ordered : FlushesBeforeReads (length sizes) since
   pub few : AreFewReads (now_after old.opened old.steps) sizes (spans_read since)
 
--- the disks were scanned, and this was found, which is settled
-pub record IsSettled (old : State) (found : Found) (new : State) : Type 0 where
+-- the disks were flushed and scanned, and this was found, which is whole
+pub record IsOpened (old : State) (found : Found) (new : State) : Type 0 where
   pub sizes : map (λ (disk : Disk). disk.sectors) found.disks ≡ old.sizes
   pub now : HoldsNow old.told (λ image. IsScanOf image old.sizes found)
   pub faults : HasSameFaults old new
   pub shape : HasShape found
   pub whole : IsWhole found
-  pub settled : first_unsettled found ≡ None
 
 -- reads failed on these disks, and on none where it is whole
 pub record IsUnreadBy (whole : Bool) (unread : set.FinSet nat_cmp) (old new : State) : Type 0 where
@@ -85,14 +67,12 @@ pub record IsUnreadBy (whole : Bool) (unread : set.FinSet nat_cmp) (old new : St
 abbrev pub IsOpenCause : State → State → Ending → Type 0
 IsOpenCause old new NoMemory = Unit {0}
 IsOpenCause old new (OpenFailed pv) = IsLastFault old new pv (Flushing pv)
-IsOpenCause old new (ScanReadFailed pv) = (unread : set.FinSet nat_cmp) × FailedOn unread old new × HoldsNow old.told (λ image. FindsSettled image old.sizes unread (Lacks pv))
+IsOpenCause old new (ScanReadFailed pv) = (unread : set.FinSet nat_cmp) × FailedOn unread old new × HoldsNow old.told (λ image. FindsWhole image old.sizes unread (Lacks pv))
 IsOpenCause old new (ScanRefused refusal whole) =
-    (unread : set.FinSet nat_cmp) × IsUnreadBy whole unread old new × HoldsNow old.told (λ image. FindsSettled image old.sizes unread (Refuses refusal))
+    (unread : set.FinSet nat_cmp) × IsUnreadBy whole unread old new × HoldsNow old.told (λ image. FindsWhole image old.sizes unread (Refuses refusal))
 IsOpenCause old new _ = ⊥
 
--- what becomes of what a scan found: it is taken where it is whole and settled, and else refused
+-- what becomes of what a scan found: it is taken where it is whole, and else refused
 abbrev pub IsTakenAsFound : Found → Result Found Ending → Type 0
-IsTakenAsFound found (Ok taken) = (taken ≡ found) × IsWhole found × (first_unsettled found ≡ None)
-IsTakenAsFound found (Err ending) =
-    ((why : NotWhole) × IsNotWhole found why × (ending ≡ partial_ending found why))
-    ⊎ ((pv : ℕ) × IsWhole found × (first_unsettled found ≡ Some pv) × (ending ≡ ScanRefused (NotYet pv) true))
+IsTakenAsFound found (Ok taken) = (taken ≡ found) × IsWhole found
+IsTakenAsFound found (Err ending) = (why : NotWhole) × IsNotWhole found why × (ending ≡ partial_ending found why)

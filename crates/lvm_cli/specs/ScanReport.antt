@@ -1,18 +1,18 @@
 -- A report on what a scan of the disks finds, whatever is missing or unread.
-use Rattle.std.specs.Prelude.{◌≡◌, ◌↔◌, ℕ, IsTrue, List, [], Option, Some, None}
+use Rattle.std.specs.Prelude.{◌≡◌, ◌↔◌, ℕ, IsTrue, List, [], Some, None}
 use Rattle.std.specs.FinSet as set
 use Rattle.lvm_report.specs.Reports.{lvs_text, pvs_text, vgck_text, vgs_text}
 use Rattle.vg_found.specs.declared.found.Found.{Found}
 use Rattle.vg_scan.specs.Scans.{AreFewReads}
 use Rattle.lvm_script.specs.Lines.{changes}
 use Rattle.lvm_script.specs.Options.{Word}
+use Rattle.lvm_script.specs.declared.answer.Answer.TheVariants.{NoMemory}
 use Rattle.lvm_script.specs.declared.command.Command.{Command}
 use Rattle.lvm_script.specs.declared.command.Command.TheVariants as command
 use Rattle.lvm_cli.specs.declared.commands.scan_report.ScanReport.{ScanReport}
 use Rattle.lvm_cli.specs.declared.commands.scan_report.ScanReport.TheVariants.{Pvs, Vgs, Lvs, Vgck}
-use Rattle.lvm_cli.specs.declared.ending.Ending.TheVariants.{NoMemory}
 use Rattle.lvm_cli.specs.declared.outcome.Outcome.{Outcome}
-use Rattle.lvm_cli.specs.declared.outcome.Outcome.TheVariants.{Ended, Reported}
+use Rattle.lvm_cli.specs.declared.outcome.Outcome.TheVariants.{Answered, Reported}
 use Rattle.lvm_cli.specs.CommandSpec.{CommandSpec, AtDisks}
 use Rattle.lvm_cli.specs.Scan.{FindsAnything}
 
@@ -37,6 +37,8 @@ scan_report report = record {
   looks = AtDisks;
   scan = λ context image unread scanned. FindsAnything image context.sizes unread scanned;
   refusal = λ context found. None;
+  repairs = λ found. [];
+  stuck = λ found. None;
   batches = λ context found. [];
   keeps = λ context found base image. ⊥;
   reads = λ context image spans. AreFewReads image context.sizes spans;
@@ -47,5 +49,5 @@ scan_report report = record {
 -- what the report on what was found comes to: only memory can be wanting
 abbrev pub IsReported : ScanReport → Found → List Word → Outcome → Type 0
 IsReported report found names (Reported text whole) = (text ≡ text_of report found names) × (IsTrue whole ↔ (found.unread ≡ set.empty))
-IsReported report found names (Ended NoMemory) = Unit {0}
+IsReported report found names (Answered line NoMemory) = line ≡ 1
 IsReported report found names _ = ⊥

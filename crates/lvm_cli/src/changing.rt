@@ -6,7 +6,7 @@ ghost use Rattle.lvm_script.specs.Values.{is_disk_name};
 ghost use Rattle.vg_change.specs.CarryingOut.{sizes_of};
 ghost use Rattle.vg_found.specs.Shape.{HasShape};
 ghost use Rattle.vg_found.specs.Whole.{IsWhole};
-ghost use Rattle.lvm_cli.specs.Changing.{IsCarriedOut, changing, outcome_of};
+ghost use Rattle.lvm_cli.specs.Changing.{IsCarriedOut, IsChanged, changing, ending_of, outcome_of};
 ghost use Rattle.lvm_cli.specs.Disks.{AreDisks};
 ghost use Rattle.lvm_cli.specs.Meets.{Meets};
 ghost use Rattle.lvm_cli.specs.Runs.{context_with};
@@ -19,10 +19,11 @@ use group_ops::GroupState;
 use lvm_script::{Answer, DiskNames, Line};
 use std::alloc::{AllocError, Global};
 use vg_change::{ChangeFault, carry_out};
-use vg_found::Found;
+use vg_found::{Found, Whole};
+use vg_repair::{RepairFault, repair};
 
-/// Flushes and scans the disks, and carries the line out on what is found, at this time. All memory is taken before
-/// anything is written.
+/// Flushes and scans the disks, repairs what is stale or a stray, and carries the line out on what is found then, at this
+/// time. All memory for a repair, and then for the line, is taken before anything of it is written.
 pub fn run_change<S: Shelf>(
     alloc: Global,
     shelf: &mut S,
@@ -40,8 +41,44 @@ pub fn run_change<S: Shelf>(
     ensures { Meets (changing line.now.command) (context_with names.now line.now.id now (S.state shelf.old)) (S.state shelf.old) result (S.state shelf.new) }
 {
     match open_disks(alloc, shelf) {
-        Ok(found) => change_found(alloc, shelf, names, found, line, now),
+        Ok(whole) => change_whole(alloc, shelf, names, whole, line, now),
         Err(ending) => Outcome::Ended(ending),
+    }
+}
+
+// Repairs what was found on the disks, and carries the line out.
+fn change_whole<S: Shelf>(
+    alloc: Global,
+    shelf: &mut S,
+    names: &DiskNames,
+    whole: Whole,
+    line: &Line,
+    now: u64,
+) -> Outcome
+    requires idle { (S.state shelf.old).in_flight ≡ [] }
+    requires shape { HasShape whole }
+    requires all { IsWhole whole }
+    requires count { length names.now ≡ length whole.disks }
+    requires sizes { (S.state shelf.old).sizes ≡ sizes_of whole.disks }
+    requires named { All (λ name. is_disk_name name ≡ true) names.now }
+    requires planned { IsPlanned line.now.id line.now.command }
+    requires time { now < 2 ^ 48 }
+    ensures { IsChanged whole names.now line.now now (S.state shelf.old) result (S.state shelf.new) }
+{
+    match repair(alloc, whole, shelf) {
+        Ok(repaired) => change_found(alloc, shelf, names, repaired.into_found(), line, now),
+        Err(fault) => Outcome::Ended(ending_of(fault)),
+    }
+}
+
+// How the run ends where the disks can't be repaired.
+fn ending_of(fault: RepairFault) -> Ending
+    ensures { result ≡ ending_of fault }
+{
+    match fault {
+        RepairFault::NoMemory => Ending::NoMemory,
+        RepairFault::Pv(pv) => Ending::RepairFailed(pv),
+        RepairFault::TooLarge { pv, need, room } => Ending::RepairRefused { pv, need, room },
     }
 }
 
@@ -66,7 +103,7 @@ fn change_found<S: Shelf>(
 {
     let state = match state_of(found, names) {
         Ok(state) => state,
-        Err(AllocError) => return Outcome::Ended(Ending::NoMemory),
+        Err(AllocError) => return Outcome::Answered(1, Answer::NoMemory),
     };
     outcome_of(carry_out(alloc, shelf, &state, line, now))
 }
@@ -77,7 +114,7 @@ fn outcome_of(carried: Result<(), ChangeFault>) -> Outcome
 {
     match carried {
         Ok(()) => Outcome::Answered(1, Answer::Fine),
-        Err(ChangeFault::NoMemory) => Outcome::Ended(Ending::NoMemory),
+        Err(ChangeFault::NoMemory) => Outcome::Answered(1, Answer::NoMemory),
         Err(ChangeFault::Refused(refusal)) => Outcome::Answered(1, Answer::Refused(refusal)),
         Err(ChangeFault::Failed(pv)) => Outcome::Answered(1, Answer::PvFailed(pv)),
     }

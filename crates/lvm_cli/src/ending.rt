@@ -3,10 +3,10 @@ ghost use Rattle.std.specs.Prelude.{◌≡◌, [], ◌++◌, codes, is_ok};
 ghost use Rattle.sector_base.specs.Shown.{shown_text};
 ghost use Rattle.lvm_script.specs.Streams.{WritesText};
 ghost use Rattle.lvm_cli.specs.Endings.{ending_text, status_of_ending};
-ghost use Rattle.lvm_cli.specs.Endings.{shown_scan};
+ghost use Rattle.lvm_cli.specs.Endings.{repair_values, shown_scan};
 
 use crate::scan_refusal::ScanRefusal;
-use lvm_script::{DiskNames, Failed, Sink, write_bytes};
+use lvm_script::{DiskNames, Failed, Shown, Sink, write_bytes, write_kind};
 
 /// What ends a run before its lines. It prints one line, or none.
 #[derive(Debug, Drop)]
@@ -21,6 +21,11 @@ pub enum Ending {
     ScanReadFailed(u32),
     /// The disks aren't taken as they are. Whether each of them was read.
     ScanRefused { refusal: ScanRefusal, whole: bool },
+    /// A write or flush of the repair failed on the disk with this number.
+    RepairFailed(u32),
+    /// The text of the group has no room in a stale area of the disk with this number: how many sectors it needs, and how
+    /// many there are.
+    RepairRefused { pv: u32, need: u64, room: u64 },
 }
 
 impl Ending {
@@ -31,7 +36,8 @@ impl Ending {
         match self {
             Ending::WordsRefused => 3,
             Ending::NoMemory => 2,
-            Ending::OpenFailed(_) | Ending::ScanReadFailed(_) => 6,
+            Ending::OpenFailed(_) | Ending::ScanReadFailed(_) | Ending::RepairFailed(_) => 6,
+            Ending::RepairRefused { .. } => 5,
             Ending::ScanRefused { whole, .. } => { if *whole { 5 } else { 6 } }
         }
     }
@@ -49,6 +55,10 @@ impl Ending {
                 write_line(out, b"scan refused ReadFailed ", names.bytes_of(*pv))
             }
             Ending::ScanRefused { refusal, .. } => write_scan_refusal(out, refusal, names),
+            Ending::RepairFailed(pv) => write_line(out, b"repair failed ", names.bytes_of(*pv)),
+            Ending::RepairRefused { pv, need, room } => {
+                write_repair_refusal(out, *pv, *need, *room, names)
+            }
         }
     }
 }
@@ -75,4 +85,35 @@ fn write_scan_refusal<W: Sink>(
     write_bytes(out, b"scan refused ")?;
     refusal.write(out, names)?;
     write_bytes(out, b"\n")
+}
+
+// Writes the line of a repair for which there is no room on this disk.
+fn write_repair_refusal<W: Sink>(
+    out: &mut W,
+    pv: u32,
+    need: u64,
+    room: u64,
+    names: &DiskNames,
+) -> Result<(), Failed>
+    ensures { WritesText (W.written out.old) (W.fault_count out.old) (codes "repair refused" ++ shown_text ([], repair_values names.now pv need room) ++ codes "\n")
+        (is_ok result) (W.written out.new) (W.fault_count out.new) }
+{
+    write_bytes(out, b"repair refused")?;
+    write_room(out, pv, need, room, names)?;
+    write_bytes(out, b"\n")
+}
+
+// Writes the disk, how many sectors are needed there, and how many there are, each behind a space.
+fn write_room<W: Sink>(
+    out: &mut W,
+    pv: u32,
+    need: u64,
+    room: u64,
+    names: &DiskNames,
+) -> Result<(), Failed>
+    ensures { WritesText (W.written out.old) (W.fault_count out.old) (shown_text ([], repair_values names.now pv need room))
+        (is_ok result) (W.written out.new) (W.fault_count out.new) }
+{
+    let pv = Shown::Text(names.bytes_of(pv));
+    write_kind(out, "", &[pv, Shown::Number(need), Shown::Number(room)])
 }

@@ -15,8 +15,6 @@ use vg_found::Ids;
 /// Why the disks of a run aren't taken as they are.
 #[derive(Debug, Drop)]
 pub enum ScanRefusal {
-    /// What stands on the disk with this number can't be dealt with yet.
-    NotYet(u32),
     /// The scan refuses them.
     Disks(scan_rules::ScanRefusal),
     /// These physical volumes of the group are missing.
@@ -30,7 +28,6 @@ impl ScanRefusal {
             (is_ok result) (W.written out.new) (W.fault_count out.new) }
     {
         match self {
-            ScanRefusal::NotYet(pv) => write_kind(out, "NotYet", &[name_of(names, *pv)]),
             ScanRefusal::Disks(refusal) => write_refusal(out, refusal, names),
             ScanRefusal::Partial(ids) => write_partial(out, ids.as_slice()),
         }

@@ -1,5 +1,5 @@
 -- pvck(8) of one disk: its report.
-use Rattle.std.specs.Prelude.{◌≡◌, false, List, [], ◌∷◌, None}
+use Rattle.std.specs.Prelude.{◌≡◌, List, [], ◌∷◌, None}
 use Rattle.pv_header.specs.declared.extent_list.Extent.{Extent}
 use Rattle.pv_label.specs.LabelSectors.{label_span}
 use Rattle.disk_contents.specs.Reads.{AreAreasOf, area_spans}
@@ -16,6 +16,8 @@ pvck pv = record {
   looks = AtNothing;
   scan = λ context image unread scanned. scanned ≡ Finds None;
   refusal = λ context found. unknown_pv context pv;
+  repairs = λ found. [];
+  stuck = λ found. None;
   batches = λ context found. [];
   keeps = λ context found base image. ⊥;
   reads = λ context image spans. (areas : List Extent) × AreAreasOf (image (number_in context pv)) (size_in context pv) areas

@@ -26,6 +26,6 @@ pub fn run_pvck<S: Shelf>(alloc: Global, shelf: &mut S, names: &DiskNames, pv: T
     match pvck(alloc, shelf, disk) {
         Ok(text) => Outcome::Reported { text, whole: true },
         Err(ReadRefusal::ReadFailed(fault)) => Outcome::Ended(Ending::ScanReadFailed(fault.pv)),
-        Err(ReadRefusal::NoMemory) => Outcome::Ended(Ending::NoMemory),
+        Err(ReadRefusal::NoMemory) => Outcome::Answered(1, Answer::NoMemory),
     }
 }

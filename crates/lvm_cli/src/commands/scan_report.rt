@@ -5,12 +5,11 @@ ghost use Rattle.lvm_cli.specs.Disks.{AreDisks};
 ghost use Rattle.lvm_cli.specs.Meets.{Meets};
 ghost use Rattle.lvm_cli.specs.ScanReport.{IsReported, scan_report, text_of};
 
-use crate::ending::Ending;
 use crate::outcome::Outcome;
 use crate::scanned::scan_ending;
 use disk_model::Shelf;
 use lvm_report::{lvs, pvs, vgck, vgs};
-use lvm_script::DiskNames;
+use lvm_script::{Answer, DiskNames};
 use sector_base::Text;
 use std::alloc::{AllocError, Global};
 use vg_found::Found;
@@ -58,7 +57,7 @@ fn reported(alloc: Global, found: &Found, names: &DiskNames, report: ScanReport)
             text,
             whole: found.unread.is_empty(),
         },
-        Err(AllocError) => Outcome::Ended(Ending::NoMemory),
+        Err(AllocError) => Outcome::Answered(1, Answer::NoMemory),
     }
 }
 

@@ -6,7 +6,6 @@ ghost use Rattle.lvm_cli.specs.Commands.Vgcfgbackup.{vgcfgbackup};
 ghost use Rattle.lvm_cli.specs.Disks.{AreDisks};
 ghost use Rattle.lvm_cli.specs.Meets.{Meets};
 
-use crate::ending::Ending;
 use crate::outcome::Outcome;
 use crate::scanned::{partial_ending, scan_ending};
 use disk_model::Shelf;
@@ -62,6 +61,6 @@ fn back_up(alloc: Global, group: &Group, vg: Text, now: u64) -> Outcome
     }
     match backup_text(alloc, group, now) {
         Ok(text) => Outcome::Reported { text, whole: true },
-        Err(AllocError) => Outcome::Ended(Ending::NoMemory),
+        Err(AllocError) => Outcome::Answered(1, Answer::NoMemory),
     }
 }

@@ -13,6 +13,7 @@ use std::sync::Wait;
 use std::test::Fail;
 use std::thread::Threads;
 
+mod repairs;
 mod stops;
 
 // A shelf of these three disks, of which these operations are to fail.

@@ -1,4 +1,4 @@
-use Rattle.std.proofs.Common.{◌≡◌, refl, sym, subst}
+use Rattle.std.proofs.Common.{refl, sym, subst}
 use Rattle.std.specs.Prelude.{Err}
 use Rattle.group_ops.specs.State.{IsState}
 use Rattle.group_ops.specs.declared.state.GroupState.{GroupState}

@@ -1,10 +1,8 @@
-use Rattle.std.proofs.Common.{◌≡◌, List, [], ◌∷◌, refl, sym, ap, ◌∙◌}
+use Rattle.std.proofs.Common.{◌≡◌, List, [], ◌∷◌, refl, ap, ◌∙◌}
 use Rattle.std.specs.List.{AllZip}
-use Rattle.std.specs.Prelude.{map}
 use Rattle.std.specs.String.{string_bytes}
 use Rattle.std.specs.declared.string.String.{String}
 use Rattle.lvm_script.specs.Options.{Word, words_of}
-use Rattle.group_ops.specs.Laws.{state_in}
 use Rattle.lvm_cli.proofs.changing.state_of.Goals as goal
 
 -- texts with the same bytes, one by one

@@ -1,4 +1,4 @@
-use Rattle.std.proofs.Common.{◌≡◌, sym, subst, ◌∙◌}
+use Rattle.std.proofs.Common.{sym, subst, ◌∙◌}
 use Rattle.lvm_cli.specs.CommandSpec.{CommandSpec}
 use Rattle.lvm_cli.specs.Meets.{Meets}
 use Rattle.lvm_cli.specs.Runs.{context_with}

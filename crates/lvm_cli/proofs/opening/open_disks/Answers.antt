@@ -10,13 +10,13 @@ pub returns-in-Ok-clause-cause : goal.returns-in-Ok-clause-cause
 returns-in-Ok-clause-cause g c =
     let f = c.in_default-flush_all.ensures in
     taken_after (g.S.Shelf.state c.args.shelf.now) (g.S.Shelf.state c.reserve.new.self) (g.S.Shelf.state c.flush_all.new.shelf) _ 0 c.in_default.ensures.ok f.again f.told (g.S.Shelf.state c.scan.new.shelf) f.fault
-    c.in-Ok.found c.in-Ok.ensures.scan c.settled.result c.settled.ensures
+    c.in-Ok.found c.in-Ok.ensures.scan c.taken.result c.taken.ensures
 
 pub returns-in-Ok-clause-told : goal.returns-in-Ok-clause-told
 returns-in-Ok-clause-told g c =
     let f = c.in_default-flush_all.ensures in
     opens_all (g.S.Shelf.state c.args.shelf.now) (g.S.Shelf.state c.reserve.new.self) (g.S.Shelf.state c.flush_all.new.shelf) _ 0 c.in_default.ensures.ok f.again f.told (g.S.Shelf.state c.scan.new.shelf)
-    (is_ok c.settled.result) c.in-Ok.ensures.reads
+    (is_ok c.taken.result) c.in-Ok.ensures.reads
 
 pub returns-in-Err-scan-clause-cause : goal.returns-in-Err-scan-clause-cause
 returns-in-Err-scan-clause-cause g c =
