@@ -1,5 +1,5 @@
 //! The calls.
-ghost use Rattle.std.specs.Prelude.{◌≡◌, ◌+◌, ◌≤◌, ◌<◌, ◌-◌, ◌⊎◌, ◌∷◌, ◌++◌, [], Some, true, false, IfErr, IfNone, IfOk, IfSome, IsSome};
+ghost use Rattle.std.specs.Prelude.{◌≡◌, ◌+◌, ◌≤◌, ◌⊎◌, ◌∷◌, ◌++◌, [], Some, true, false, IfErr, IfNone, IfOk, IfSome, IsSome};
 ghost use mathlib.Core.List.{IsPrefix};
 ghost use Rattle.table_lock.specs.declared.event.LockEvent.TheVariants.{Given, Taken, Missed};
 ghost use Rattle.table_lock.specs.History.{Adds, GivesBack};
