@@ -32,18 +32,18 @@ text_batches text (area ∷ areas) =
 abbrev pub unused : PvHeader → PvHeader
 unused header = record header { version = 2; flags = header.flags - header.flags % 2 }
 
--- the label sector of a disk, by its number, where it is a stray
+-- the label sector of a disk, by its number, as it is written where the disk is a stray
 abbrev pub unused_label : set.FinSet nat_cmp → ℕ × Disk → Option NewLabel
 unused_label strays disk =
     if set.contains strays disk.0
     then option_map (λ (pv : ℕ × PvHeader). record { disk = disk.0; sector = pv.0; header = unused pv.1 }) (option_and_then pv_in disk.1.contents)
     else None
 
--- those of all disks
+-- the label sectors of those of these disks that are strays
 abbrev pub unused_labels : set.FinSet nat_cmp → List Disk → List NewLabel
 unused_labels strays disks = filter_map (unused_label strays) (enumerate_from 0 disks)
 
--- the label sectors of a scan's strays
+-- the label sectors that are written to the strays of a scan
 abbrev pub stray_labels : Found → List NewLabel
 stray_labels found = unused_labels found.strays found.disks
 
@@ -57,7 +57,8 @@ clear_put area = (header_span area.0, header_bytes (header_of area.0 None None) 
 
 -- ---- all of it
 
--- the found text to the stale areas, byte for byte; then the strays' label sectors; then the headers of their areas
+-- all batches of a repair: the found text to the stale areas, byte for byte; then the strays' label sectors; then the headers of
+-- their areas
 abbrev pub repair_batches : Found → List (List Put)
 repair_batches found =
     text_batches (text_of found) (stale_areas found)

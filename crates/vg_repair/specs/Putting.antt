@@ -10,11 +10,11 @@ use Rattle.vg_commit.specs.Written.{stored}
 use Rattle.vg_repair.specs.Stale.{stale_in}
 use Rattle.vg_repair.specs.declared.repaired.Repair.{Repair}
 
--- the text
+-- the text that the stale areas get
 abbrev pub text_put : Repair → List ℕ
 text_put repair = unwrap_or repair.text []
 
--- the checksum is that of the text as it is stored
+-- the checksum that goes with it is that of the text as it is stored
 abbrev pub IsSummed : Repair → Type 0
 IsSummed repair = repair.sum ≡ checksum LVM_CRC_START (stored (text_put repair))
 
@@ -22,6 +22,6 @@ IsSummed repair = repair.sum ≡ checksum LVM_CRC_START (stored (text_put repair
 abbrev pub AreaHasRoom : Repair → ℕ → ℕ × AreaFound → Type 0
 AreaHasRoom repair pv found = (area : Area × Option Locn) → stale_in repair.stale pv found ≡ Some area → need (length (text_put repair) + 1) ≤ room area.0.size area.1
 
--- and in each stale one of these
+-- the text has room in each of these areas of a disk that is stale
 abbrev pub HasRoom : Repair → ℕ → List AreaFound → Type 0
 HasRoom repair pv areas = (number : ℕ) (found : AreaFound) → slice_get areas number ≡ Some found → AreaHasRoom repair pv (number, found)

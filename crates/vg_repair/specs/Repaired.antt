@@ -31,36 +31,36 @@ with_entry found committed = record {
   entry = entry_of committed;
 }
 
--- one that isn't ignored, by the number of its disk and its own there, with the entry that it had: a stray's is empty, and a
--- stale one has the new entry of the text
+-- an area that isn't ignored as it is found then, by the number of its disk and its own there, with the entry that it had: a
+-- stray's is empty, a stale one has the new entry of the text, and another is as it was
 abbrev pub repaired_held : List (ℕ × ℕ) → set.FinSet nat_cmp → List ℕ → ℕ → ℕ × AreaFound → Area × Option Locn → AreaFound
 repaired_held stale strays text disk found area =
     if set.contains strays disk then with_entry found.1 None else if is_among stale disk found.0 then with_entry found.1 (Some (new_entry text area)) else found.1
 
--- any of them
+-- any area as it is found then
 abbrev pub repaired_area : List (ℕ × ℕ) → set.FinSet nat_cmp → List ℕ → ℕ → ℕ × AreaFound → AreaFound
 repaired_area stale strays text disk found = option_map_or (repaired_held stale strays text disk found) (held_area disk found.1) found.1
 
--- all of a disk
+-- all areas of a disk as they are found then
 abbrev pub repaired_areas : List (ℕ × ℕ) → set.FinSet nat_cmp → List ℕ → ℕ → List AreaFound → List AreaFound
 repaired_areas stale strays text disk areas = map (repaired_area stale strays text disk) (enumerate_from 0 areas)
 
--- what stands on a disk
+-- what stands on a disk then
 abbrev pub repaired_contents : List (ℕ × ℕ) → set.FinSet nat_cmp → List ℕ → ℕ → PvFound → PvFound
 repaired_contents stale strays text disk (NoLabel refusal) = NoLabel refusal
 repaired_contents stale strays text disk (NoHeader label refusal) = NoHeader label refusal
 repaired_contents stale strays text disk (Whole label header areas) =
     Whole label (if set.contains strays disk then unused header else header) (repaired_areas stale strays text disk areas)
 
--- a disk, by its number
+-- a disk as it is found then, by its number
 abbrev pub repaired_disk : List (ℕ × ℕ) → set.FinSet nat_cmp → List ℕ → ℕ × Disk → Disk
 repaired_disk stale strays text disk = record { sectors = disk.1.sectors; contents = option_map (repaired_contents stale strays text disk.0) disk.1.contents }
 
--- all disks
+-- all disks as they are found then
 abbrev pub repaired_disks : List (ℕ × ℕ) → set.FinSet nat_cmp → List ℕ → List Disk → List Disk
 repaired_disks stale strays text disks = map (repaired_disk stale strays text) (enumerate_from 0 disks)
 
--- all that is found: nothing stale and no stray, and all else as it was
+-- all that is found once a repair is done: nothing stale and no stray, and all else as it was
 abbrev pub repaired_of : Found → Found
 repaired_of found = record found {
   disks = repaired_disks found.stale found.strays (text_of found) found.disks;

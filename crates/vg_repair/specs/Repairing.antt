@@ -20,7 +20,7 @@ IsFault found old new (TooLarge pv need room) = HasSameFaults old new × (too_la
 pub record IsRepaired (found : Found) (old new : State) (repaired : Found) : Type 0 where
   pub faults : HasSameFaults old new
   pub fits : too_large found ≡ None
-  pub repaired_xl : repaired ≡ repaired_of found
+  pub now : repaired ≡ repaired_of found
 
 -- the batches were begun
 abbrev pub HasBegun : Result Found RepairFault → Type 0

@@ -20,11 +20,11 @@ is_among areas disk number = list_any (λ (area : ℕ × ℕ). (area.0 == disk) 
 abbrev pub stale_in : List (ℕ × ℕ) → ℕ → ℕ × AreaFound → Option (Area × Option Locn)
 stale_in stale disk area = if is_among stale disk area.0 then held_area disk area.1 else None
 
--- those on a disk, by its number
+-- the stale areas of a disk, by its number
 abbrev pub stale_on : List (ℕ × ℕ) → ℕ × Disk → List (Area × Option Locn)
 stale_on stale disk = filter_map (stale_in stale disk.0) (enumerate_from 0 (areas_on disk.1.contents))
 
--- those on all disks
+-- the stale areas of these disks
 abbrev pub stale_by : List (ℕ × ℕ) → List Disk → List (Area × Option Locn)
 stale_by stale disks = flat_map (stale_on stale) (enumerate_from 0 disks)
 
@@ -43,7 +43,8 @@ too_large_among text [] = None
 too_large_among text (area ∷ areas) =
     if nat_lt (room area.0.size area.1) (need (length text + 1)) then Some (area.0.pv, need (length text + 1), room area.0.size area.1) else too_large_among text areas
 
--- the same of the stale areas of a scan and the text that it found
+-- of the first stale area of a scan that can't take the text that was found: its disk, how many sectors it needs and how many
+-- there are
 abbrev pub too_large : Found → Option (ℕ × ℕ × ℕ)
 too_large found = too_large_among (text_of found) (stale_areas found)
 

@@ -54,7 +54,8 @@ fn two_areas(alloc: Global) -> Result<Vec<(Area, Option<Locn>)>, AllocError>
         size: 5,
         sum: 0,
     };
-    Vec::from_slice(alloc, &[(first, None), (second, Some(committed))])
+    let areas = Vec::from_slice(alloc, &[(first, None), (second, Some(committed))])?;
+    Ok(areas)
 }
 
 #[test]

@@ -24,4 +24,4 @@ take =
     (All-nil CanTake))
 
 pub returns : goal.returns
-returns c = subst (λ (l : List (Area × Option Locn)). All CanTake l) (sym c.from_slice.ensures.items) take
+returns c = subst (λ (l : List (Area × Option Locn)). All CanTake l) (sym c.in_ok-areas.ensures.items) take
