@@ -1,0 +1,10 @@
+//! Counted steps: contracts bound them, and no code counts.
+//!
+//! A step is one comparison with a kept key, which is the only way in which a search learns of the key.
+#![tactic(auto)]
+
+mod steps;
+#[cfg(test)]
+mod tests;
+
+pub use steps::Steps;
