@@ -1,4 +1,13 @@
+pub mod Ascending
+pub mod PlaceOrder
+pub mod Indices
+pub mod ByNumber
+pub mod Indexed
+pub mod Halving
+pub mod RegionsKept
 pub mod Passing
-pub mod Laws
+pub mod TableKept
+pub mod FreePieces
 pub mod Apart
+pub mod Reached
 pub mod Rows

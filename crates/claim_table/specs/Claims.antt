@@ -9,8 +9,8 @@ use Rattle.claim_table.specs.declared.claim.Entry.{Entry}
 use Rattle.claim_table.specs.declared.claim.Entry.TheVariants.{Started, Deferred}
 use Rattle.claim_table.specs.Conflict.{clash}
 
--- the started pieces and the deferred ones, each in the order in which they became so, the region that is closed, the
--- volumes that are suspended, and for how many pieces more there is room
+-- the started pieces and the deferred ones, each in the order of their numbers, the region that is closed, the volumes that
+-- are suspended, and for how many pieces more there is room
 pub record Claims : Type 0 where
   pub started : List Claim
   pub deferred : List Claim

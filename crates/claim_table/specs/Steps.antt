@@ -1,6 +1,6 @@
 -- What each call does to the claims.
-use Rattle.std.specs.Prelude.{ℕ, ◌-◌, Bool, false, ◌==◌, List, [], ◌∷◌, ◌++◌, Option, None, remove, slice_index_or, slice_set, if◌then◌else◌}
-use Rattle.std.specs.List.{list_any, position_or_len}
+use Rattle.std.specs.Prelude.{ℕ, ◌-◌, Bool, false, ◌==◌, nat_le, List, [], ◌∷◌, ◌++◌, Option, None, remove, slice_index_or, slice_set, if◌then◌else◌}
+use Rattle.std.specs.List.{insert, list_any, position_or_len}
 use Rattle.claim_table.specs.declared.claim.Claim.{Claim}
 use Rattle.claim_table.specs.declared.claim.Entry.{Entry}
 use Rattle.claim_table.specs.declared.claim.Entry.TheVariants.{Started, Deferred}
@@ -17,6 +17,14 @@ has_number number c = c.number == number
 -- where the piece of this number stands among these, or how many they are
 abbrev pub number_at : List Claim → ℕ → ℕ
 number_at claims number = position_or_len (has_number number) claims
+
+-- where a piece of this number belongs among these, which stand in the order of their numbers
+abbrev pub place_by_number : List Claim → ℕ → ℕ
+place_by_number claims number = position_or_len (λ c. nat_le number c.number) claims
+
+-- the piece is put in by its number
+abbrev pub put_by_number : List Claim → Claim → List Claim
+put_by_number claims c = insert claims (place_by_number claims c.number) c
 
 -- the piece of this number is taken out
 abbrev pub without : List Claim → ℕ → List Claim
@@ -47,7 +55,7 @@ after_set_region claims number region =
 -- the first deferred piece that conflicts with nothing became started
 abbrev pub after_ready : Claims → Claims
 after_ready claims = record claims {
-  started = claims.started ++ slice_index_or claims.deferred (ready_at claims) no_claim ∷ [];
+  started = put_by_number claims.started (slice_index_or claims.deferred (ready_at claims) no_claim);
   deferred = remove claims.deferred (ready_at claims);
 }
 

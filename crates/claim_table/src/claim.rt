@@ -1,6 +1,4 @@
-//! Pieces as they stand in the table, what they wait for, and when two of them conflict.
-ghost use Rattle.std.specs.Prelude.{◌≡◌, ◌≤◌, nat_lt, max, min};
-ghost use Rattle.claim_table.specs.Extents.{end_of, overlaps};
+//! Pieces as they stand in the table, and what they wait for.
 
 use sector_base::Piece;
 
@@ -28,36 +26,4 @@ pub enum By {
 pub enum Entry {
     Started,
     Deferred(By),
-}
-
-// Whether the one, which begins at or before the other, reaches into it.
-fn reaches(front: &Piece, back: &Piece) -> bool
-    requires { front.now.first ≤ back.now.first }
-    ensures { result ≡ nat_lt (max front.now.first back.now.first) (min (end_of front.now) (end_of back.now)) }
-{
-    back.count > 0 && back.first - front.first < u64::from(front.count)
-}
-
-// Whether the pieces are of one volume and share a sector.
-fn overlap(one: &Piece, other: &Piece) -> bool
-    ensures { result ≡ overlaps one.now other.now }
-{
-    if one.volume != other.volume {
-        false
-    } else if one.first <= other.first {
-        reaches(one, other)
-    } else {
-        reaches(other, one)
-    }
-}
-
-impl Claim {
-    ghost use Rattle.claim_table.specs.Conflict.{clash};
-
-    /// Whether the pieces are of one volume, share a sector, and one of them writes.
-    pub fn clashes(&self, other: &Claim) -> bool
-        ensures { result ≡ clash self.now other.now }
-    {
-        (self.piece.write || other.piece.write) && overlap(&self.piece, &other.piece)
-    }
 }

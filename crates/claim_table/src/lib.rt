@@ -8,10 +8,17 @@
 #![tactic(auto)]
 
 mod claim;
-mod search;
+mod laws;
+mod numbers;
+mod pieces;
+mod placed;
+mod places;
+mod regions;
+mod sorted;
 mod table;
 #[cfg(test)]
 mod tests;
 
 pub use claim::{By, Claim, Entry};
+pub use laws::claims_stay_apart;
 pub use table::ClaimTable;

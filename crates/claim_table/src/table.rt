@@ -1,42 +1,63 @@
 //! The table of the pieces that are under way and of those that wait.
-ghost use Rattle.std.specs.Prelude.{◌≡◌, ◌≤◌, ◌<◌, None, Some, ◌==◌, ◌||◌, All, IfSome, IfNone, IfOk, IsFalse, IsTrue, MatchOption, OnErr, OnOk, length, max, not, slice_get, slice_index_or, take, if◌then◌else◌};
-ghost use Rattle.std.specs.List.{list_any};
+ghost use Rattle.std.specs.Prelude.{◌≡◌, ◌≤◌, ◌<◌, ◌+◌, ◌-◌, ◌*◌, ◌^◌, None, Some, ◌==◌, ◌||◌, All, IfSome, IfNone, IfOk, IsFalse, IsTrue, MatchOption, OnErr, OnOk, filter, length, max, not, position, slice_get, slice_index_or, take, if◌then◌else◌};
+ghost use Rattle.std.specs.List.{list_any, position_or_len};
 ghost use Rattle.std.specs.Option.{option_map};
 ghost use Rattle.claim_table.specs.Claims.{IsEntry, conflicts, is_free, is_suspended, lies_in, ready_at};
+ghost use Rattle.claim_table.specs.Places.{is_below};
 ghost use Rattle.claim_table.specs.Steps.{after_enter, after_leave, after_ready, after_resume, after_set_region, after_suspend, has_number, no_claim, no_claims};
 
-use crate::search::{
-    first_clash, front, is_among, is_of_volume, lies_within, place_of, place_of_volume,
-};
+use crate::pieces::Pieces;
+use crate::regions::{forget_region, has_region, note_region};
 use crate::{By, Claim, Entry};
 use sector_base::Piece;
 use std::alloc::{AllocError, Global};
-use std::marker::Model;
+use std::marker::{Brand, Model};
+use std::sync::ledger::{Blank, Ledger};
+use step_count::Steps;
 
 /// The pieces that are under way, those that wait, the region that is closed, and the volumes that are suspended. Contracts
 /// see it as the record `Claims`.
 #[derive(Drop)]
 pub struct ClaimTable {
-    started: Vec<Claim>,
-    deferred: Vec<Claim>,
+    started: Pieces,
+    regions: Vec<u64>,
+    deferred: Pieces,
     closed: Option<u64>,
     suspended: Vec<u32>,
     spare: u64,
+}
+
+// The place of the volume, if it is among them.
+fn find_volume(volumes: &[u32], volume: u32) -> Option<usize>
+    ensures { result ≡ position (λ v. v == volume) volumes.now }
+{
+    volumes.iter().position(|v| *v == volume)
+}
+
+// Where the volume stands.
+fn place_of_volume(volumes: &[u32], volume: u32) -> usize
+    requires { IsTrue (list_any (λ v. v == volume) volumes.now) }
+    ensures place { result ≡ position_or_len (λ v. v == volume) volumes.now }
+    ensures within { result < length volumes.now }
+{
+    find_volume(volumes, volume).unwrap_or(0)
 }
 
 // So many volumes may be suspended at once.
 const SUSPENSIONS: usize = 1024;
 
 impl Model for ClaimTable {
-    ghost use Rattle.std.specs.Prelude.{◌≤◌, ◌+◌, vec_capacity, vec_len};
+    ghost use Rattle.std.specs.Prelude.{◌≤◌, ◌<◌, ◌+◌, AllPairs, length, vec_capacity, vec_len};
     ghost use Rattle.claim_table.specs.Claims.{Claims};
+    ghost use Rattle.claim_table.specs.Regions.{AreRegionsOf};
 
     ghost Value = { Claims };
 
-    ghost view = { λ t. record { started = t.started.items; deferred = t.deferred.items; closed = t.closed; suspended = t.suspended.items; spare = t.spare } };
+    ghost view = { λ t. record { started = t.started.claims; deferred = t.deferred.claims; closed = t.closed; suspended = t.suspended.items; spare = t.spare } };
 
-    // A deferred piece has room among the started ones, and a spare place is room among both.
-    ghost invariant = { λ t. (vec_len t.started + vec_len t.deferred + t.spare ≤ vec_capacity t.started) × (vec_len t.deferred + t.spare ≤ vec_capacity t.deferred) × (1024 ≤ vec_capacity t.suspended) };
+    // The regions are those of the started pieces, and the deferred ones have numbers of their own. A deferred piece has room
+    // among the started ones, and a spare place is room among both.
+    ghost invariant = { λ t. AreRegionsOf t.started.claims t.regions.items × AllPairs (λ c d. c.number < d.number) t.deferred.claims × (vec_len t.regions + t.started.room ≤ vec_capacity t.regions) × (length t.deferred.claims + t.spare ≤ t.started.room) × (t.spare ≤ t.deferred.room) × (1024 ≤ vec_capacity t.suspended) };
 }
 
 impl ClaimTable {
@@ -45,8 +66,9 @@ impl ClaimTable {
         ensures { IfOk result (λ table. table ≡ no_claims) }
     {
         Ok(ClaimTable {
-            started: Vec::new(alloc),
-            deferred: Vec::new(alloc),
+            started: Pieces::new(alloc),
+            regions: Vec::new(alloc),
+            deferred: Pieces::new(alloc),
             closed: None,
             suspended: Vec::with_capacity(alloc, SUSPENSIONS)?,
             spare: 0,
@@ -61,8 +83,9 @@ impl ClaimTable {
         let spare = pieces.max(self.spare);
         let room = (self.deferred.len() as u64).checked_add(spare);
         let room = room.ok_or(AllocError)?;
-        self.started.reserve(room as usize)?;
-        self.deferred.reserve(spare as usize)?;
+        self.regions.reserve(room as usize)?;
+        self.started.reserve(room)?;
+        self.deferred.reserve(spare)?;
         self.spare = spare;
         Ok(())
     }
@@ -80,15 +103,16 @@ impl ClaimTable {
             piece,
             region,
         };
-        let by = self.conflict(&claim, &self.deferred);
+        let by = self.conflict(&claim, None);
         self.spare -= 1;
         match by {
             None => {
-                self.started.push_reserved(claim);
+                note_region(&mut self.regions, region);
+                self.started.put(claim);
                 Entry::Started
             }
             Some(by) => {
-                self.deferred.push_reserved(claim);
+                self.deferred.put(claim);
                 Entry::Deferred(by)
             }
         }
@@ -99,8 +123,8 @@ impl ClaimTable {
         requires { IsTrue (list_any (has_number number) self.old.deferred) }
         ensures { self.new ≡ after_set_region self.old number region }
     {
-        let at = place_of(&self.deferred, number);
-        self.deferred[at].region = region;
+        let at = self.deferred.place_of(number);
+        self.deferred.set_region(at, region);
     }
 
     /// Takes out the started or deferred piece.
@@ -108,18 +132,21 @@ impl ClaimTable {
         requires { IsTrue (list_any (has_number number) self.old.started || list_any (has_number number) self.old.deferred) }
         ensures { self.new ≡ after_leave self.old number }
     {
-        if is_among(&self.started, number) {
-            let at = place_of(&self.started, number);
-            self.started.remove(at);
-        } else {
-            let at = place_of(&self.deferred, number);
-            self.deferred.remove(at);
+        match self.started.find(number) {
+            Some(at) => {
+                let claim = self.started.take(at);
+                forget_region(&mut self.regions, claim.region);
+            }
+            None => {
+                let at = self.deferred.place_of(number);
+                self.deferred.take(at);
+            }
         }
     }
 
     /// Starts the first deferred piece that conflicts with no started piece, the closed region, a suspension or a piece that
     /// was deferred earlier, and answers its number; `None` exactly where there is none.
-    #[tactic(auto, using(crate::proofs::Laws::ready_none, crate::proofs::Laws::ready_some, crate::proofs::Laws::ready_item))]
+    #[tactic(auto, using(crate::proofs::FreePieces::ready_none))]
     pub fn next_ready(&mut self) -> Option<u64>
         ensures number { result ≡ option_map (λ c. c.number) (slice_get self.old.deferred (ready_at self.old)) }
         ensures after { MatchOption result (self.new ≡ self.old) (λ _. self.new ≡ after_ready self.old) }
@@ -128,8 +155,9 @@ impl ClaimTable {
         if at == self.deferred.len() {
             return None;
         }
-        let claim = self.deferred.remove(at);
-        self.started.push_reserved(claim);
+        let claim = self.deferred.take(at);
+        note_region(&mut self.regions, claim.region);
+        self.started.put(claim);
         Some(claim.number)
     }
 
@@ -139,7 +167,7 @@ impl ClaimTable {
         ensures answer { result ≡ not (list_any (lies_in region) self.old.started) }
         ensures after { self.new ≡ (if result then record self.old { closed = Some region } else self.old) }
     {
-        if self.busy(region) {
+        if self.is_busy::<Brand>(region, Blank::new(1)) {
             return false;
         }
         self.closed = Some(region);
@@ -177,33 +205,47 @@ impl ClaimTable {
     pub fn drained(&self, volume: u32) -> bool
         ensures { result ≡ not (list_any (λ c. c.piece.volume == volume) self.now.started) }
     {
-        !is_of_volume(&self.started, volume)
+        !self.started.has_volume(volume)
     }
 
-    /// Whether a started piece lies in the region.
-    pub fn busy(&self, region: u64) -> bool
+    /// Whether a started piece lies in the region. A step is a comparison with the region of a started piece; with n started
+    /// pieces it takes at most d steps, where 2^d is at most 2n + 1, and so none without one.
+    pub fn busy<L: Ledger>(&self, region: u64, steps: &mut Steps<L>) -> bool
+        ensures answer { result ≡ list_any (lies_in region) self.now.started }
+        ensures bound { 2 ^ (steps.new - steps.old) ≤ 2 * length self.now.started + 1 }
+        ensures counted { steps.old ≤ steps.new }
+    {
+        has_region(&self.regions, region, steps)
+    }
+
+    // The same, by a counter of its own.
+    fn is_busy<L: Ledger>(&self, region: u64, blank: Blank) -> bool
+        requires name { blank.name ≡ L.name }
+        requires parts { blank.parts ≡ L.parts }
+        requires some { 0 < blank.parts }
         ensures { result ≡ list_any (lies_in region) self.now.started }
     {
-        self.started.iter().any(|c| lies_within(c, region))
+        self.busy(region, &mut Steps::<L>::new(blank))
     }
 
-    // Something that the claim conflicts with, where these were deferred before it.
-    fn conflict(&self, claim: &Claim, earlier: &[Claim]) -> Option<By>
-        ensures none { IfNone result (IsTrue (is_free self.now earlier.now claim.now)) }
-        ensures some { IfSome result (λ by. IsTrue (conflicts self.now earlier.now claim.now by)) }
+    // Something that the claim conflicts with, where those with numbers below the limit, or all, were deferred before it.
+    #[tactic(auto, using(crate::proofs::Indices::any_filter))]
+    fn conflict(&self, claim: &Claim, limit: Option<u64>) -> Option<By>
+        ensures none { IfNone result (IsTrue (is_free self.now (filter (λ d. is_below limit d.number) self.now.deferred) claim.now)) }
+        ensures some { IfSome result (λ by. IsTrue (conflicts self.now (filter (λ d. is_below limit d.number) self.now.deferred) claim.now by)) }
     {
         if self.suspended.contains(&claim.piece.volume) {
             return Some(By::Suspended(claim.piece.volume));
         }
         if let Some(region) = self.closed
-            && lies_within(claim, region)
+            && claim.region == Some(region)
         {
             return Some(By::Region(region));
         }
-        if let Some(number) = first_clash(&self.started, claim) {
+        if let Some(number) = self.started.clash(claim, None) {
             return Some(By::Piece(number));
         }
-        match first_clash(earlier, claim) {
+        match self.deferred.clash(claim, limit) {
             Some(number) => Some(By::Piece(number)),
             None => None,
         }
@@ -221,8 +263,8 @@ impl ClaimTable {
         requires { at < length self.now.deferred }
         ensures { result ≡ not (is_free self.now (take at self.now.deferred) (slice_index_or self.now.deferred at no_claim)) }
     {
-        self.conflict(&self.deferred[at], front(&self.deferred, at))
-            .is_some()
+        let claim = self.deferred.at(at);
+        self.conflict(&claim, Some(claim.number)).is_some()
     }
 
     // The place of the first deferred piece that conflicts with nothing, or their number.

@@ -1,7 +1,7 @@
 use Rattle.std.proofs.Common.{◌<◌, ◌≤◌, length, take, sym, ◌∙◌, arith}
 use Rattle.std.proofs.lemmas.Bool.{not-true, not-false}
 use Rattle.claim_table.specs.Steps.{no_claim}
-use Rattle.claim_table.proofs.Laws.{ready_end, ready_here, ready_step}
+use Rattle.claim_table.proofs.FreePieces.{ready_end, ready_here, ready_step}
 use Rattle.claim_table.proofs.table.ClaimTable.first_ready.Goals as goal
 
 pub loop-at-preserved : goal.loop-at-preserved

@@ -4,7 +4,7 @@ use Rattle.std.specs.Prelude.{IsTrue, IfNone, IfSome, Option, Some, None, is_som
 use Rattle.std.specs.Option.{option_map, option_map_or}
 use Rattle.std.specs.List.{list_any}
 use Rattle.std.proofs.lemmas.Bool.{not-true, eqb-true}
-use Rattle.std.proofs.lemmas.List.{drop_more, take_more, drop_all, get_or_default}
+use Rattle.std.proofs.lemmas.List.{drop_more, take_more, drop_all}
 use Rattle.claim_table.specs.declared.claim.Claim.{Claim}
 use Rattle.claim_table.specs.declared.claim.By.{By}
 use Rattle.claim_table.specs.declared.claim.By.TheVariants.{Piece, Region, Suspended}
@@ -104,24 +104,12 @@ ready_none [] at end = refl
 ready_none (c ∷ all) zero end = absurd (omega arith)
 ready_none (c ∷ all) (suc at) end = ready_none all at (omega arith)
 
-pub ready_some : (all : List Claim) (at : ℕ) (x : Claim) → at < length all → x ≡ get_or all at x → option_map (λ (c : Claim). c.number) (slice_get all at) ≡ Some x.number
+pub ready_some : (all : List Claim) (at : ℕ) (x : Claim) → at < length all → x ≡ get_or all at no_claim → option_map (λ (c : Claim). c.number) (slice_get all at) ≡ Some x.number
 ready_some [] at x lt item = absurd (omega arith)
 ready_some (c ∷ all) zero x lt item = ap (λ (y : Claim). Some y.number) (sym item)
 ready_some (c ∷ all) (suc at) x lt item = ready_some all at x (omega arith) item
-
-pub ready_item : (all : List Claim) (at : ℕ) (x : Claim) → at < length all → x ≡ get_or all at x → get_or all at no_claim ≡ x
-ready_item all at x lt item = sym (item ∙ get_or_default all at x no_claim lt)
 
 -- whether a piece is answered something that it conflicts with is whether it isn't free
 pub blocked_is : (claims : Claims) (earlier : List Claim) (x : Claim) (o : Option By) (r : Bool) → IfNone o (IsTrue (is_free claims earlier x)) → IfSome o (λ by. IsTrue (conflicts claims earlier x by)) → r ≡ is_some o → r ≡ not (is_free claims earlier x)
 blocked_is claims earlier x None r none some is = is ∙ sym (ap not none)
 blocked_is claims earlier x (Some by) r none some is = is ∙ sym (ap not (conflict_blocks claims earlier x by some))
-
--- the same of the deferred piece at a place
-pub blocked_at : (claims : Claims) (all earlier : List Claim) (at : ℕ) (x : Claim) (o : Option By) (r : Bool) → all ≡ claims.deferred → earlier ≡ take at all → at < length claims.deferred → x ≡ get_or all at x
-    → IfNone o (IsTrue (is_free claims earlier x)) → IfSome o (λ by. IsTrue (conflicts claims earlier x by)) → r ≡ is_some o
-    → r ≡ not (is_free claims (take at claims.deferred) (get_or claims.deferred at no_claim))
-blocked_at claims all earlier at x o r same front lt item none some is =
-    let before : earlier ≡ take at claims.deferred = front ∙ ap (λ (l : List Claim). take at l) same in
-    let here : x ≡ get_or claims.deferred at no_claim = item ∙ ap (λ (l : List Claim). get_or l at x) same ∙ get_or_default claims.deferred at x no_claim lt in
-    blocked_is claims earlier x o r none some is ∙ ap (λ (l : List Claim). not (is_free claims l x)) before ∙ ap (λ (y : Claim). not (is_free claims (take at claims.deferred) y)) here
