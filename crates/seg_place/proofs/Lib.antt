@@ -1,0 +1,9 @@
+pub mod DecidingSegments
+pub mod Descending
+pub mod FoundSegments
+pub mod Halving
+pub mod MarkedVolumes
+pub mod OtherLegs
+pub mod Rows
+pub mod Spots
+pub mod Volumes

@@ -1,0 +1,81 @@
+//! Whether a volume is moving.
+ghost use Rattle.std.specs.Prelude.{◌≡◌, ◌≤◌, ◌||◌, ℕ, false, length};
+ghost use Rattle.meta_model.specs.Runs.{legs_of};
+ghost use Rattle.volume_rules.specs.Moving.{has_pvmove, leads_to_pvmove};
+ghost use Rattle.volume_rules.specs.Rules.{IsAccepted};
+ghost use Rattle.seg_place.specs.Marks.{is_above, is_marked, legs_on_marked, lies_on_marked, segments_on_marked};
+
+use meta_model::{Group, Leg, Lv, On, Segment};
+
+// A mark for each logical volume, as many as a group may have.
+type Marks = [bool; 1024];
+
+// Whether legs lead down from the volume to the PVMOVE volume. It goes over all legs five times, and over none where no
+// volume has PVMOVE.
+pub(crate) fn is_moving(group: &Group, lv: u32) -> bool
+    requires { IsAccepted group.now }
+    ensures { result ≡ leads_to_pvmove group.now 4 lv }
+{
+    if !has_move(group) {
+        return false;
+    }
+    let mut marks = [false; 1024];
+    for _round in 0..5u32 {
+        marks = marks_above(group, &marks);
+    }
+    lies_on_marked(On::Lv(lv), &marks)
+}
+
+// Whether a volume has PVMOVE.
+fn has_move(group: &Group) -> bool
+    ensures { result ≡ false → (lv : ℕ) → has_pvmove group.now lv ≡ false }
+{
+    for number in 0..group.lvs.len() {
+        let (_, volume) = group.lvs.get(number);
+        if volume.status.pvmove {
+            return true;
+        }
+    }
+    false
+}
+
+// The volumes that have PVMOVE or lie on a marked one.
+fn marks_above(group: &Group, marks: &Marks) -> Marks
+    requires { length group.now.lvs ≤ 1024 }
+    ensures { (lv : ℕ) → is_marked result lv ≡ is_above group.now marks.now lv }
+{
+    let mut above = [false; 1024];
+    for number in 0..group.lvs.len() {
+        let (_, volume) = group.lvs.get(number);
+        above[number] = is_above(volume, marks);
+    }
+    above
+}
+
+fn is_above(volume: &Lv, marks: &Marks) -> bool
+    ensures { result ≡ (volume.now.status.pvmove || segments_on_marked marks.now volume.now.segments) }
+{
+    volume.status.pvmove || segments_on_marked(volume.segments.as_slice(), marks)
+}
+
+// Whether a leg of one of the segments lies on a marked volume.
+fn segments_on_marked(segments: &[Segment], marks: &Marks) -> bool
+    ensures { result ≡ segments_on_marked marks.now segments.now }
+{
+    segments.iter().any(|segment| legs_on_marked(segment.kind.legs().as_slice(), marks))
+}
+
+fn legs_on_marked(legs: &[Leg], marks: &Marks) -> bool
+    ensures { result ≡ legs_on_marked marks.now legs.now }
+{
+    legs.iter().any(|leg| lies_on_marked(leg.on, marks))
+}
+
+fn lies_on_marked(on: On, marks: &Marks) -> bool
+    ensures { result ≡ lies_on_marked marks.now on }
+{
+    match on {
+        On::Pv(_) => false,
+        On::Lv(lv) => marks.get(lv as usize).copied().unwrap_or(false),
+    }
+}
