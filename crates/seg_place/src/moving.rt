@@ -1,6 +1,5 @@
 //! Whether a volume is moving.
 ghost use Rattle.std.specs.Prelude.{◌≡◌, ◌≤◌, ◌||◌, ℕ, false, length};
-ghost use Rattle.meta_model.specs.Runs.{legs_of};
 ghost use Rattle.volume_rules.specs.Moving.{has_pvmove, leads_to_pvmove};
 ghost use Rattle.volume_rules.specs.Rules.{IsAccepted};
 ghost use Rattle.seg_place.specs.Marks.{is_above, is_marked, legs_on_marked, lies_on_marked, segments_on_marked};
