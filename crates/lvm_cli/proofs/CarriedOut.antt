@@ -315,7 +315,7 @@ module _ (names : List Word) (command : Command) (id : Option (List ℕ)) (time 
         subst (λ (o : Outcome). Meets (changing command) context old o new) (sym goes.0)
         (subst (λ (s : State). Meets (changing command) context old (Ended (ending_of why)) s) (sym goes.1) (meets_fault done again why cause told))
     meets_on (Ok r) done new again record_is cause told images outcome goes =
-        let same : r ≡ repaired_of found = cause.repaired_xl in
+        let same : r ≡ repaired_of found = cause.now in
         let carried : IsCarriedOut (state_in (repaired_of found) names) here time done outcome new = subst (λ (f : Found). IsCarriedOut (state_in f names) here time done outcome new) same goes in
         meets_carried done new again (subst (IsRepaired found mid done) same cause) told (images tt) carried.again record_is outcome carried
 

@@ -44,8 +44,8 @@ returns-in-Ok g c =
 
 pub change_found-requires-clause-count : goal.change_found-requires-clause-count
 change_found-requires-clause-count g c =
-    c.requires.count ∙ sym (repaired_count c.args.whole) ∙ ap (λ (f : Found). length f.disks) (sym (c.into_found.ensures.found ∙ c.in-Ok.ensures.cause.repaired_xl))
+    c.requires.count ∙ sym (repaired_count c.args.whole) ∙ ap (λ (f : Found). length f.disks) (sym (c.into_found.ensures.found ∙ c.in-Ok.ensures.cause.now))
 
 pub change_found-requires-clause-sizes : goal.change_found-requires-clause-sizes
 change_found-requires-clause-sizes g c =
-    c.in-Ok.ensures.again.sizes ∙ c.requires.sizes ∙ sym (repaired_sizes c.args.whole) ∙ ap (λ (f : Found). sizes_of f.disks) (sym (c.into_found.ensures.found ∙ c.in-Ok.ensures.cause.repaired_xl))
+    c.in-Ok.ensures.again.sizes ∙ c.requires.sizes ∙ sym (repaired_sizes c.args.whole) ∙ ap (λ (f : Found). sizes_of f.disks) (sym (c.into_found.ensures.found ∙ c.in-Ok.ensures.cause.now))
