@@ -90,7 +90,6 @@ module _ (no_group : (image : Image) → image 0 0 ≡ old_header → FindsVersi
 
   done : DoneLaw (origin_of told) (Some version_1)
   done = record {
-    told = omega arith;
     after = λ image is. one_group image (flushed image is);
     found = finds_with (99 ∷ []) (now_at (origin_of told) 4) none_out (left_out (origin_of told) [] 4) (Some version_1) (λ pv. refl) (one_group (now_at (origin_of told) 4) refl);
   }
