@@ -1,2 +1,4 @@
 pub mod Orderly
+pub mod Flights
+pub mod Stable
 pub mod Rows

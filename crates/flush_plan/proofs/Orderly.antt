@@ -24,7 +24,7 @@ pub orderly_by_reserve : (plan : Plan) (spare : ℕ) → IsOrderly plan → IsOr
 orderly_by_reserve plan spare o = record { last = o.last; marks = o.marks; flushes = o.flushes }
 
 -- the marks of any disk are within
-marks_within : (plan : Plan) → IsOrderly plan → (pv : ℕ) → IsWithin plan.held (marks_of plan pv)
+pub marks_within : (plan : Plan) → IsOrderly plan → (pv : ℕ) → IsWithin plan.held (marks_of plan pv)
 marks_within plan o pv =
     elim (nat_lt pv (length plan.marks)) as (λ b. nat_lt pv (length plan.marks) ≡ b → IsWithin plan.held (marks_of plan pv)) [
       | true ↦ λ t. o.marks pv no_marks (ltb-true _ _ t)

@@ -9,10 +9,12 @@
 //! `wants`, `flushed` and `lost` take longer with more flushes in flight.
 #![tactic(auto)]
 
+mod laws;
 mod plan;
 mod records;
 #[cfg(test)]
 mod tests;
 
+pub use laws::stable_is_flushed_after;
 pub use plan::FlushPlan;
 pub use records::{Flush, Marks, Write};

@@ -1,0 +1,8 @@
+//! What holds after every history of a plan: the function does nothing, and its clause is proved.
+ghost use Rattle.flush_plan.specs.History.{StableIsFlushedAfter};
+
+/// After any events, from a new plan on, `stable` is true exactly where a write of that number on that disk is held and a
+/// flush that was submitted after the completion of the last of them has completed well, by the list of the events alone.
+pub fn stable_is_flushed_after()
+    ensures { StableIsFlushedAfter }
+{}
