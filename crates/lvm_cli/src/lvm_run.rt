@@ -15,7 +15,6 @@ use crate::commands::pvck::run_pvck;
 use crate::commands::scan_report::{ScanReport, run_scan_report};
 use crate::commands::vgcfgbackup::run_vgcfgbackup;
 use crate::ending::Ending;
-use crate::gate::Gate;
 use crate::outcome::Outcome;
 use disk_model::Shelf;
 use lvm_id::Words64;
@@ -24,6 +23,7 @@ use lvm_words::{Asked, Task, WordsRefusal, read_words};
 use std::alloc::Global;
 use std::sync::Wait;
 use std::thread::Threads;
+use table_lock::Gate;
 
 /// How a run ended: its exit status, and the disks.
 #[derive(Drop)]

@@ -13,7 +13,6 @@ mod built;
 mod changing;
 mod commands;
 mod ending;
-mod gate;
 mod lvm_run;
 mod opening;
 mod outcome;
@@ -27,7 +26,6 @@ mod usage;
 
 use arguments::arguments;
 use file_shelf::{StdSink, StdSource};
-use gate::OpenGate;
 use lvm_run::lvm_run;
 use lvm_script::DiskNames;
 use lvm_words::{WordsRefusal, disk_names};
@@ -36,6 +34,7 @@ use startup::{NO_MEMORY, NOT_TO_BE_HAD, WORDS_REFUSED, open_disks, say_fault};
 use std::alloc::{AllocError, Global};
 use std::io::Eprint;
 use std::process::ExitCode;
+use table_lock::OpenGate;
 use usage::usage_text;
 
 fn main(rt: HostRuntime) -> ExitCode {

@@ -4,7 +4,6 @@ ghost use Rattle.lvm_script.specs.Options.{Word, words_of};
 ghost use Rattle.lvm_words.specs.Disks.{disks_named};
 ghost use Rattle.lvm_cli.specs.Disks.{AreDisks};
 
-use crate::gate::{Gate, OpenGate};
 use crate::lvm_run::{Ended, lvm_run};
 use dev_shelf::{Fail as Failure, Images, MemShelf, Shelf, ShelfPlan};
 use lvm_id::MemWords;
@@ -16,6 +15,7 @@ use std::process::Abort;
 use std::sync::Wait;
 use std::test::Fail;
 use std::thread::Threads;
+use table_lock::OpenGate;
 
 mod backups;
 mod groups;
@@ -382,9 +382,4 @@ fn a_failed_sink_gives_its_status(rt: HostRuntime) -> Result<(), Fail> {
         assert_eq!(rt; out.bytes(), text);
     }
     Ok(())
-}
-
-#[test]
-fn an_open_gate_holds_nobody_up() {
-    OpenGate.pass(0, 0);
 }
