@@ -115,7 +115,7 @@ fn answers<T: Threads + Wait + Sync + Abort>(
     Ok(ended.shelf)
 }
 
-// Runs these one after another, each on what the one before left.
+// Runs these one after another on blank disks, each on what the one before left.
 fn run_rows<T: Threads + Wait + Sync + Abort>(
     rt: &T,
     alloc: Global,
@@ -123,7 +123,20 @@ fn run_rows<T: Threads + Wait + Sync + Abort>(
 ) -> Result<MemShelf, Fail>
     ensures { IfOk result (λ shelf. AreDisks 3 (⟦<MemShelf as Shelf>⟧.state shelf)) }
 {
-    let mut shelf = blank(alloc)?;
+    run_rows_on(rt, alloc, blank(alloc)?, rows)
+}
+
+// Runs these one after another on the disks, each on what the one before left.
+fn run_rows_on<T: Threads + Wait + Sync + Abort>(
+    rt: &T,
+    alloc: Global,
+    disks: MemShelf,
+    rows: &[(&[&str], u64, &str, u8)],
+) -> Result<MemShelf, Fail>
+    requires { AreDisks 3 (⟦<MemShelf as Shelf>⟧.state disks) }
+    ensures { IfOk result (λ shelf. AreDisks 3 (⟦<MemShelf as Shelf>⟧.state shelf)) }
+{
+    let mut shelf = disks;
     for (words, id, printed, status) in rows {
         let left = answers(rt, alloc, shelf, words, *id, printed, *status)?;
         let moments = left.moments();

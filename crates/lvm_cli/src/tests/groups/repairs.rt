@@ -4,7 +4,7 @@ ghost use Rattle.lvm_cli.specs.Disks.{AreDisks};
 
 use super::{
     PVCREATE_A, PVCREATE_B, PVCREATE_C, VGCREATE, answers, reopened, run_on_three, run_rows,
-    shelf_of,
+    run_rows_on, shelf_of,
 };
 use dev_shelf::{Fail as Failure, MemShelf, Shelf};
 use lvm_script::MemSink;
@@ -80,16 +80,17 @@ fn is_repaired<T: Threads + Wait + Sync + Abort>(
         found.bytes() == "stale a\n".as_bytes() || found.bytes() == "stale b\n".as_bytes(),
         "{moment}, {choice}"
     );
-    let mut shelf = closed(rt, alloc, &shelf, Vec::new(alloc))?;
-    let rows: [(&[&str], &str); 3] = [
-        (PVCREATE_C, "1: ok\n"),
-        (&["vgck"], "ok\n"),
-        (&["vgs"], OF_BOTH),
-    ];
-    for (words, printed) in rows {
-        let left = answers(rt, alloc, shelf, words, 3, printed, 0)?;
-        shelf = closed(rt, alloc, &left, Vec::new(alloc))?;
-    }
+    let shelf = closed(rt, alloc, &shelf, Vec::new(alloc))?;
+    run_rows_on(
+        rt,
+        alloc,
+        shelf,
+        &[
+            (PVCREATE_C, 3, "1: ok\n", 0),
+            (&["vgck"], 3, "ok\n", 0),
+            (&["vgs"], 3, OF_BOTH, 0),
+        ],
+    )?;
     Ok(true)
 }
 
@@ -101,7 +102,7 @@ fn what_a_stop_leaves_stale_is_repaired(rt: HostRuntime) -> Result<(), Fail> {
     for moment in 0..=left.moments() {
         for choice in [0x5555, 0xaaaa] {
             if is_repaired(&rt, alloc, &left, moment, choice)? {
-                stale += 1;
+                stale = stale.saturating_add(1);
             }
         }
     }
@@ -164,7 +165,7 @@ fn a_repair_that_fails_says_so(rt: HostRuntime) -> Result<(), Fail> {
             let (said, status, left) = prints(&rt, alloc, shelf, PVCREATE_C)?;
             assert_eq!(&rt; status, 6, "{tag}, {fresh}");
             if said.bytes() == "repair failed b\n".as_bytes() {
-                failed += 1;
+                failed = failed.saturating_add(1);
             }
             let shelf = closed(&rt, alloc, &left, Vec::new(alloc))?;
             answers(&rt, alloc, shelf, &["vgs"], 0, OF_BOTH, 0)?;
@@ -206,24 +207,26 @@ fn with_stray<T: Threads + Wait + Sync + Abort>(rt: &T, alloc: Global) -> Result
 #[test]
 fn a_stray_is_cleared_and_can_be_taken(rt: HostRuntime) -> Result<(), Fail> {
     let alloc = rt.alloc();
-    let mut shelf = with_stray(&rt, alloc)?;
-    let rows: [(&[&str], &str, u8); 6] = [
-        (&["vgck"], "stray b\n", 0),
-        (&["vgs"], OF_ONE_AND_LAST, 0),
-        // The line is refused once b is cleared.
-        (
-            &["vgextend", "vg1", "b"],
-            "1: refused UnknownGroup vg1\n",
-            5,
-        ),
-        (&["vgck"], "ok\n", 0),
-        (&["vgextend", "vg0", "b"], "1: ok\n", 0),
-        (&["vgck"], "ok\n", 0),
-    ];
-    for (words, printed, status) in rows {
-        let left = answers(&rt, alloc, shelf, words, 0, printed, status)?;
-        shelf = closed(&rt, alloc, &left, Vec::new(alloc))?;
-    }
+    let shelf = with_stray(&rt, alloc)?;
+    run_rows_on(
+        &rt,
+        alloc,
+        shelf,
+        &[
+            (&["vgck"], 0, "stray b\n", 0),
+            (&["vgs"], 0, OF_ONE_AND_LAST, 0),
+            // The line is refused once b is cleared.
+            (
+                &["vgextend", "vg1", "b"],
+                0,
+                "1: refused UnknownGroup vg1\n",
+                5,
+            ),
+            (&["vgck"], 0, "ok\n", 0),
+            (&["vgextend", "vg0", "b"], 0, "1: ok\n", 0),
+            (&["vgck"], 0, "ok\n", 0),
+        ],
+    )?;
     Ok(())
 }
 
