@@ -2,84 +2,86 @@
 use Rattle.std.proofs.Common.{◌≡◌, ◌⊎◌, ℕ, Bool, true, false, ◌&&◌, ◌||◌, cond, List, [], ◌∷◌, map, Option, Some, None, inl, inr, ⊎_elim, refl, sym, ap, subst, ◌∙◌}
 use Rattle.std.specs.Prelude.{filter, filter_map, option_map, unwrap_or}
 use Rattle.std.specs.List.{AllByRecursion, cons_option, list_any}
-use Rattle.std.proofs.lemmas.Bool.{or_left, or_right}
+use Rattle.std.proofs.lemmas.Bool.{or_left, or_right, false≢true}
 use Rattle.std.proofs.lemmas.Option.{same_Some}
 use Rattle.meta_model.specs.declared.group.Group.{Group}
 use Rattle.meta_model.specs.declared.pv.Pv.{Pv}
-use Rattle.scan_rules.specs.Decision.{Area, AreaReading, Conflict, Copy, DuplicatePv, Found, FoundGroup, GivesNoLater, HasShape, Held, NoCopy, NoGroup, PvShape, Reading, SameAreas, SameHeaders, SamePv, ScanAnswer, TwoGroups, Unsupported, decide_scan, gives, group_found, has_id, holds, is_held, is_listed, lists, same_bytes}
+use Rattle.scan_rules.specs.Decision.{Area, AreaReading, Conflict, Copy, DuplicatePv, Found, FoundGroup, GivesNoLater, HasShape, Held, HoldsNone, NoCopy, NoGroup, PvShape, Reading, SameAreas, SameHeaders, SamePv, ScanAnswer, TwoGroups, Unsupported, decide_scan, gives, group_found, has_id, holds, is_held, is_listed, lists, same_bytes}
 use Rattle.scan_rules.specs.Found.{is_missing, missing_of}
 use Rattle.scan_rules.proofs.Scanning.{same_bytes_to, scan_finds}
 use Rattle.image_scans.proofs.Given.{AreasGive, DisksGive, GivenHas, PvGives, each_given}
 
--- an area that isn't ignored gives what it gave, or this, where that is allowed
-abbrev pub GivesAgain : AreaReading → Bool → Option AreaReading → Option AreaReading → Type 0
-GivesAgain new may None after = after ≡ None
-GivesAgain new may (Some r) after = (after ≡ Some r) ⊎ ((after ≡ Some new) × (may ≡ true))
+-- an area that isn't ignored gives what it gave, or this or nothing, where that is allowed
+abbrev pub GivesAgain : AreaReading → Bool → (AreaReading → Bool) → Option AreaReading → Option AreaReading → Type 0
+GivesAgain new may bare None after = after ≡ None
+GivesAgain new may bare (Some r) after = (after ≡ Some r) ⊎ (((after ≡ Some new) × (may ≡ true)) ⊎ ((after ≡ Some HoldsNone) × (bare r ≡ true)))
 
 -- areas in their order
-abbrev pub AreasAgain : AreaReading → Bool → List Area → List Area → Type 0
-AreasAgain new may [] [] = Unit {0}
-AreasAgain new may [] (b ∷ bs) = ⊥
-AreasAgain new may (a ∷ as') [] = ⊥
-AreasAgain new may (a ∷ as') (b ∷ bs) = (a.start ≡ b.start) × (a.sectors ≡ b.sectors) × GivesAgain new may a.reading b.reading × AreasAgain new may as' bs
+abbrev pub AreasAgain : AreaReading → Bool → (AreaReading → Bool) → List Area → List Area → Type 0
+AreasAgain new may bare [] [] = Unit {0}
+AreasAgain new may bare [] (b ∷ bs) = ⊥
+AreasAgain new may bare (a ∷ as') [] = ⊥
+AreasAgain new may bare (a ∷ as') (b ∷ bs) = (a.start ≡ b.start) × (a.sectors ≡ b.sectors) × GivesAgain new may bare a.reading b.reading × AreasAgain new may bare as' bs
 
--- a physical volume that the group lists may give the new copy
-abbrev pub PvAgain : Group → AreaReading → Option Found → Option Found → Type 0
-PvAgain group new None None = Unit {0}
-PvAgain group new None (Some b) = ⊥
-PvAgain group new (Some a) None = ⊥
-PvAgain group new (Some a) (Some b) = (a.id ≡ b.id) × AreasAgain new (lists group a.id) a.areas b.areas
+-- which physical volumes may give the new copy is told by their ids
+abbrev pub PvAgain : (List ℕ → Bool) → (List ℕ → AreaReading → Bool) → AreaReading → Option Found → Option Found → Type 0
+PvAgain may bare new None None = Unit {0}
+PvAgain may bare new None (Some b) = ⊥
+PvAgain may bare new (Some a) None = ⊥
+PvAgain may bare new (Some a) (Some b) = (a.id ≡ b.id) × AreasAgain new (may a.id) (bare a.id) a.areas b.areas
 
-abbrev pub DisksAgain : Group → AreaReading → List Reading → List Reading → Type 0
-DisksAgain group new [] [] = Unit {0}
-DisksAgain group new [] (b ∷ bs) = ⊥
-DisksAgain group new (a ∷ as') [] = ⊥
-DisksAgain group new (a ∷ as') (b ∷ bs) = (a.sectors ≡ b.sectors) × PvAgain group new a.pv b.pv × DisksAgain group new as' bs
+abbrev pub DisksAgain : (List ℕ → Bool) → (List ℕ → AreaReading → Bool) → AreaReading → List Reading → List Reading → Type 0
+DisksAgain may bare new [] [] = Unit {0}
+DisksAgain may bare new [] (b ∷ bs) = ⊥
+DisksAgain may bare new (a ∷ as') [] = ⊥
+DisksAgain may bare new (a ∷ as') (b ∷ bs) = (a.sectors ≡ b.sectors) × PvAgain may bare new a.pv b.pv × DisksAgain may bare new as' bs
 
 -- ---- their headers are the same
 
-areas_places : (new : AreaReading) (may : Bool) (as' bs : List Area) → AreasAgain new may as' bs → SameAreas as' bs
-areas_places new may [] [] again = tt
-areas_places new may [] (b ∷ bs) again = absurd again
-areas_places new may (a ∷ as') [] again = absurd again
-areas_places new may (a ∷ as') (b ∷ bs) again = (again.0, again.1, areas_places new may as' bs again.3)
+areas_places : (new : AreaReading) (may : Bool) (bare : AreaReading → Bool) (as' bs : List Area) → AreasAgain new may bare as' bs → SameAreas as' bs
+areas_places new may bare [] [] again = tt
+areas_places new may bare [] (b ∷ bs) again = absurd again
+areas_places new may bare (a ∷ as') [] again = absurd again
+areas_places new may bare (a ∷ as') (b ∷ bs) again = (again.0, again.1, areas_places new may bare as' bs again.3)
 
-pv_places : (group : Group) (new : AreaReading) (a b : Option Found) → PvAgain group new a b → SamePv a b
-pv_places group new None None again = tt
-pv_places group new None (Some b) again = absurd again
-pv_places group new (Some a) None again = absurd again
-pv_places group new (Some a) (Some b) again = (again.0, areas_places new (lists group a.id) a.areas b.areas again.1)
+pv_places : (may : List ℕ → Bool) (bare : List ℕ → AreaReading → Bool) (new : AreaReading) (a b : Option Found) → PvAgain may bare new a b → SamePv a b
+pv_places may bare new None None again = tt
+pv_places may bare new None (Some b) again = absurd again
+pv_places may bare new (Some a) None again = absurd again
+pv_places may bare new (Some a) (Some b) again = (again.0, areas_places new (may a.id) (bare a.id) a.areas b.areas again.1)
 
-pub again_headers : (group : Group) (new : AreaReading) (as' bs : List Reading) → DisksAgain group new as' bs → SameHeaders as' bs
-again_headers group new [] [] again = tt
-again_headers group new [] (b ∷ bs) again = absurd again
-again_headers group new (a ∷ as') [] again = absurd again
-again_headers group new (a ∷ as') (b ∷ bs) again = (again.0, pv_places group new a.pv b.pv again.1, again_headers group new as' bs again.2)
+pub again_headers : (may : List ℕ → Bool) (bare : List ℕ → AreaReading → Bool) (new : AreaReading) (as' bs : List Reading) → DisksAgain may bare new as' bs → SameHeaders as' bs
+again_headers may bare new [] [] again = tt
+again_headers may bare new [] (b ∷ bs) again = absurd again
+again_headers may bare new (a ∷ as') [] again = absurd again
+again_headers may bare new (a ∷ as') (b ∷ bs) again = (again.0, pv_places may bare new a.pv b.pv again.1, again_headers may bare new as' bs again.2)
 
 -- ---- what they give
 
-given_again : (P : AreaReading → Type 0) (new : AreaReading) (may : Bool) → P new → (a b : Option AreaReading) → GivesAgain new may a b → GivenHas P a → GivenHas P b
-given_again P new may is None b again has = subst (GivenHas P) (sym again) tt
-given_again P new may is (Some r) b (inl same) has = subst (GivenHas P) (sym same) has
-given_again P new may is (Some r) b (inr made) has = subst (GivenHas P) (sym made.0) is
+module _ (P : AreaReading → Type 0) (new : AreaReading) (is_new : P new) (is_none : P HoldsNone) where
+  given_again : (may : Bool) (bare : AreaReading → Bool) (a b : Option AreaReading) → GivesAgain new may bare a b → GivenHas P a → GivenHas P b
+  given_again may bare None b again has = subst (GivenHas P) (sym again) tt
+  given_again may bare (Some r) b (inl same) has = subst (GivenHas P) (sym same) has
+  given_again may bare (Some r) b (inr (inl made)) has = subst (GivenHas P) (sym made.0) is_new
+  given_again may bare (Some r) b (inr (inr none)) has = subst (GivenHas P) (sym none.0) is_none
 
-areas_again : (P : AreaReading → Type 0) (new : AreaReading) (may : Bool) → P new → (as' bs : List Area) → AreasAgain new may as' bs → AreasGive P as' → AreasGive P bs
-areas_again P new may is [] [] again all = tt
-areas_again P new may is [] (b ∷ bs) again all = absurd again
-areas_again P new may is (a ∷ as') [] again all = absurd again
-areas_again P new may is (a ∷ as') (b ∷ bs) again all = (given_again P new may is a.reading b.reading again.2 all.0, areas_again P new may is as' bs again.3 all.1)
+  areas_again : (may : Bool) (bare : AreaReading → Bool) (as' bs : List Area) → AreasAgain new may bare as' bs → AreasGive P as' → AreasGive P bs
+  areas_again may bare [] [] again all = tt
+  areas_again may bare [] (b ∷ bs) again all = absurd again
+  areas_again may bare (a ∷ as') [] again all = absurd again
+  areas_again may bare (a ∷ as') (b ∷ bs) again all = (given_again may bare a.reading b.reading again.2 all.0, areas_again may bare as' bs again.3 all.1)
 
-pv_again : (P : AreaReading → Type 0) (group : Group) (new : AreaReading) → P new → (a b : Option Found) → PvAgain group new a b → PvGives P a → PvGives P b
-pv_again P group new is None None again all = tt
-pv_again P group new is None (Some b) again all = absurd again
-pv_again P group new is (Some a) None again all = absurd again
-pv_again P group new is (Some a) (Some b) again all = areas_again P new (lists group a.id) is a.areas b.areas again.1 all
+  pv_again : (may : List ℕ → Bool) (bare : List ℕ → AreaReading → Bool) (a b : Option Found) → PvAgain may bare new a b → PvGives P a → PvGives P b
+  pv_again may bare None None again all = tt
+  pv_again may bare None (Some b) again all = absurd again
+  pv_again may bare (Some a) None again all = absurd again
+  pv_again may bare (Some a) (Some b) again all = areas_again (may a.id) (bare a.id) a.areas b.areas again.1 all
 
-pub again_give : (P : AreaReading → Type 0) (group : Group) (new : AreaReading) → P new → (as' bs : List Reading) → DisksAgain group new as' bs → DisksGive (λ disk. P) as' → DisksGive (λ disk. P) bs
-again_give P group new is [] [] again all = tt
-again_give P group new is [] (b ∷ bs) again all = absurd again
-again_give P group new is (a ∷ as') [] again all = absurd again
-again_give P group new is (a ∷ as') (b ∷ bs) again all = (pv_again P group new is a.pv b.pv again.1 all.0, again_give P group new is as' bs again.2 all.1)
+  pub again_give : (may : List ℕ → Bool) (bare : List ℕ → AreaReading → Bool) (as' bs : List Reading) → DisksAgain may bare new as' bs → DisksGive (λ disk. P) as' → DisksGive (λ disk. P) bs
+  again_give may bare [] [] again all = tt
+  again_give may bare [] (b ∷ bs) again all = absurd again
+  again_give may bare (a ∷ as') [] again all = absurd again
+  again_give may bare (a ∷ as') (b ∷ bs) again all = (pv_again may bare a.pv b.pv again.1 all.0, again_give may bare as' bs again.2 all.1)
 
 -- ---- a listed disk gives the new copy, or they read as they did
 
@@ -100,12 +102,13 @@ module _ (group : Group) (text : List ℕ) (passed : List (List ℕ)) where
   any_first : (o : Option AreaReading) (rest : List AreaReading) → o ≡ Some new → list_any (gives text) (cons_option o rest) ≡ true
   any_first o rest is = ap (λ x. list_any (gives text) (cons_option x rest)) is ∙ or_left (gives text new) (list_any (gives text) rest) gives_new
 
-  one_new : (may : Bool) (a b : Option AreaReading) → GivesAgain new may a b → ((may ≡ true) × (b ≡ Some new)) ⊎ (b ≡ a)
+  one_new : (may : Bool) (a b : Option AreaReading) → GivesAgain new may (λ r. false) a b → ((may ≡ true) × (b ≡ Some new)) ⊎ (b ≡ a)
   one_new may None b again = inr again
   one_new may (Some r) b (inl same) = inr same
-  one_new may (Some r) b (inr made) = inl (made.1, made.0)
+  one_new may (Some r) b (inr (inl made)) = inl (made.1, made.0)
+  one_new may (Some r) b (inr (inr none)) = absurd (false≢true none.1)
 
-  areas_new : (may : Bool) (as' bs : List Area) → AreasAgain new may as' bs → HasIt may bs ⊎ (bs ≡ as')
+  areas_new : (may : Bool) (as' bs : List Area) → AreasAgain new may (λ r. false) as' bs → HasIt may bs ⊎ (bs ≡ as')
   areas_new may [] [] again = inr refl
   areas_new may [] (b ∷ bs) again = absurd again
   areas_new may (a ∷ as') [] again = absurd again
@@ -120,7 +123,7 @@ module _ (group : Group) (text : List ℕ) (passed : List (List ℕ)) where
       (areas_new may as' bs again.3))
       (one_new may a.reading b.reading again.2)
 
-  pv_new : (a b : Option Found) → PvAgain group new a b → (s : ℕ) → ((is_listed group (record { sectors = s; pv = b }) && holds text (record { sectors = s; pv = b })) ≡ true) ⊎ (b ≡ a)
+  pv_new : (a b : Option Found) → PvAgain (lists group) (λ id r. false) new a b → (s : ℕ) → ((is_listed group (record { sectors = s; pv = b }) && holds text (record { sectors = s; pv = b })) ≡ true) ⊎ (b ≡ a)
   pv_new None None again s = inr refl
   pv_new None (Some b) again s = absurd again
   pv_new (Some a) None again s = absurd again
@@ -130,7 +133,7 @@ module _ (group : Group) (text : List ℕ) (passed : List (List ℕ)) where
       (λ same. inr (λ i. Some (record { id = sym again.0 i; areas = same i })))
       (areas_new (lists group a.id) a.areas b.areas again.1)
 
-  pub held_or_same : (as' bs : List Reading) → DisksAgain group new as' bs → (is_held group text bs ≡ true) ⊎ (bs ≡ as')
+  pub held_or_same : (as' bs : List Reading) → DisksAgain (lists group) (λ id r. false) new as' bs → (is_held group text bs ≡ true) ⊎ (bs ≡ as')
   held_or_same [] [] again = inr refl
   held_or_same [] (b ∷ bs) again = absurd again
   held_or_same (a ∷ as') [] again = absurd again

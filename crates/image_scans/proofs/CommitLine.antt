@@ -1,5 +1,5 @@
 -- A line that commits a group: what is found on its way, and once all is written.
-use Rattle.std.proofs.Common.{◌≡◌, ◌<◌, ◌⊎◌, ℕ, ◌+◌, ◌^◌, true, List, [], ◌++◌, length, get_or, map, Option, Some, None, inl, sym, ap, subst, arith}
+use Rattle.std.proofs.Common.{◌≡◌, ◌<◌, ◌⊎◌, ℕ, ◌+◌, ◌^◌, true, List, [], ◌++◌, length, get_or, map, Option, Some, None, inl, sym, ap, subst, arith, false}
 use Rattle.std.specs.Prelude.{All}
 use Rattle.std.proofs.lemmas.List.{take_all}
 use Rattle.std.proofs.lemmas.List.Elements.{All-filter, filter_passes}
@@ -11,7 +11,7 @@ use Rattle.mda_header.specs.declared.header.Locn.{Locn}
 use Rattle.mda_ring.specs.declared.area.Area.{Area}
 use Rattle.meta_model.specs.declared.group.Group.{Group}
 use Rattle.meta_print.specs.Layout.{tree_of}
-use Rattle.scan_rules.specs.Decision.{AreaReading, Copy, SameHeaders, first_misplaced, is_held}
+use Rattle.scan_rules.specs.Decision.{AreaReading, Copy, SameHeaders, first_misplaced, is_held, lists}
 use Rattle.vg_commit.specs.SectorReading.{ShowsBy, new_reading}
 use Rattle.vg_found.specs.declared.found.Found.{Found}
 use Rattle.vg_found.specs.Disks.{shapes}
@@ -39,7 +39,7 @@ use Rattle.image_scans.proofs.BaseEntries.{entries_shown}
 use Rattle.image_scans.proofs.CommitOnTheWay.{each_again}
 use Rattle.image_scans.proofs.CommitScans.{IsNext, either_found, new_found}
 use Rattle.image_scans.proofs.CommitWrites.{no_area}
-use Rattle.image_scans.proofs.DiskAgain.{AllAgain, DiskAgain, all_again}
+use Rattle.image_scans.proofs.DiskAgain.{AllAgain, DiskAgain, all_again, none_refused}
 use Rattle.image_scans.proofs.FoundAreas.{IsHeldOn, all_held}
 use Rattle.image_scans.proofs.HeldText.{text_held}
 use Rattle.image_scans.proofs.MadeGroup.{IsListedOn, MakesGroup}
@@ -113,15 +113,15 @@ module _ (base : Image) (sizes : List ℕ) (found : Found) (names : List (List �
       kept : All (IsKeptOrNew text base image) state.areas
       kept = subst (λ (g : Option Group). AreasKeptBy g now change state.areas base image) makes.made (p.keeps.kept base image shown h).areas
 
-      again : AllAgain image found.unread 0 group new found.disks p.scan.readings
+      again : AllAgain image found.unread 0 (lists group) (λ id r. false) new found.disks p.scan.readings
       again =
-          all_again base image found.unread 0 group new found.disks p.scan.readings p.scan.are.each
+          all_again base image found.unread 0 (lists group) (λ id r. false) new found.disks p.scan.readings p.scan.are.each
           (λ k disk reading at_disk at_reading is.
           let zero_less : 0 + k ≡ k = omega arith in
-          subst (λ (n : ℕ). DiskAgain n (image n) group new disk reading) (sym zero_less)
+          subst (λ (n : ℕ). DiskAgain n (image n) (lists group) (λ id r. false) new disk reading) (sym zero_less)
           (each_again state is_state change group makes text fits can.labels lies.differ base ends image front [] copy kept k disk reading at_disk
           (subst (λ (n : ℕ). IsDiskReading n (base n) disk reading) zero_less is)
-          (gives_at NotRefused p.scan.readings k reading (settled_read p.scan.readings found settled) at_reading)))
+          (none_refused (λ id r. false) reading.pv (gives_at NotRefused p.scan.readings k reading (settled_read p.scan.readings found settled) at_reading))))
 
       pub on_the_way : FindsVersion sizes image none_out (version_in found) ⊎ FindsVersion sizes image none_out (Some (version_of group change))
       on_the_way =
@@ -131,7 +131,7 @@ module _ (base : Image) (sizes : List ℕ) (found : Found) (names : List (List �
       with_text shows =
           let held : is_held group text again.read ≡ true =
           text_held image group text found.disks again.there again.read again.at
-          (again_give NotRefused group new tt p.scan.readings again.read again.again (settled_read p.scan.readings found settled)) (get_or own 0 no_area)
+          (again_give NotRefused new tt tt (lists group) (λ id r. false) p.scan.readings again.read again.again (settled_read p.scan.readings found settled)) (get_or own 0 no_area)
           (All-filter (is_on (set_of change.disk_of)) (IsHeldOn state.disks) state.areas (subst (All (IsHeldOn state.disks)) (sym is_state.areas) (all_held state.disks is_state.disks)) 0 no_area fits.committed.some)
           (of_set (IsListedOn group state.disks) change.disk_of makes.listed (get_or own 0 no_area).0.pv (filter_passes (is_on (set_of change.disk_of)) state.areas 0 no_area fits.committed.some))
           (shows 0 no_area fits.committed.some)

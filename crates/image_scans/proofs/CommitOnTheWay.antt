@@ -12,7 +12,6 @@ use Rattle.disk_batch.specs.InTurn.{HasFirstBatches, Put, with_batches}
 use Rattle.disk_batch.specs.Writes.{IsWrittenBy}
 use Rattle.disk_batch.proofs.InTurn.{batches_append}
 use Rattle.mda_header.specs.declared.header.Locn.{Locn}
-use Rattle.mda_header.specs.HeaderBytes.{header_bytes}
 use Rattle.mda_ring.specs.declared.area.Area.{Area}
 use Rattle.mda_ring.specs.Ring.{need, room}
 use Rattle.meta_model.specs.declared.group.Group.{Group}
@@ -24,7 +23,7 @@ use Rattle.disk_contents.specs.declared.contents.PvFound.{PvFound}
 use Rattle.disk_contents.specs.declared.contents.PvFound.TheVariants.{NoLabel, NoHeader, Whole}
 use Rattle.disk_contents.specs.Standing.{area_on}
 use Rattle.scan_rules.specs.Decision.{AreaReading, Copy, Reading, lists}
-use Rattle.vg_commit.specs.Written.{area_writes, header_after, header_before, headers_of, publish_of, texts_of}
+use Rattle.vg_commit.specs.Written.{area_writes, headers_of, publish_of, texts_of}
 use Rattle.vg_commit.proofs.AreasCommit.{rooms}
 use Rattle.vg_found.specs.declared.disk.Disk.{Disk}
 use Rattle.vg_found.specs.Disks.{areas_on, held_area, header_on}
@@ -47,14 +46,14 @@ use Rattle.vg_change.proofs.DiskSets.{of_set}
 use Rattle.vg_change.proofs.FarAreas.{IsFar, areas_far}
 use Rattle.vg_change.proofs.LabelPuts.{AreApart, label_where, labels_there, with_if}
 use Rattle.vg_change.proofs.LabelsRead.{label_read}
-use Rattle.image_scans.proofs.AreaAgain.{HasHeader, IsOnTheWay, NotRefused}
+use Rattle.image_scans.proofs.AreaAgain.{HasHeader, IsKnown, IsOnTheWay}
 use Rattle.image_scans.proofs.CommitWrites.{IsAreaWrite, commit_writes, no_area}
-use Rattle.image_scans.proofs.DiskAgain.{DiskAgain, IsKnown, LabelStands, disk_again, disk_same}
-use Rattle.image_scans.proofs.FoundAreas.{IsHeldOn, IsPlaced, LieBeside, all_held, areas_placed, entry_kept, of_held}
+use Rattle.image_scans.proofs.DiskAgain.{DiskAgain, LabelStands, PvMayBeRefused, disk_again, disk_same}
+use Rattle.image_scans.proofs.FoundAreas.{IsHeldOn, IsPlaced, all_held, areas_placed, entry_kept, of_held}
 use Rattle.image_scans.proofs.Front.{AnyWrites, any_append, any_if, batches_or, front_or}
-use Rattle.image_scans.proofs.Given.{PvGives}
 use Rattle.image_scans.proofs.Labels.{IsSameHeader}
 use Rattle.image_scans.proofs.MadeGroup.{IsAddedOn, IsListedOn, MakesGroup}
+use Rattle.image_scans.proofs.MetAreas.{header_met}
 
 -- ---- lists
 
@@ -261,35 +260,6 @@ module _ (state : GroupState) (is_state : IsState state) (change : Change) (grou
             (front_or batches base image pv label h);
       }
 
-      -- an area of the list, and one of the group that has its header sector
-      met_area : (k : ℕ) (d : AreaFound) → k < length areas → (value : List ℕ) → (w : IsAreaWrite text own pv ((get_or areas k d).area.offset / 512) value)
-          → (held : Area × Option Locn) × (held_area pv (get_or areas k d) ≡ Some held) × ((value ≡ header_bytes (header_before text held)) ⊎ (value ≡ header_bytes (header_after text held)))
-      met_area k d within value w =
-          let found : AreaFound = get_or areas k d in
-          let b : Area × Option Locn = get_or own w.number no_area in
-          let on : IsHeldOn state.disks b = own_held w.number no_area w.among in
-          let same_disk : on.disk ≡ disk = same_Some on.disk disk (sym on.there ∙ ap (slice_get state.disks) w.disk ∙ there) in
-          let list : areas_on on.disk.contents ≡ areas = ap (λ (x : Disk). areas_on x.contents) same_disk ∙ ap areas_on is in
-          let beside : All (λ (other : AreaFound). (other ≡ on.found) ⊎ LieBeside other.area on.found.area) areas = subst (All (λ (other : AreaFound). (other ≡ on.found) ⊎ LieBeside other.area on.found.area)) list on.placed.beside in
-          let placed : All (IsPlaced areas) areas = subst (λ (c : Option PvFound). All (IsPlaced (areas_on c)) (areas_on c)) is (areas_placed pv disk.sectors disk.contents (is_state.disks pv disk there).contents) in
-          let own_area : b.0 ≡ area_on b.0.pv on.found.area = entry_kept (area_on b.0.pv on.found.area) on.found.entry b on.is in
-          let starts : b.0.start ≡ on.found.area.offset = ap (λ (a : Area). a.start) own_area in
-          let sized : b.0.size ≡ on.found.area.size = ap (λ (a : Area). a.size) own_area in
-          let p : IsPlaced areas found = placed k d within in
-          ⊎_elim
-          (λ same.
-          let offset : found.area.offset ≡ b.0.start = ap (λ (f : AreaFound). f.area.offset) same ∙ sym starts in
-          let held : held_area pv found ≡ Some b = ap (held_area pv) same ∙ ap (λ (n : ℕ). held_area n on.found) (sym w.disk) ∙ on.is in
-          ⊎_elim
-          (λ (ring : b.0.start / 512 + 1 ≤ found.area.offset / 512). absurd (omega (arith, ring, offset)))
-          (λ at. (b, held, at.1))
-          w.is)
-          (λ apart. absurd (⊎_elim
-          (λ (before : found.area.offset + found.area.size ≤ on.found.area.offset). omega (arith, before, p.starts, p.some, w.from, starts))
-          (λ (behind : on.found.area.offset + on.found.area.size ≤ found.area.offset). omega (arith, behind, on.placed.starts, on.placed.sized, w.to, starts, sized))
-          apart))
-          (beside k d within)
-
       headers : All (HasHeader text pv base image) areas
       headers k d within =
           let found : AreaFound = get_or areas k d in
@@ -300,7 +270,7 @@ module _ (state : GroupState) (is_state : IsState state) (change : Change) (grou
           (λ by.
           ⊎_elim
           (λ at. let w : WritesLabel pv sector (image pv sector) = label_written pv sector (image pv sector) at in absurd (omega (arith, w.can_label.sector_below, w.at, (placed k d within).far)))
-          (λ area. inr (met_area k d within (image pv sector) area))
+          (λ area. inr (header_met state.disks is_state.disks text own own_held own_rooms pv disk there label header areas is k d within (image pv sector) area))
           (writes pv sector (image pv sector) by))
           (front_or batches base image pv sector h)
 
@@ -312,12 +282,11 @@ module _ (state : GroupState) (is_state : IsState state) (change : Change) (grou
         ways k d within on = record {
           shows = kept k d within;
           take = areas_take state is_state k d within;
-          fits = of_passed (lies_on (set_of change.disk_of)) (λ (a : Area × Option Locn). need (length text + 1) ≤ room a.0.size a.1) state.areas own_rooms k d within on;
           allowed = allowed;
         }
 
-        known : All (IsKnown text pv base image may) areas
-        known k d within = (
+        known : All (IsKnown text pv base image may (λ r. false)) areas
+        known k d within = inl (
           λ held is_held.
               let here : held.0.pv ≡ pv = ap (λ (a : Area). a.pv) (entry_kept (area_on pv (get_or areas k d).area) (get_or areas k d).entry held is_held) in
               let all : All (λ found. (x : Area × Option Locn) → held_area (0 + pv) found ≡ Some x → OnWay x) areas =
@@ -332,21 +301,21 @@ module _ (state : GroupState) (is_state : IsState state) (change : Change) (grou
       abbrev new : AreaReading
       new = Copy group text passed
 
-      disk_on : (pv : ℕ) (disk : Disk) (reading : Reading) → slice_get state.disks pv ≡ Some disk → IsDiskReading pv (base pv) disk reading → PvGives NotRefused reading.pv → set.contains (set_of change.disk_of) pv ≡ true
-          → DiskAgain pv (image pv) group new disk reading
+      disk_on : (pv : ℕ) (disk : Disk) (reading : Reading) → slice_get state.disks pv ≡ Some disk → IsDiskReading pv (base pv) disk reading → PvMayBeRefused (λ id r. false) reading.pv → set.contains (set_of change.disk_of) pv ≡ true
+          → DiskAgain pv (image pv) (lists group) (λ id r. false) new disk reading
       disk_on pv disk reading there read given on =
           let listed : IsListedOn group state.disks pv = of_set (IsListedOn group state.disks) change.disk_of makes.listed pv on in
           let same : disk ≡ listed.disk = same_Some disk listed.disk (sym there ∙ listed.there) in
           let w = header_read disk.contents listed.header (ap (λ (x : Disk). header_on x.contents) same ∙ listed.is) in
           let stands = subst (λ (c : Option PvFound). ContentsCanStand pv disk.sectors c) w.2 (is_state.disks pv disk there).contents in
-          subst (λ (n : ℕ). DiskAgain pv (image pv) group new disk (record { sectors = n; pv = reading.pv })) (sym read.sectors_xl)
-          (disk_again text group passed copy group pv base image disk.sectors disk.contents reading.pv read.contents read.pv_xl given w.0 listed.header w.1 w.2
+          subst (λ (n : ℕ). DiskAgain pv (image pv) (lists group) (λ id r. false) new disk (record { sectors = n; pv = reading.pv })) (sym read.sectors_xl)
+          (disk_again text group passed copy (lists group) (λ id r. false) pv base image disk.sectors disk.contents reading.pv read.contents read.pv_xl given w.0 listed.header w.1 w.2
           (label_stands pv disk there w.0 listed.header w.1 w.2 stands.0)
-          (recursion_from_All (IsKnown text pv base image (lists group listed.header.id)) w.1 (known pv disk there w.0 listed.header w.1 w.2 stands.0 kept on (lists group listed.header.id) listed.listed)))
+          (recursion_from_All (IsKnown text pv base image (lists group listed.header.id) (λ r. false)) w.1 (known pv disk there w.0 listed.header w.1 w.2 stands.0 kept on (lists group listed.header.id) listed.listed)))
 
-      pub each_again : (pv : ℕ) (disk : Disk) (reading : Reading) → slice_get state.disks pv ≡ Some disk → IsDiskReading pv (base pv) disk reading → PvGives NotRefused reading.pv → DiskAgain pv (image pv) group new disk reading
+      pub each_again : (pv : ℕ) (disk : Disk) (reading : Reading) → slice_get state.disks pv ≡ Some disk → IsDiskReading pv (base pv) disk reading → PvMayBeRefused (λ id r. false) reading.pv → DiskAgain pv (image pv) (lists group) (λ id r. false) new disk reading
       each_again pv disk reading there read given =
           ⊎_elim
           (λ on. disk_on pv disk reading there read given on)
-          (λ off. disk_same pv (base pv) (image pv) group new disk reading (off_disk pv off) read)
+          (λ off. disk_same pv (base pv) (image pv) (lists group) (λ id r. false) new disk reading (off_disk pv off) read)
           (cases_Bool (set.contains (set_of change.disk_of) pv))

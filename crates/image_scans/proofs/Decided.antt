@@ -67,6 +67,9 @@ misshapen_only cs disks = chained (λ (b : Held). misshapen_by b disks) (best cs
 pub record Passes (disks : List Reading) (answer : ScanAnswer) : Type 0 where
   pub apart : duplicates disks ≡ None
   pub copy : no_copy (copies disks) (refusals disks) ≡ None
+  pub supported : unsupported (copies disks) (refusals disks) ≡ None
+  pub one_group : two_groups (copies disks) ≡ None
+  pub agree : conflict (copies disks) ≡ None
   pub shape : misshapen (copies disks) disks ≡ None
   pub is : found (copies disks) disks ≡ answer
 
@@ -86,7 +89,7 @@ passes disks answer nothing is =
     let d : (two_groups cs ≡ None) × (f2 ≡ answer) = past (two_groups cs) f2 answer (two_groups_only cs) nothing c.1 in
     let e : (conflict cs ≡ None) × (f1 ≡ answer) = past (conflict cs) f1 answer (conflict_only cs) nothing d.1 in
     let f : (misshapen cs disks ≡ None) × (found cs disks ≡ answer) = past (misshapen cs disks) (found cs disks) answer (misshapen_only cs disks) nothing e.1 in
-    record { apart = a.0; copy = b.0; shape = f.0; is = f.1 }
+    record { apart = a.0; copy = b.0; supported = c.0; one_group = d.0; agree = e.0; shape = f.0; is = f.1 }
 
 -- ---- a group that was found
 

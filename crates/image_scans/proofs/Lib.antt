@@ -27,3 +27,5 @@ pub mod QuietVersion
 pub mod NewPv
 pub mod NewPvEnd
 pub mod LineScans
+pub mod NoLater
+pub mod MetAreas

@@ -11,7 +11,7 @@ use Rattle.mda_header.specs.Header.{IsCommitted, IsEntry, IsHeader, IsInside, Is
 use Rattle.mda_header.specs.HeaderBytes.{header_bytes, summed_bytes}
 use Rattle.mda_header.proofs.ReadAgain.{header_read}
 use Rattle.mda_ring.specs.declared.area.Area.{Area}
-use Rattle.mda_ring.specs.Areas.{CanTake}
+use Rattle.mda_ring.specs.Areas.{CanTake, IsArea}
 use Rattle.mda_ring.specs.Ring.{need, room}
 use Rattle.mda_ring.specs.Texts.{without_zero}
 use Rattle.mda_ring.proofs.TextBytes.{without_zero-zero}
@@ -106,6 +106,13 @@ module _ (text : List ℕ) (a : Area × Option Locn) (take : CanTake a) (fits : 
       let ends : a.0.start + a.0.size ≤ 2 ^ 49 = take.0.ends in
       let sum : checksum LVM_CRC_START (summed_bytes (header_of a.0 None (Some (new_entry text a)))) < 2 ^ 32 = checksum_below LVM_CRC_START (summed_bytes (header_of a.0 None (Some (new_entry text a)))) in
       header_read a.0.start a.0.size None (Some (new_entry text a)) false (omega (arith, ends)) (omega (arith, ends)) tt (checksum_below LVM_CRC_START (stored text)) (omega (arith, sum)) tt made_inside
+
+-- the header of an area in which no text stands is read as it is
+pub empty_header_read : (area : Area) → IsArea area → IsHeader (header_bytes (header_of area None None)) (header_of area None None)
+empty_header_read area good =
+    let ends : area.start + area.size ≤ 2 ^ 49 = good.ends in
+    let sum : checksum LVM_CRC_START (summed_bytes (header_of area None None)) < 2 ^ 32 = checksum_below LVM_CRC_START (summed_bytes (header_of area None None)) in
+    header_read area.start area.size None None false (omega (arith, ends)) (omega (arith, ends)) tt tt (omega (arith, sum)) tt tt
 
 -- ---- the text of a group
 
