@@ -1,0 +1,15 @@
+pub mod RepairOnTheWay
+pub mod RepairFound
+pub mod StraysApart
+pub mod RepairedReadings
+pub mod NumberedAreas
+pub mod PublishedHeaders
+pub mod UnwrittenAreas
+pub mod RepairedAreas
+pub mod RepairedLabels
+pub mod RepairedDisks
+pub mod RepairEnd
+pub mod FoundGroup
+pub mod BesideAreas
+pub mod RepairPlaces
+pub mod SameVersion

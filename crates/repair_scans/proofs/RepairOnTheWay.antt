@@ -1,0 +1,571 @@
+-- An image on the way of a repair: each disk reads again, but for areas that give the text that was found, or nothing.
+use Rattle.std.proofs.Common.{◌≡◌, ◌≤◌, ◌<◌, ◌⊎◌, ℕ, zero, suc, ◌+◌, ◌*◌, ◌/◌, ◌==◌, ◌&&◌, ◌||◌, not, Bool, true, false, cond, List, [], ◌∷◌, ◌++◌, length, get_or, map, Option, Some, None, inl, inr, ⊎_elim, refl, sym, ap, subst, ◌∙◌, arith}
+use Rattle.std.specs.Prelude.{All, filter_map, option_map, slice_get}
+use Rattle.std.specs.FinSet as set
+use Rattle.std.specs.List.{cons_option, enumerate_from, list_any}
+use Rattle.std.specs.Option.{option_and_then}
+use Rattle.std.specs.Ordering.{nat_cmp}
+use Rattle.std.proofs.lemmas.Bool.{and_from, and_parts, cases_Bool, cases_lt, eq-eqb, eqb-true, or_cases, or_left, true≢false}
+use Rattle.std.proofs.lemmas.List.Elements.{All-cons, All-filter, All-nil, filter_passes, recursion_from_All}
+use Rattle.std.proofs.lemmas.Option.{same_Some}
+use Rattle.disk_batch.specs.InTurn.{HasFirstBatches, with_batches}
+use Rattle.disk_batch.specs.Writes.{IsWrittenBy}
+use Rattle.disk_batch.proofs.InTurn.{batches_append}
+use Rattle.disk_model.specs.Steps.{Image}
+use Rattle.mda_header.specs.declared.header.Locn.{Locn}
+use Rattle.mda_header.specs.HeaderBytes.{header_bytes}
+use Rattle.mda_ring.specs.declared.area.Area.{Area}
+use Rattle.mda_ring.specs.Areas.{CanTake}
+use Rattle.mda_ring.specs.Ring.{need, room}
+use Rattle.mda_ring.proofs.SpanLaws.{covers_tells}
+use Rattle.meta_model.specs.declared.group.Group.{Group}
+use Rattle.pv_header.specs.PvHeader.{IsPvHeader}
+use Rattle.pv_header.specs.declared.header.PvHeader.{PvHeader}
+use Rattle.pv_header.specs.PvRefusal.{Refuses}
+use Rattle.pv_label.specs.Label.{IsFirstLabel, IsLabel, IsLabelRefusal}
+use Rattle.disk_contents.specs.declared.contents.AreaFound.{AreaFound}
+use Rattle.disk_contents.specs.declared.contents.PvFound.{PvFound}
+use Rattle.disk_contents.specs.declared.contents.PvFound.TheVariants.{NoLabel, NoHeader, Whole}
+use Rattle.disk_contents.specs.Contents.{IsFound}
+use Rattle.disk_contents.specs.Standing.{area_on}
+use Rattle.scan_rules.specs.Decision.{Area as AreaOf, AreaReading, Copy, Found as PvOf, HoldsNone, Reading, Refused, gives, lists}
+use Rattle.vg_commit.specs.SectorReading.{IsSized, ShowsBy, old_reading}
+use Rattle.vg_commit.specs.Written.{header_of, header_span}
+use Rattle.vg_found.specs.declared.disk.Disk.{Disk}
+use Rattle.vg_found.specs.declared.found.Found.{Found}
+use Rattle.vg_found.specs.Disks.{areas_on, held_area, held_areas, header_on}
+use Rattle.vg_found.specs.Shape.{ContentsCanStand, IsDisk}
+use Rattle.vg_scan.specs.Readings.{IsContents, IsDiskReading, IsPvReading}
+use Rattle.vg_scan.specs.Texts.{IsCopyOf}
+use Rattle.group_ops.specs.Added.{pv_in}
+use Rattle.group_ops.specs.Judging.{lies_on}
+use Rattle.group_ops.specs.declared.state.NewLabel.{NewLabel}
+use Rattle.vg_change.specs.Batches.{batch_if, label_bytes, label_put}
+use Rattle.vg_change.specs.Laws.{HasLabel, IsKeptOrNew, ShowsEntries, text_in}
+use Rattle.vg_change.specs.Sound.{CanLabel}
+use Rattle.vg_change.proofs.BaseShows.{base_shows, base_sized, shows_alike}
+use Rattle.vg_change.proofs.FarAreas.{IsFar}
+use Rattle.vg_change.proofs.LabelPuts.{label_where, labels_there, with_if}
+use Rattle.vg_change.proofs.LabelsRead.{label_read}
+use Rattle.vg_repair.specs.Batches.{clear_put, repair_batches, stray_areas, stray_labels, text_batches, unused, unused_label}
+use Rattle.vg_repair.specs.Laws.{IsKept}
+use Rattle.vg_repair.specs.Stale.{stale_areas, text_of}
+use Rattle.vg_repair.proofs.ClearBatch.{clear_where}
+use Rattle.vg_repair.proofs.HeldAreas.{each_far, stale_all, stale_held}
+use Rattle.vg_repair.proofs.RepairedShape.{rooms}
+use Rattle.vg_repair.proofs.StrayLabels.{labels_can, labels_differ}
+use Rattle.repair_scans.specs.Laws.{CanRepair}
+use Rattle.image_scans.proofs.AreaAgain.{HasHeader, IsCleared, IsKnown, IsOnTheWay, MayBeRefused}
+use Rattle.image_scans.proofs.BaseEntries.{entries_shown}
+use Rattle.image_scans.proofs.CommitWrites.{IsAreaWrite, commit_writes, no_area}
+use Rattle.image_scans.proofs.DiskAgain.{DiskAgain, LabelStands, PvMayBeRefused, disk_again, pv_same}
+use Rattle.image_scans.proofs.FoundAreas.{IsHeldOn, IsPlaced, all_held, entry_kept, of_held}
+use Rattle.image_scans.proofs.Front.{AnyWrites, any_append, any_if, batches_or, front_or}
+use Rattle.image_scans.proofs.Given.{AreasGive, GivenHas}
+use Rattle.image_scans.proofs.Labels.{IsSameHeader, four_same}
+use Rattle.image_scans.proofs.MetAreas.{all_placed, area_met, header_met}
+
+-- ---- the labels of strays
+
+-- each is that of the physical volume that was found on its disk
+abbrev pub IsLabelOn : List Disk → NewLabel → Type 0
+IsLabelOn disks label = (disk : Disk) × (old : PvHeader) × (slice_get disks label.disk ≡ Some disk) × (option_and_then pv_in disk.contents ≡ Some (label.sector, old)) × IsSameHeader old label.header
+
+label_by : (all : List Disk) (number : ℕ) (disk : Disk) → slice_get all number ≡ Some disk → (o : Option (ℕ × PvHeader)) → option_and_then pv_in disk.contents ≡ o → (label : NewLabel)
+    → option_map (λ (pv : ℕ × PvHeader). record { disk = number; sector = pv.0; header = unused pv.1 }) o ≡ Some label → IsLabelOn all label
+label_by all number disk there None is label has = absurd cc
+label_by all number disk there (Some pv) is label has =
+    subst (IsLabelOn all) (same_Some (record { disk = number; sector = pv.0; header = unused pv.1 }) label has) (disk, pv.1, there, is, record { id = refl; held = refl; areas = refl })
+
+label_if : (strays : set.FinSet nat_cmp) (all : List Disk) (number : ℕ) (disk : Disk) → slice_get all number ≡ Some disk → (b : Bool) → set.contains strays number ≡ b → (label : NewLabel)
+    → cond b (option_map (λ (pv : ℕ × PvHeader). record { disk = number; sector = pv.0; header = unused pv.1 }) (option_and_then pv_in disk.contents)) None ≡ Some label → IsLabelOn all label
+label_if strays all number disk there true stray label has = label_by all number disk there (option_and_then pv_in disk.contents) refl label has
+label_if strays all number disk there false stray label has = absurd cc
+
+one_label : (P : NewLabel → Type 0) (o : Option NewLabel) (rest : List NewLabel) → ((label : NewLabel) → o ≡ Some label → P label) → All P rest → All P (cons_option o rest)
+one_label P None rest here all = all
+one_label P (Some label) rest here all = All-cons P label rest (here label refl) all
+
+labels_from : (strays : set.FinSet nat_cmp) (all : List Disk) (first : ℕ) (disks : List Disk) → ((k : ℕ) (disk : Disk) → slice_get disks k ≡ Some disk → slice_get all (first + k) ≡ Some disk)
+    → All (IsLabelOn all) (filter_map (unused_label strays) (enumerate_from first disks))
+labels_from strays all first [] there = All-nil (IsLabelOn all)
+labels_from strays all first (disk ∷ disks) there =
+    let here : slice_get all first ≡ Some disk = subst (λ (n : ℕ). slice_get all n ≡ Some disk) (omega arith) (there 0 disk refl) in
+    one_label (IsLabelOn all) (unused_label strays (first, disk)) (filter_map (unused_label strays) (enumerate_from (first + 1) disks))
+    (λ label has. label_if strays all first disk here (set.contains strays first) refl label has)
+    (labels_from strays all (first + 1) disks (λ k d is. subst (λ (n : ℕ). slice_get all n ≡ Some d) (omega arith) (there (suc k) d is)))
+
+-- ---- an area among others
+
+abbrev is_place : Area × Option Locn → Area × Option Locn → Bool
+is_place a b = (a.0.pv == b.0.pv) && (a.0.start == b.0.start)
+
+-- one of the list has its place, or none does
+record HasPlaceIn (areas : List (Area × Option Locn)) (a : Area × Option Locn) : Type 0 where
+  number : ℕ
+  among : number < length areas
+  same_pv : (get_or areas number no_area).0.pv ≡ a.0.pv
+  same_start : (get_or areas number no_area).0.start ≡ a.0.start
+
+find_place : (areas : List (Area × Option Locn)) (a : Area × Option Locn) → list_any (is_place a) areas ≡ true → HasPlaceIn areas a
+find_place [] a any = absurd (true≢false (sym any))
+find_place (b ∷ areas) a any = step (λ later. find_place areas a later) (or_cases (is_place a b) (list_any (is_place a) areas) any)
+  where
+    step : (list_any (is_place a) areas ≡ true → HasPlaceIn areas a) → (is_place a b ≡ true) ⊎ (list_any (is_place a) areas ≡ true) → HasPlaceIn (b ∷ areas) a
+    step rest (inl here) =
+        let parts = and_parts (a.0.pv == b.0.pv) (a.0.start == b.0.start) here in
+        record { number = 0; among = omega arith; same_pv = sym (eqb-true a.0.pv b.0.pv parts.0); same_start = sym (eqb-true a.0.start b.0.start parts.1) }
+    step rest (inr later) = let r : HasPlaceIn areas a = rest later in record { number = suc r.number; among = omega (arith, r.among); same_pv = r.same_pv; same_start = r.same_start }
+
+no_place : (areas : List (Area × Option Locn)) (a : Area × Option Locn) → list_any (is_place a) areas ≡ false → (k : ℕ) → k < length areas → (get_or areas k no_area).0.pv ≡ a.0.pv → (get_or areas k no_area).0.start ≡ a.0.start → ⊥
+no_place [] a none k within pv start = omega (arith, within)
+no_place (b ∷ areas) a none zero within pv start =
+    true≢false (sym (or_left (is_place a b) (list_any (is_place a) areas) (and_from (a.0.pv == b.0.pv) (a.0.start == b.0.start) (eq-eqb a.0.pv b.0.pv (sym pv)) (eq-eqb a.0.start b.0.start (sym start)))) ∙ none)
+no_place (b ∷ areas) a none (suc k) within pv start = no_place areas a (later (is_place a b) (list_any (is_place a) areas) none) k (omega (arith, within)) pv start
+  where
+    later : (x y : Bool) → (x || y) ≡ false → y ≡ false
+    later true y is = absurd (true≢false is)
+    later false y is = is
+
+-- ---- the repair
+
+-- an area may give nothing later, but one of a listed disk that gives the text
+abbrev pub may_be_lost : Group → List ℕ → List ℕ → AreaReading → Bool
+may_be_lost group text id r = not (gives text r && lists group id)
+
+fine : (group : Group) (text id : List ℕ) (r : AreaReading) → MayBeRefused (may_be_lost group text id) r
+fine group text id HoldsNone = inr tt
+fine group text id (Copy other others passed) = inr tt
+fine group text id (Refused why) = inl refl
+
+fine_areas : (group : Group) (text id : List ℕ) (areas : List AreaOf) → AreasGive (MayBeRefused (may_be_lost group text id)) areas
+fine_areas group text id [] = tt
+fine_areas group text id (area ∷ areas) = (one area.reading, fine_areas group text id areas)
+  where
+    one : (o : Option AreaReading) → GivenHas (MayBeRefused (may_be_lost group text id)) o
+    one None = tt
+    one (Some r) = fine group text id r
+
+fine_pv : (group : Group) (text : List ℕ) (o : Option PvOf) → PvMayBeRefused (may_be_lost group text) o
+fine_pv group text None = tt
+fine_pv group text (Some own) = fine_areas group text own.id own.areas
+
+-- all of a disk that isn't listed
+all_lost : (group : Group) (text id : List ℕ) → lists group id ≡ false → (r : AreaReading) → may_be_lost group text id r ≡ true
+all_lost group text id none r = ap (λ (b : Bool). not (gives text r && b)) none ∙ ap not (and_none (gives text r))
+  where
+    and_none : (b : Bool) → (b && false) ≡ false
+    and_none true = refl
+    and_none false = refl
+
+module _ (base : Image) (sizes : List ℕ) (found : Found) (p : CanRepair base sizes found) where
+  abbrev text : List ℕ
+  text = text_of found
+
+  abbrev stale : List (Area × Option Locn)
+  stale = stale_areas found
+
+  abbrev labels : List NewLabel
+  labels = stray_labels found
+
+  abbrev cleared : List (Area × Option Locn)
+  cleared = stray_areas found
+
+  pub shown : ShowsEntries found.areas base
+  shown = subst (λ (l : List (Area × Option Locn)). ShowsEntries l base) (sym p.scan.areas) (entries_shown base found.unread 0 found.disks p.scan.readings p.scan.are.each)
+
+  -- each disk is one
+  pub are_disks : (pv : ℕ) (disk : Disk) → slice_get found.disks pv ≡ Some disk → IsDisk pv disk
+  are_disks pv disk there = (p.shape.disks pv disk there).0
+
+  held : All (IsHeldOn found.disks) found.areas
+  held = subst (All (IsHeldOn found.disks)) (sym p.shape.areas) (all_held found.disks are_disks)
+
+  -- the areas are those of the disks
+  pub stale_on_disks : All (IsHeldOn found.disks) stale
+  stale_on_disks = stale_all found p.shape (IsHeldOn found.disks) held
+
+  pub cleared_on_disks : All (IsHeldOn found.disks) cleared
+  cleared_on_disks = All-filter (lies_on found.strays) (IsHeldOn found.disks) found.areas held
+
+  -- they begin behind the sectors of labels
+  pub stale_far : All IsFar stale
+  stale_far = stale_all found p.shape IsFar (each_far found p.shape)
+
+  cleared_far : All IsFar cleared
+  cleared_far = All-filter (lies_on found.strays) IsFar found.areas (each_far found p.shape)
+
+  -- the text has room in each stale area
+  pub stale_rooms : All (λ (a : Area × Option Locn). need (length text + 1) ≤ room a.0.size a.1) stale
+  stale_rooms = rooms text stale p.fits
+
+  labels_on : All (IsLabelOn found.disks) labels
+  labels_on = labels_from found.strays found.disks 0 found.disks (λ k disk there. subst (λ (n : ℕ). slice_get found.disks n ≡ Some disk) (omega arith) there)
+
+  -- ---- what is written
+
+  texts_write : (areas : List (Area × Option Locn)) → All CanTake areas → All (λ (a : Area × Option Locn). need (length text + 1) ≤ room a.0.size a.1) areas → (pv sector : ℕ) (value : List ℕ) → AnyWrites (text_batches text areas) pv sector value
+      → IsAreaWrite text areas pv sector value
+  texts_write [] take fits pv sector value by = absurd by
+  texts_write (a ∷ areas) take fits pv sector value by = commit_writes text (a ∷ areas) take fits pv sector value by
+
+  -- the empty header of an area of a stray
+  pub record IsClearWrite (pv sector : ℕ) (value : List ℕ) : Type 0 where
+    pub number : ℕ
+    pub among : number < length cleared
+    pub disk : (get_or cleared number no_area).0.pv ≡ pv
+    pub at : (get_or cleared number no_area).0.start / 512 ≡ sector
+    pub is : value ≡ header_bytes (header_of (get_or cleared number no_area).0 None None)
+
+  -- what the last batch writes
+  pub clear_writes : (pv sector : ℕ) (value : List ℕ) → IsWrittenBy (map clear_put cleared) pv sector value → IsClearWrite pv sector value
+  clear_writes pv sector value by =
+      let w = clear_where cleared no_area pv sector value by in
+      let t = covers_tells (header_span (get_or cleared w.0 no_area).0) pv sector w.2 in
+      record { number = w.0; among = w.1; disk = t.0; at = omega (arith, t.1, t.2); is = w.3 }
+
+  -- what any of the batches writes
+  pub writes : (pv sector : ℕ) (value : List ℕ) → AnyWrites (repair_batches found) pv sector value → IsAreaWrite text stale pv sector value ⊎ (IsWrittenBy (map label_put labels) pv sector value ⊎ IsClearWrite pv sector value)
+  writes pv sector value by =
+      ⊎_elim
+      (λ first.
+      ⊎_elim
+      (λ texts. inl (texts_write stale (stale_held found p.shape).take stale_rooms pv sector value texts))
+      (λ label. inr (inl (any_if (map label_put labels) pv sector value label)))
+      (any_append (text_batches text stale) (batch_if (map label_put labels)) pv sector value first))
+      (λ last. inr (inr (clear_writes pv sector value (any_if (map clear_put cleared) pv sector value last))))
+      (any_append (text_batches text stale ++ batch_if (map label_put labels)) (batch_if (map clear_put cleared)) pv sector value by)
+
+  -- near sectors are those of labels
+  text_far : (pv sector : ℕ) (value : List ℕ) → IsAreaWrite text stale pv sector value → 4 ≤ sector
+  text_far pv sector value w = let begins : 2048 ≤ (get_or stale w.number no_area).0.start = stale_far w.number no_area w.among in omega (arith, begins, w.from)
+
+  clear_far : (pv sector : ℕ) (value : List ℕ) → IsClearWrite pv sector value → 4 ≤ sector
+  clear_far pv sector value w = let begins : 2048 ≤ (get_or cleared w.number no_area).0.start = cleared_far w.number no_area w.among in omega (arith, begins, w.at)
+
+  -- some label, where a list has none
+  pub some_label : NewLabel
+  some_label = record { disk = 0; sector = 0; header = record { id = []; device_bytes = 0; data_areas = []; areas = []; version = 0; flags = 0 } }
+
+  -- a label stays until all is written
+  label_stays : (k : ℕ) (d : NewLabel) → k < length labels → with_batches (repair_batches found) base (get_or labels k d).disk (get_or labels k d).sector ≡ label_bytes (get_or labels k d)
+  label_stays k d within =
+      let label : NewLabel = get_or labels k d in
+      let low : label.sector < 4 = (labels_can found p.shape k d within).sector_below in
+      let texts : Image = with_batches (text_batches text stale) base in
+      let first : Image = with_batches (text_batches text stale ++ batch_if (map label_put labels)) base in
+      let there : first label.disk label.sector ≡ label_bytes label =
+      ap (λ (i : Image). i label.disk label.sector) (batches_append (text_batches text stale) (batch_if (map label_put labels)) base ∙ with_if (map label_put labels) texts)
+      ∙ labels_there labels texts (labels_differ found p.shape) k d within
+      in
+      ap (λ (i : Image). i label.disk label.sector) (batches_append (text_batches text stale ++ batch_if (map label_put labels)) (batch_if (map clear_put cleared)) base)
+      ∙ ⊎_elim
+      (λ same. same ∙ there)
+      (λ by.
+      let value : List ℕ = with_batches (batch_if (map clear_put cleared)) first label.disk label.sector in
+      let w : IsClearWrite label.disk label.sector value = clear_writes label.disk label.sector value (any_if (map clear_put cleared) label.disk label.sector value by) in
+      absurd (omega (arith, low, clear_far label.disk label.sector value w)))
+      (batches_or (batch_if (map clear_put cleared)) first label.disk label.sector)
+
+  -- ---- an image on the way
+
+  module _ (group : Group) (unlisted : (pv : ℕ) (disk : Disk) (header : PvHeader) → slice_get found.disks pv ≡ Some disk → header_on disk.contents ≡ Some header → set.contains found.strays pv ≡ true → lists group header.id ≡ false) (image : Image)
+      (h : HasFirstBatches (repair_batches found) base image) where
+    abbrev lost : List ℕ → AreaReading → Bool
+    lost = may_be_lost group text
+
+    kept : IsKept found base image
+    kept = p.keeps.kept base image shown h
+
+    -- a sector below the fourth is as in the base, or has the label of its disk
+    pub near : (pv sector : ℕ) → sector < 4 → (image pv sector ≡ base pv sector) ⊎ IsWrittenBy (map label_put labels) pv sector (image pv sector)
+    near pv sector low =
+        ⊎_elim
+        (λ same. inl same)
+        (λ by.
+        ⊎_elim
+        (λ texts. absurd (omega (arith, low, text_far pv sector (image pv sector) texts)))
+        (λ other. ⊎_elim (λ label. inr label) (λ clear. absurd (omega (arith, low, clear_far pv sector (image pv sector) clear))) other)
+        (writes pv sector (image pv sector) by))
+        (front_or (repair_batches found) base image pv sector h)
+
+    module _ (pv : ℕ) (disk : Disk) (there : slice_get found.disks pv ≡ Some disk) where
+      -- a label on this disk is where the label was found
+      no_label : (option_and_then pv_in disk.contents ≡ None) → (sector : ℕ) → sector < 4 → image pv sector ≡ base pv sector
+      no_label none sector low =
+          ⊎_elim
+          (λ same. same)
+          (λ by.
+          let w = label_where labels some_label pv sector (image pv sector) by in
+          let on : IsLabelOn found.disks (get_or labels w.0 some_label) = labels_on w.0 some_label w.1 in
+          let same : disk ≡ on.0 = same_Some disk on.0 (sym there ∙ ap (slice_get found.disks) (sym w.2) ∙ on.2) in
+          absurd (let e : ◌≡◌ {A = Option (ℕ × PvHeader)} None (Some ((get_or labels w.0 some_label).sector, on.1)) = sym none ∙ ap (λ (d : Disk). option_and_then pv_in d.contents) same ∙ on.3 in cc))
+          (near pv sector low)
+
+      module _ (label : ℕ) (header : PvHeader) (areas : List AreaFound) (is : disk.contents ≡ Some (Whole label header areas)) (low : label < 4) where
+        of_label : (sector : ℕ) (value : List ℕ) → IsWrittenBy (map label_put labels) pv sector value → (new : NewLabel) × (label ≡ sector) × (value ≡ label_bytes new) × IsSameHeader header new.header × (new.sector ≡ label) × CanLabel new
+            × (with_batches (repair_batches found) base new.disk new.sector ≡ label_bytes new) × HasLabel (with_batches (repair_batches found) base) new
+        of_label sector value by =
+            let w = label_where labels some_label pv sector value by in
+            let new : NewLabel = get_or labels w.0 some_label in
+            let on : IsLabelOn found.disks new = labels_on w.0 some_label w.1 in
+            let same : disk ≡ on.0 = same_Some disk on.0 (sym there ∙ ap (slice_get found.disks) (sym w.2) ∙ on.2) in
+            let both : ◌≡◌ {A = Option (ℕ × PvHeader)} (Some (label, header)) (Some (new.sector, on.1)) = sym (ap (option_and_then pv_in) is) ∙ ap (λ (d : Disk). option_and_then pv_in d.contents) same ∙ on.3 in
+            let pair : (label, header) ≡ (new.sector, on.1) = same_Some (label, header) (new.sector, on.1) both in
+            let at : label ≡ new.sector = ap (λ (x : ℕ × PvHeader). x.0) pair in (
+              new,
+              at ∙ w.3,
+              w.4,
+              subst (λ (old : PvHeader). IsSameHeader old new.header) (sym (ap (λ (x : ℕ × PvHeader). x.1) pair)) on.4,
+              sym at,
+              labels_can found p.shape w.0 some_label w.1,
+              label_stays w.0 some_label w.1,
+              (p.keeps.right base shown).labels w.0 some_label w.1,
+            )
+
+        -- the label reads again, with the same id and areas
+        pub label_stands : LabelStands (base pv) (image pv) label header
+        label_stands = record {
+          before = λ k less. ⊎_elim (λ same. same) (λ by. absurd (omega (arith, less, (of_label k (image pv k) by).1))) (near pv k (omega (arith, less, low)));
+          is =
+              ⊎_elim
+              (λ same. inl same)
+              (λ by.
+              let w = of_label label (image pv label) by in
+              inr (
+                w.0.header,
+                w.3,
+                subst (λ (s : List ℕ). IsLabel s label) (sym w.2) (subst (λ (n : ℕ). IsLabel (label_bytes w.0) n) w.4 (label_read w.0 w.5)),
+                subst (λ (s : List ℕ). IsPvHeader s w.0.header []) (w.6 ∙ sym w.2) w.7.header,
+              ))
+              (near pv label low);
+        }
+
+        -- ---- an area that was found
+
+        module _ (k : ℕ) (d : AreaFound) (within : k < length areas) where
+          abbrev area : AreaFound
+          area = get_or areas k d
+
+          placed : IsPlaced areas area
+          placed = all_placed found.disks are_disks pv disk there label header areas is k d within
+
+          is_cleared : IsClearWrite pv (area.area.offset / 512) (image pv (area.area.offset / 512)) → IsCleared pv image (lost header.id) area
+          is_cleared clear =
+              let sector : ℕ = area.area.offset / 512 in
+              let b : Area × Option Locn = get_or cleared clear.number no_area in
+              let take : CanTake b = All-filter (lies_on found.strays) CanTake found.areas p.shape.take clear.number no_area clear.among in
+              let met : held_area pv area ≡ Some b =
+              area_met found.disks are_disks pv disk there label header areas is k d within b (cleared_on_disks clear.number no_area clear.among) clear.disk sector (omega (arith, clear.at)) (omega (arith, clear.at, take.0.has_ring)) (omega arith) (omega (arith, placed.some)) in
+              let stray : set.contains found.strays pv ≡ true = ap (set.contains found.strays) (sym clear.disk) ∙ filter_passes (lies_on found.strays) found.areas clear.number no_area clear.among in
+              (b, met, take, clear.is, all_lost group text header.id (unlisted pv disk header there (ap header_on is) stray))
+
+          -- its header was cleared, or has another value on the way
+          header_value : IsCleared pv image (lost header.id) area ⊎ HasHeader text pv base image area
+          header_value =
+              let sector : ℕ = area.area.offset / 512 in
+              ⊎_elim
+              (λ same. inr (inl same))
+              (λ by.
+              ⊎_elim
+              (λ texts. inr (inr (header_met found.disks are_disks text stale stale_on_disks stale_rooms pv disk there label header areas is k d within (image pv sector) texts)))
+              (λ other.
+              ⊎_elim
+              (λ at.
+              let w = label_where labels some_label pv sector (image pv sector) at in
+              let low' : (get_or labels w.0 some_label).sector < 4 = (labels_can found p.shape w.0 some_label w.1).sector_below in
+              absurd (omega (arith, low', w.3, placed.far)))
+              (λ clear. inl (is_cleared clear))
+              other)
+              (writes pv sector (image pv sector) by))
+              (front_or (repair_batches found) base image pv sector h)
+
+          -- where none of the stale areas has its place, its ring is as in the base
+          ring_kept : (b : Area × Option Locn) → held_area pv area ≡ Some b → list_any (is_place b) stale ≡ false → (sector : ℕ) → b.0.start / 512 + 1 ≤ sector → sector < b.0.start / 512 + b.0.size / 512 → image pv sector ≡ base pv sector
+          ring_kept b is_held none sector from to =
+              let own : b.0 ≡ area_on pv area.area = entry_kept (area_on pv area.area) area.entry b is_held in
+              let starts : b.0.start ≡ area.area.offset = ap (λ (a : Area). a.start) own in
+              let sized : b.0.size ≡ area.area.size = ap (λ (a : Area). a.size) own in
+              let here : b.0.pv ≡ pv = ap (λ (a : Area). a.pv) own in
+              ⊎_elim
+              (λ same. same)
+              (λ by.
+              ⊎_elim
+              (λ texts.
+              let s : Area × Option Locn = get_or stale texts.number no_area in
+              let met : held_area pv area ≡ Some s =
+              area_met found.disks are_disks pv disk there label header areas is k d within s (stale_on_disks texts.number no_area texts.among) texts.disk sector texts.from texts.to (omega (arith, from, starts)) (omega (arith, to, starts, sized)) in
+              let same : b ≡ s = same_Some b s (sym is_held ∙ met) in
+              absurd (no_place stale b none texts.number texts.among (ap (λ (a : Area × Option Locn). a.0.pv) (sym same)) (ap (λ (a : Area × Option Locn). a.0.start) (sym same))))
+              (λ other.
+              ⊎_elim
+              (λ at.
+              let w = label_where labels some_label pv sector (image pv sector) at in
+              let low' : (get_or labels w.0 some_label).sector < 4 = (labels_can found p.shape w.0 some_label w.1).sector_below in
+              absurd (omega (arith, low', w.3, placed.far, from, starts)))
+              (λ clear.
+              let c : Area × Option Locn = get_or cleared clear.number no_area in
+              let take : CanTake c = All-filter (lies_on found.strays) CanTake found.areas p.shape.take clear.number no_area clear.among in
+              let met : held_area pv area ≡ Some c =
+              area_met found.disks are_disks pv disk there label header areas is k d within c (cleared_on_disks clear.number no_area clear.among) clear.disk sector (omega (arith, clear.at)) (omega (arith, clear.at, take.0.has_ring)) (omega (arith, from, starts)) (omega (arith, to, starts, sized)) in
+              let same : b ≡ c = same_Some b c (sym is_held ∙ met) in
+              absurd (omega (arith, from, clear.at, ap (λ (a : Area × Option Locn). a.0.start) same)))
+              other)
+              (writes pv sector (image pv sector) by))
+              (front_or (repair_batches found) base image pv sector h)
+
+          -- and its header is as in the base, or was cleared
+          header_plain : (b : Area × Option Locn) → held_area pv area ≡ Some b → list_any (is_place b) stale ≡ false → IsCleared pv image (lost header.id) area ⊎ (image pv (area.area.offset / 512) ≡ base pv (area.area.offset / 512))
+          header_plain b is_held none =
+              let sector : ℕ = area.area.offset / 512 in
+              ⊎_elim
+              (λ same. inr same)
+              (λ by.
+              ⊎_elim
+              (λ texts.
+              let s : Area × Option Locn = get_or stale texts.number no_area in
+              let met : held_area pv area ≡ Some s =
+              area_met found.disks are_disks pv disk there label header areas is k d within s (stale_on_disks texts.number no_area texts.among) texts.disk sector texts.from texts.to (omega arith) (omega (arith, placed.some)) in
+              let same : b ≡ s = same_Some b s (sym is_held ∙ met) in
+              absurd (no_place stale b none texts.number texts.among (ap (λ (a : Area × Option Locn). a.0.pv) (sym same)) (ap (λ (a : Area × Option Locn). a.0.start) (sym same))))
+              (λ other.
+              ⊎_elim
+              (λ at.
+              let w = label_where labels some_label pv sector (image pv sector) at in
+              let low' : (get_or labels w.0 some_label).sector < 4 = (labels_can found p.shape w.0 some_label w.1).sector_below in
+              absurd (omega (arith, low', w.3, placed.far)))
+              (λ clear. inl (is_cleared clear))
+              other)
+              (writes pv sector (image pv sector) by))
+              (front_or (repair_batches found) base image pv sector h)
+
+          -- a stale area that has its place is the area
+          stale_shows : (b : Area × Option Locn) → held_area pv area ≡ Some b → HasPlaceIn stale b → IsKeptOrNew text base image b
+          stale_shows b is_held r =
+              let s : Area × Option Locn = get_or stale r.number no_area in
+              let own : b.0 ≡ area_on pv area.area = entry_kept (area_on pv area.area) area.entry b is_held in
+              let starts : b.0.start ≡ area.area.offset = ap (λ (a : Area). a.start) own in
+              let take : CanTake s = (stale_held found p.shape).take r.number no_area r.among in
+              let met : held_area pv area ≡ Some s =
+              area_met found.disks are_disks pv disk there label header areas is k d within s (stale_on_disks r.number no_area r.among) (r.same_pv ∙ ap (λ (a : Area). a.pv) own) (area.area.offset / 512)
+              (omega (arith, r.same_start, starts)) (omega (arith, r.same_start, starts, take.0.has_ring)) (omega arith) (omega (arith, placed.some)) in
+              subst (IsKeptOrNew text base image) (same_Some s b (sym met ∙ is_held)) (kept.stale r.number no_area r.among)
+
+          -- what the base shows of it
+          abbrev IsShown : Area × Option Locn → Type 0
+          IsShown b = CanTake b × IsSized b.0 b.1 (text_in base b) × ShowsBy (old_reading (text_in base)) base b
+
+          in_base : (b : Area × Option Locn) → held_area pv area ≡ Some b → IsShown b
+          in_base b is_held =
+              let sized = base_sized found.areas base p.shape.take in
+              let shows = base_shows found.areas base shown in
+              let all : All IsShown (held_areas 0 found.disks) = subst (All IsShown) p.shape.areas (λ j e in_list. (p.shape.take j e in_list, sized j e in_list, shows j e in_list)) in
+              let here : All (λ f. (x : Area × Option Locn) → held_area (0 + pv) f ≡ Some x → IsShown x) areas =
+              subst (λ (c : Option PvFound). All (λ f. (x : Area × Option Locn) → held_area (0 + pv) f ≡ Some x → IsShown x) (areas_on c)) is (of_held IsShown 0 found.disks all pv disk there)
+              in
+              here k d within b (ap (λ (n : ℕ). held_area n area) (omega arith) ∙ is_held)
+
+          plain_shows : (b : Area × Option Locn) → held_area pv area ≡ Some b → list_any (is_place b) stale ≡ false → image pv (area.area.offset / 512) ≡ base pv (area.area.offset / 512) → ShowsBy (old_reading (text_in base)) image b
+          plain_shows b is_held none same =
+              let own : b.0 ≡ area_on pv area.area = entry_kept (area_on pv area.area) area.entry b is_held in
+              let starts : b.0.start ≡ area.area.offset = ap (λ (a : Area). a.start) own in
+              let here : pv ≡ b.0.pv = sym (ap (λ (a : Area). a.pv) own) in
+              let was : IsShown b = in_base b is_held in
+              shows_alike (old_reading (text_in base)) b base image was.0.0 was.1
+              (λ n inside.
+              subst (λ (m : ℕ). image m (b.0.start / 512 + n) ≡ base m (b.0.start / 512 + n)) here
+              (⊎_elim
+              (λ (first : n < 1). subst (λ (m : ℕ). image pv m ≡ base pv m) (omega (arith, first, starts)) same)
+              (λ (ring : 1 ≤ n). ring_kept b is_held none (b.0.start / 512 + n) (omega (arith, ring)) (omega (arith, inside)))
+              (cases_lt n 1)))
+              was.2
+
+          known_by : (o : Option (Area × Option Locn)) → held_area pv area ≡ o → IsKnown text pv base image true (lost header.id) area
+          known_by None is_held =
+              ⊎_elim
+              (λ clear. inr clear)
+              (λ has. inl ((λ b some. absurd (let e : ◌≡◌ {A = Option (Area × Option Locn)} None (Some b) = sym is_held ∙ some in cc)), has))
+              header_value
+          known_by (Some b) is_held =
+              ⊎_elim
+              (λ any.
+              ⊎_elim
+              (λ clear. inr clear)
+              (λ has. inl ((λ x some. way_of x some (stale_shows x some (find_place stale x (same_any x some any)))), has))
+              header_value)
+              (λ none.
+              ⊎_elim
+              (λ clear. inr clear)
+              (λ same. inl ((λ x some. way_of x some (inl (plain_shows x some (same_none x some none) same))), inl same))
+              (header_plain b is_held none))
+              (cases_Bool (list_any (is_place b) stale))
+            where
+              way_of : (x : Area × Option Locn) → held_area pv area ≡ Some x → IsKeptOrNew text base image x → IsOnTheWay text base image true x
+              way_of x some shows = record { shows = shows; take = (in_base x some).0; allowed = refl }
+
+              same_any : (x : Area × Option Locn) → held_area pv area ≡ Some x → list_any (is_place b) stale ≡ true → list_any (is_place x) stale ≡ true
+              same_any x some any = subst (λ (y : Area × Option Locn). list_any (is_place y) stale ≡ true) (same_Some b x (sym is_held ∙ some)) any
+
+              same_none : (x : Area × Option Locn) → held_area pv area ≡ Some x → list_any (is_place b) stale ≡ false → list_any (is_place x) stale ≡ false
+              same_none x some none = subst (λ (y : Area × Option Locn). list_any (is_place y) stale ≡ false) (same_Some b x (sym is_held ∙ some)) none
+
+          known : IsKnown text pv base image true (lost header.id) area
+          known = known_by (held_area pv area) refl
+
+        with_header : (passed : List (List ℕ)) → IsCopyOf text group passed → (reading : Reading) → IsDiskReading pv (base pv) disk reading → DiskAgain pv (image pv) (λ id. true) lost (Copy group text passed) disk reading
+        with_header passed copy reading read =
+            subst (λ (n : ℕ). DiskAgain pv (image pv) (λ id. true) lost (Copy group text passed) disk (record { sectors = n; pv = reading.pv })) (sym read.sectors_xl)
+            (disk_again text group passed copy (λ id. true) lost pv base image disk.sectors disk.contents reading.pv read.contents read.pv_xl (fine_pv group text reading.pv) label header areas is label_stands
+            (recursion_from_All (IsKnown text pv base image true (lost header.id)) areas (λ k d within. known k d within)))
+
+      -- without a header nothing of the disk's first sectors is written
+      bare_contents : (contents : PvFound) → pv_in contents ≡ None → ((sector : ℕ) → sector < 4 → image pv sector ≡ base pv sector) → IsFound (base pv) disk.sectors contents → IsFound (image pv) disk.sectors contents
+      bare_contents (NoLabel refusal) none same found' = subst (λ (l : List (List ℕ)). IsLabelRefusal l refusal) (sym (four_same (base pv) (image pv) same)) found'
+      bare_contents (NoHeader label refusal) none same found' = (
+        subst (λ (l : List (List ℕ)). IsFirstLabel l label) (sym (four_same (base pv) (image pv) same)) found'.0,
+        subst (λ (s : List ℕ). Refuses s (disk.sectors * 512) refusal) (sym (same label found'.0.among)) found'.1,
+        found'.2,
+      )
+      bare_contents (Whole label header areas) none same found' = absurd cc
+
+      -- what was found on a disk without a header stands there still
+      pub without_header : (contents : Option PvFound) → disk.contents ≡ contents → option_and_then pv_in contents ≡ None → (reading : Reading) → IsContents (base pv) disk.sectors contents → IsContents (image pv) disk.sectors contents
+      without_header None is none reading c = tt
+      without_header (Some contents) is none reading c = bare_contents contents none (no_label (ap (option_and_then pv_in) is ∙ none)) c
+
+      bare_pv : (contents : Option PvFound) → option_and_then pv_in contents ≡ None → (read : Option PvOf) → IsPvReading pv (base pv) contents read → IsPvReading pv (image pv) contents read
+      bare_pv None none read is = is
+      bare_pv (Some (NoLabel refusal)) none read is = is
+      bare_pv (Some (NoHeader label refusal)) none read is = is
+      bare_pv (Some (Whole label header areas)) none read is = absurd cc
+
+      bare_disk : (passed : List (List ℕ)) → option_and_then pv_in disk.contents ≡ None → (reading : Reading) → IsDiskReading pv (base pv) disk reading → DiskAgain pv (image pv) (λ id. true) lost (Copy group text passed) disk reading
+      bare_disk passed none reading read = record {
+        there = disk;
+        read = reading;
+        sectors_xl = refl;
+        unread = λ is. is;
+        unread_there = λ is. is;
+        is = record { contents = without_header disk.contents refl none reading read.contents; sectors_xl = read.sectors_xl; pv_xl = bare_pv disk.contents none reading.pv read.pv_xl };
+        same_sectors = refl;
+        again = pv_same (λ id. true) lost (Copy group text passed) reading.pv;
+        ids = λ id. refl;
+        areas_xl = refl;
+      }
+
+      whole_of : (contents : Option PvFound) (pair : ℕ × PvHeader) → option_and_then pv_in contents ≡ Some pair → (areas : List AreaFound) × (contents ≡ Some (Whole pair.0 pair.1 areas))
+      whole_of None pair is = absurd cc
+      whole_of (Some (NoLabel refusal)) pair is = absurd cc
+      whole_of (Some (NoHeader label refusal)) pair is = absurd cc
+      whole_of (Some (Whole label header areas)) pair is = (areas, ap (λ (x : ℕ × PvHeader). Some (Whole x.0 x.1 areas)) (same_Some (label, header) pair is))
+
+      by_pv : (passed : List (List ℕ)) → IsCopyOf text group passed → (reading : Reading) → IsDiskReading pv (base pv) disk reading → (o : Option (ℕ × PvHeader)) → option_and_then pv_in disk.contents ≡ o
+          → DiskAgain pv (image pv) (λ id. true) lost (Copy group text passed) disk reading
+      by_pv passed copy reading read None is = bare_disk passed is reading read
+      by_pv passed copy reading read (Some pair) is =
+          let w = whole_of disk.contents pair is in
+          let stands = subst (λ (c : Option PvFound). ContentsCanStand pv disk.sectors c) w.1 (are_disks pv disk there).contents in
+          with_header pair.0 pair.1 w.0 w.1 stands.0 passed copy reading read
+
+      pub each_again : (passed : List (List ℕ)) → IsCopyOf text group passed → (reading : Reading) → IsDiskReading pv (base pv) disk reading → DiskAgain pv (image pv) (λ id. true) lost (Copy group text passed) disk reading
+      each_again passed copy reading read = by_pv passed copy reading read (option_and_then pv_in disk.contents) refl
