@@ -4,15 +4,14 @@ use Rattle.image_scans.specs.Versions.{Version}
 use Rattle.lvm_script.specs.Options.{Word}
 use Rattle.lvm_script.specs.declared.answer.Answer.{Answer}
 use Rattle.lvm_script.specs.declared.line.Line.{Line}
-use Rattle.lvm_script.specs.declared.op_refusal.OpRefusal.{OpRefusal}
 use Rattle.volume_history.proofs.Bits.{and_both}
 use Rattle.volume_history.proofs.CommandKinds.{quiet_command}
 use Rattle.volume_history.specs.Chronicles.{Begun, Changed, Entry, GivenUp, Origin, Took, origin_at, pending}
-use Rattle.volume_history.specs.Commands.{commits, failed_pv, is_data, is_move, is_wait}
+use Rattle.volume_history.specs.Commands.{commits, failed_pv, is_data, is_good, is_move, is_refused, is_wait}
 use Rattle.volume_history.specs.Legal.{AllFaithful, AllOrdered, FindsNow, GivesMachine, IsFaithful, IsOrdered, Makes, is_new_piece, is_pending, key_named, may_answer, may_answer_command, may_answer_data}
 use Rattle.volume_history.specs.Quiet.{is_quiet}
 use Rattle.volume_history.specs.Runs.{zero_piece}
-use Rattle.volume_history.specs.Single.{answered_entries, begun_entries, created_entries, done_entries, end_of, fenced_entries, given_up_entries, open_entries}
+use Rattle.volume_history.specs.Single.{answered_entries, begun_entries, taken_entries, done_entries, end_of, fenced_entries, given_up_entries, open_entries}
 use Rattle.lvm_script.specs.declared.answer.Answer.TheVariants as answer
 
 or_true : (b : Bool) → (b || true) ≡ true
@@ -23,11 +22,27 @@ not_or_true : (b : Bool) → (not b || true) ≡ true
 not_or_true true = refl
 not_or_true false = refl
 
-moved_or_alone : (a b : Bool) → ((a || true) && (not b || true)) ≡ true
-moved_or_alone true true = refl
-moved_or_alone true false = refl
-moved_or_alone false true = refl
-moved_or_alone false false = refl
+undone_test : (good refused moves waits : Bool) → good ≡ false → ((not good || false) && (not refused || moves || true) && (not waits || true)) ≡ true
+undone_test true r m w bad = cc
+undone_test false true true true bad = refl
+undone_test false true true false bad = refl
+undone_test false true false true bad = refl
+undone_test false true false false bad = refl
+undone_test false false m true bad = refl
+undone_test false false m false bad = refl
+
+-- an answer that isn't good gives nothing of the machine
+pub gives_nothing : (o : Origin) (es : List Entry) (n : ℕ) (a : Answer) → is_good a ≡ false → GivesMachine o es n a
+gives_nothing o es n answer.Fine bad = cc
+gives_nothing o es n (answer.Read sectors) bad = cc
+gives_nothing o es n (answer.Listed volumes) bad = cc
+gives_nothing o es n (answer.Refused refusal) bad = tt
+gives_nothing o es n (answer.ReadFailed pv) bad = tt
+gives_nothing o es n (answer.PvFailed pv) bad = tt
+gives_nothing o es n (answer.Fenced pv) bad = tt
+gives_nothing o es n (answer.Stopped pv) bad = tt
+gives_nothing o es n answer.Aborted bad = tt
+gives_nothing o es n answer.NoMemory bad = tt
 
 -- ---- order
 
@@ -53,23 +68,12 @@ module _ (o : Origin) (line : Line) (quiet : is_quiet line.command ≡ true) (un
   begun_faithful : IsFaithful (origin_at o.start o) [] (Begun o.start 0 line 0)
   begun_faithful = ap (λ (v : Option Word). key_named (origin_at o.start o) [] v) (sym (quiet_command line.command quiet).unnamed)
 
-  -- it is refused
-  pub refused_ordered : (refusal : OpRefusal) → AllOrdered o.start (answered_entries o line (answer.Refused refusal))
-  refused_ordered refusal = (
+  -- it isn't done
+  pub undone_ordered : (a : Answer) → is_good a ≡ false → AllOrdered o.start (answered_entries o line a)
+  undone_ordered a bad = (
     record {
       moments = until;
-      order = answer_of (begun_entries o line) line (answer.Refused refusal) quiet_data (moved_or_alone (is_move line.command) (is_wait line.command)) refl;
-      makes = tt;
-    },
-    begun_ordered,
-  )
-
-  -- or a disk fails under it
-  pub failed_ordered : (pv : ℕ) → AllOrdered o.start (answered_entries o line (answer.PvFailed pv))
-  failed_ordered pv = (
-    record {
-      moments = until;
-      order = answer_of (begun_entries o line) line (answer.PvFailed pv) quiet_data (not_or_true (is_wait line.command)) refl;
+      order = answer_of (begun_entries o line) line a quiet_data (undone_test (is_good a) (is_refused a) (is_move line.command) (is_wait line.command) bad) refl;
       makes = tt;
     },
     begun_ordered,
@@ -85,7 +89,7 @@ module _ (o : Origin) (line : Line) (quiet : is_quiet line.command ≡ true) (un
   take_test false false a true d e t = refl
   take_test false false a false d e t = cc
 
-  pub created_ordered : commits line.command ≡ false → AllOrdered o.start (created_entries o line)
+  pub created_ordered : commits line.command ≡ false → AllOrdered o.start (taken_entries o line)
   created_ordered none = (
     record {
       moments = omega arith;
@@ -102,7 +106,7 @@ module _ (o : Origin) (line : Line) (quiet : is_quiet line.command ≡ true) (un
     ),
   )
 
-  pub created_faithful : AllFaithful o (created_entries o line)
+  pub created_faithful : AllFaithful o (taken_entries o line)
   created_faithful = (tt, (tt, (begun_faithful, tt)))
 
   -- its commit starts

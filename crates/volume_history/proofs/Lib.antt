@@ -1,4 +1,4 @@
-mod Bits
+pub mod Bits
 pub mod Past
 pub mod Legal
 pub mod Bases
@@ -14,7 +14,7 @@ pub mod Phases
 mod Written
 mod LegalLines
 pub mod SingleLines
-mod OneVersion
+pub mod OneVersion
 mod Viewed
 mod SmallGroups
 mod Examples

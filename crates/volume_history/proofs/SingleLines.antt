@@ -8,20 +8,20 @@ use Rattle.lvm_script.specs.declared.answer.Answer.{Answer}
 use Rattle.lvm_script.specs.declared.line.Line.{Line}
 use Rattle.volume_history.proofs.Bits.{eq_of}
 use Rattle.volume_history.proofs.CommandKinds.{KeepsBy, created_quiet, keeps_by, quiet_command}
-use Rattle.volume_history.proofs.LegalLines.{answered_faithful, created_faithful, created_ordered, done_faithful, done_ordered, failed_ordered, fenced_faithful, fenced_ordered, given_up_faithful, given_up_ordered, refused_ordered}
+use Rattle.volume_history.proofs.LegalLines.{answered_faithful, created_faithful, created_ordered, done_faithful, done_ordered, fenced_faithful, fenced_ordered, gives_nothing, given_up_faithful, given_up_ordered, undone_ordered}
 use Rattle.volume_history.proofs.Past.{now_before}
 use Rattle.volume_history.proofs.Phases.{IsPhase, all_moments, finds_with, told_at_end}
 use Rattle.volume_history.proofs.Quiet.{took_nothing}
 use Rattle.volume_history.proofs.Written.{since_seen, since_seen_now, since_start, unwritten_by}
 use Rattle.volume_history.specs.Candidates.{IsConsistentMoment, no_image}
 use Rattle.volume_history.specs.Chronicles.{Answered, Changed, Entry, GivenUp, Origin, Took, has_written, left_out, names_disk, now_at, origin_at, steps_upto}
-use Rattle.volume_history.specs.Commands.{commits, created_disk, is_fine}
-use Rattle.volume_history.specs.Laws.{DoneCreate, FailedCreate, NoLine, RefusedLine, Tells}
+use Rattle.volume_history.specs.Commands.{commits, created_disk, is_fine, is_good}
+use Rattle.volume_history.specs.Laws.{DoneCreate, FailedCreate, NoLine, Tells}
 use Rattle.volume_history.specs.Legal.{AllFaithful, AllOrdered, FindsNow, last_moment}
 use Rattle.volume_history.specs.Quiet.{is_quiet}
 use Rattle.volume_history.specs.Replay.{plain_state}
 use Rattle.volume_history.specs.Runs.{zero_piece}
-use Rattle.volume_history.specs.Single.{CommitLaw, CreateLaw, DoneLaw, GivenUpLaw, IsStill, LeavesDisk, answered_entries, begun_entries, created_entries, done_entries, end_of, fenced_entries, given_up_entries, is_half_made, none_out, open_entries}
+use Rattle.volume_history.specs.Single.{AllFind, CommitLaw, CreateLaw, DoneLaw, GivenUpLaw, IsStill, LeavesDisk, StaysLaw, answered_entries, begun_entries, taken_entries, done_entries, end_of, fenced_entries, given_up_entries, is_half_made, none_out, open_entries}
 use Rattle.lvm_script.specs.declared.answer.Answer.TheVariants as answer
 
 -- the run has a history with these entries, where it is legal and each moment is consistent
@@ -67,7 +67,38 @@ module _ (o : Origin) (line : Line) where
       ap (λ (b : Bool). if names_disk (created_disk o.names line.command) pv && has_written (take (end_of o - o.start) (steps_upto (origin_at (end_of o) o) (end_of o))) pv then not b else false) bad
       ∙ ap (λ (l : List Step). leaves (created_disk o.names line.command) (has_written l pv) pv) (since_seen o (end_of o) (omega arith))
 
--- ---- no line, and a line that is refused
+-- ---- no line, and a line that commits nothing and writes nothing
+
+-- an answer that isn't good isn't ok
+not_fine : (a : Answer) → is_good a ≡ false → is_fine a ≡ false
+not_fine answer.Fine bad = cc
+not_fine (answer.Read sectors) bad = cc
+not_fine (answer.Listed volumes) bad = cc
+not_fine (answer.Refused refusal) bad = refl
+not_fine (answer.ReadFailed pv) bad = refl
+not_fine (answer.PvFailed pv) bad = refl
+not_fine (answer.Fenced pv) bad = refl
+not_fine (answer.Stopped pv) bad = refl
+not_fine answer.Aborted bad = refl
+not_fine answer.NoMemory bad = refl
+
+-- a quiet command that commits nothing took place, and is answered ok: no disk is left out
+is_taken : (o : Origin) (line : Line) → is_quiet line.command ≡ true → AllFind o.sizes none_out o.version o.told → IsPhase o (taken_entries o line) (end_of o)
+is_taken o line quiet finds = record {
+  quiet = record {
+    lines = (quiet, tt);
+    volumes = refl;
+    name = sym (ap (λ (s : PlainStep). (plain_after (plain_state (origin_at (end_of o) o) (begun_entries o line)) s).group)
+        (took_nothing (Some (line, 0)) (zero_piece 0) (quiet_command line.command quiet).writes_xl));
+    next = tt;
+  };
+  scans = λ image is. inl (finds_with o.sizes image none_out (left_out (origin_at (end_of o) o) (taken_entries o line) (length (origin_at (end_of o) o).told.steps)) o.version
+      (λ k. none_left _) (finds image (subst (λ (t : Told). IsImage t image) (told_at_end o) is)));
+}
+  where
+    none_left : (b : Bool) → false ≡ (if b then false else false)
+    none_left true = refl
+    none_left false = refl
 
 pub no_line : NoLine
 no_line o law =
@@ -80,28 +111,34 @@ no_line o law =
       scans = λ image is. inl (finds_with o.sizes image none_out (left_out (origin_at m o) [] (length (origin_at m o).told.steps)) o.version (λ pv. refl) (law.after m ge le image is));
     }
 
-pub refused_line : RefusedLine
-refused_line o line refusal law quiet alone =
-    tells o (answered_entries o line (answer.Refused refusal)) law.still (omega arith)
-    (refused_ordered o line quiet law.still.until refusal) (answered_faithful o line quiet law.still.until (answer.Refused refusal) tt)
-    (all_moments o law.still (Answered (end_of o) 0 (answer.Refused refusal) ∷ []) (begun_entries o line) (refl, tt) (refl, tt) begun answered)
-  where
-    begun : (m : ℕ) → o.start ≤ m → m < end_of o → IsPhase o (begun_entries o line) m
-    begun m ge lt =
-        let le : m ≤ end_of o = omega (arith, lt) in
-        record {
-          quiet = record { lines = (quiet, tt); volumes = refl; name = refl; next = tt };
-          scans = λ image is. inl (finds_with o.sizes image none_out (left_out (origin_at m o) (begun_entries o line) (length (origin_at m o).told.steps)) o.version
-              (λ pv. leaves_none o line alone m ge le (λ k. has_written (since_start o m) k) (λ k. refl) pv ∙ sym (out_begun o line m le pv)) (law.after m ge le image is));
-        }
+module _ (o : Origin) (line : Line) (law : StaysLaw o) (quiet : is_quiet line.command ≡ true) (alone : LeavesDisk o line) where
+  is_open_line : (m : ℕ) → o.start ≤ m → m ≤ end_of o → IsPhase o (begun_entries o line) m
+  is_open_line m ge le = record {
+    quiet = record { lines = (quiet, tt); volumes = refl; name = refl; next = tt };
+    scans = λ image is. inl (finds_with o.sizes image none_out (left_out (origin_at m o) (begun_entries o line) (length (origin_at m o).told.steps)) o.version
+        (λ pv. leaves_none o line alone m ge le (λ k. has_written (since_start o m) k) (λ k. refl) pv ∙ sym (out_begun o line m le pv)) (law.after m ge le image is));
+  }
 
-    answered : IsPhase o (answered_entries o line (answer.Refused refusal)) (end_of o)
-    answered = record {
-      quiet = record { lines = (quiet, tt); volumes = refl; name = refl; next = tt };
-      scans = λ image is. inl (finds_with o.sizes image none_out (left_out (origin_at (end_of o) o) (answered_entries o line (answer.Refused refusal)) (length (origin_at (end_of o) o).told.steps)) o.version
-          (λ pv. leaves_none o line alone (end_of o) law.still.until (omega arith) (λ k. has_written (since_start o (end_of o)) k) (λ k. refl) pv ∙ sym (out_answered o line (answer.Refused refusal) refl pv))
-          (law.after (end_of o) law.still.until (omega arith) image is));
-    }
+  pub undone_line : (a : Answer) → is_good a ≡ false → Tells o (answered_entries o line a)
+  undone_line a bad =
+      tells o (answered_entries o line a) law.still (omega arith)
+      (undone_ordered o line quiet law.still.until a bad) (answered_faithful o line quiet law.still.until a (gives_nothing (origin_at (end_of o) o) (begun_entries o line) 0 a bad))
+      (all_moments o law.still (Answered (end_of o) 0 a ∷ []) (begun_entries o line) (refl, tt) (refl, tt) (λ m ge lt. is_open_line m ge (omega (arith, lt))) answered)
+    where
+      answered : IsPhase o (answered_entries o line a) (end_of o)
+      answered = record {
+        quiet = record { lines = (quiet, tt); volumes = refl; name = refl; next = tt };
+        scans = λ image is. inl (finds_with o.sizes image none_out (left_out (origin_at (end_of o) o) (answered_entries o line a) (length (origin_at (end_of o) o).told.steps)) o.version
+            (λ pv. leaves_none o line alone (end_of o) law.still.until (omega arith) (λ k. has_written (since_start o (end_of o)) k) (λ k. refl) pv ∙ sym (out_answered o line a (not_fine a bad) pv))
+            (law.after (end_of o) law.still.until (omega arith) image is));
+      }
+
+  pub done_line : commits line.command ≡ false → Tells o (taken_entries o line)
+  done_line none =
+      tells o (taken_entries o line) law.still (omega arith)
+      (created_ordered o line quiet law.still.until none) (created_faithful o line quiet law.still.until)
+      (all_moments o law.still (Answered (end_of o) 0 answer.Fine ∷ Took (end_of o) 0 (zero_piece 0) ∷ []) (begun_entries o line) (refl, (refl, tt)) (refl, tt)
+      (λ m ge lt. is_open_line m ge (omega (arith, lt))) (is_taken o line quiet (λ image is. law.after (end_of o) law.still.until (omega arith) image (subst (λ (t : Told). IsImage t image) (sym (told_at_end o)) is))))
 
 -- ---- commits
 
@@ -212,32 +249,15 @@ module _ (o : Origin) (line : Line) (disk before : ℕ) (law : CreateLaw o line 
 
 pub done_create : DoneCreate
 done_create o line disk law done =
-    tells o (created_entries o line) law.still (omega arith)
+    tells o (taken_entries o line) law.still (omega arith)
     (created_ordered o line (kind o line disk (end_of o) law).0 law.still.until (kind o line disk (end_of o) law).1) (created_faithful o line (kind o line disk (end_of o) law).0 law.still.until)
     (all_moments o law.still (Answered (end_of o) 0 answer.Fine ∷ Took (end_of o) 0 (zero_piece 0) ∷ []) (begun_entries o line) (refl, (refl, tt)) (refl, tt)
-    (λ m ge lt. is_begun o line disk (end_of o) law m ge lt (omega (arith, lt))) is_created)
-  where
-    none_left : (b : Bool) → false ≡ (if b then false else false)
-    none_left true = refl
-    none_left false = refl
-
-    is_created : IsPhase o (created_entries o line) (end_of o)
-    is_created = record {
-      quiet = record {
-        lines = ((kind o line disk (end_of o) law).0, tt);
-        volumes = refl;
-        name = sym (ap (λ (s : PlainStep). (plain_after (plain_state (origin_at (end_of o) o) (begun_entries o line)) s).group)
-            (took_nothing (Some (line, 0)) (zero_piece 0) (quiet_command line.command (kind o line disk (end_of o) law).0).writes_xl));
-        next = tt;
-      };
-      scans = λ image is. inl (finds_with o.sizes image none_out (left_out (origin_at (end_of o) o) (created_entries o line) (length (origin_at (end_of o) o).told.steps)) o.version
-          (λ k. none_left _) (done.after image (subst (λ (t : Told). IsImage t image) (told_at_end o) is)));
-    }
+    (λ m ge lt. is_begun o line disk (end_of o) law m ge lt (omega (arith, lt))) (is_taken o line (kind o line disk (end_of o) law).0 done.after))
 
 pub failed_create : FailedCreate
 failed_create o line disk pv law =
     tells o (answered_entries o line (answer.PvFailed pv)) law.still (omega arith)
-    (failed_ordered o line (kind o line disk (end_of o + 1) law).0 law.still.until pv) (answered_faithful o line (kind o line disk (end_of o + 1) law).0 law.still.until (answer.PvFailed pv) tt)
+    (undone_ordered o line (kind o line disk (end_of o + 1) law).0 law.still.until (answer.PvFailed pv) refl) (answered_faithful o line (kind o line disk (end_of o + 1) law).0 law.still.until (answer.PvFailed pv) tt)
     (all_moments o law.still (Answered (end_of o) 0 (answer.PvFailed pv) ∷ []) (begun_entries o line) (refl, tt) (refl, tt)
     (λ m ge lt. is_begun o line disk (end_of o + 1) law m ge (omega (arith, lt)) (omega (arith, lt))) is_failed)
   where

@@ -1,13 +1,14 @@
 -- The laws of histories.
-use Rattle.std.specs.Prelude.{◌≡◌, ◌≤◌, ℕ, suc, ◌+◌, Bool, true, List, [], ◌∷◌, length, map, Option, Some}
+use Rattle.std.specs.Prelude.{◌≡◌, ◌≤◌, ℕ, suc, ◌+◌, Bool, true, false, List, [], ◌∷◌, length, map, Option, Some}
 use Rattle.disk_model.specs.Steps.{Image, Step}
 use Rattle.image_scans.specs.Versions.{FindsVersion, Version}
+use Rattle.lvm_script.specs.declared.answer.Answer.{Answer}
 use Rattle.lvm_script.specs.declared.answer.Answer.TheVariants as answer
 use Rattle.lvm_script.specs.declared.line.Line.{Line}
-use Rattle.lvm_script.specs.declared.op_refusal.OpRefusal.{OpRefusal}
 use Rattle.volume_rules.specs.Rules.{IsAccepted}
 use Rattle.volume_view.specs.View.{view}
 use Rattle.volume_history.specs.Placed.{Place, PlacedVolume, group_name, values_on, volumes_of}
+use Rattle.volume_history.specs.Commands.{commits, is_good}
 use Rattle.volume_history.specs.Chronicles.{AreUpto, Entry, Answered, Origin, Chronicle, moment_of, chronicle_at, in_force, origin_at, origin_on, pending, with_step, with_entry}
 use Rattle.volume_history.specs.Replay.{plain_state}
 use Rattle.volume_history.specs.Legal.{IsFaithful, IsLegalHistory, IsOrdered}
@@ -15,7 +16,7 @@ use Rattle.volume_history.specs.Candidates.{base, candidates, IsConsistentMoment
 use Rattle.volume_history.specs.Parts.{NextPart, PlaceHolds, Primaries, ScansPart}
 use Rattle.volume_history.specs.Quiet.{IsQuietMoment, is_quiet}
 use Rattle.volume_history.specs.Runs.{HasHistory, Run, journal_of, lines_of}
-use Rattle.volume_history.specs.Single.{CommitLaw, CreateLaw, CreatedLaw, DoneLaw, GivenUpLaw, LeavesDisk, StaysLaw, created_entries, done_entries, end_of, fenced_entries, given_up_entries, answered_entries}
+use Rattle.volume_history.specs.Single.{CommitLaw, CreateLaw, CreatedLaw, DoneLaw, GivenUpLaw, LeavesDisk, StaysLaw, taken_entries, done_entries, end_of, fenced_entries, given_up_entries, answered_entries}
 use Rattle.volume_history.specs.Sources.{HoldsFrom, IsSource, MovesNone, Source, value_of}
 
 -- an earlier moment stays what it was, whatever is told or entered later
@@ -87,11 +88,17 @@ Tells o es = HasHistory (run_of o) (journal_of es) (lines_of es es)
 abbrev pub NoLine : Type 0
 NoLine = (o : Origin) → StaysLaw o → Tells o []
 
--- a line that was refused
-abbrev pub RefusedLine : Type 0
-RefusedLine =
-    (o : Origin) (line : Line) (refusal : OpRefusal) → StaysLaw o → is_quiet line.command ≡ true → LeavesDisk o line
-    → Tells o (answered_entries o line (answer.Refused refusal))
+-- a line that wasn't done, and wrote nothing: it was refused, or a read failed
+abbrev pub UndoneLine : Type 0
+UndoneLine =
+    (o : Origin) (line : Line) (answer : Answer) → StaysLaw o → is_quiet line.command ≡ true → LeavesDisk o line → is_good answer ≡ false
+    → Tells o (answered_entries o line answer)
+
+-- a line that was done, and commits and writes nothing: a report
+abbrev pub DoneLine : Type 0
+DoneLine =
+    (o : Origin) (line : Line) → StaysLaw o → is_quiet line.command ≡ true → LeavesDisk o line → commits line.command ≡ false
+    → Tells o (taken_entries o line)
 
 -- a commit that was done
 abbrev pub DoneCommit : Type 0
@@ -107,7 +114,7 @@ FencedCommit = (o : Origin) (line : Line) (version : Option Version) (pv : ℕ) 
 
 -- a pvcreate that was done
 abbrev pub DoneCreate : Type 0
-DoneCreate = (o : Origin) (line : Line) (disk : ℕ) → CreateLaw o line disk (end_of o) → CreatedLaw o → Tells o (created_entries o line)
+DoneCreate = (o : Origin) (line : Line) (disk : ℕ) → CreateLaw o line disk (end_of o) → CreatedLaw o → Tells o (taken_entries o line)
 
 -- one that failed
 abbrev pub FailedCreate : Type 0

@@ -46,9 +46,9 @@ given_up_entries o line version pv = Answered (end_of o) 0 (answer.PvFailed pv) 
 abbrev pub fenced_entries : Origin → Line → Option Version → ℕ → List Entry
 fenced_entries o line version pv = Answered (end_of o) 0 (answer.PvFailed pv) ∷ open_entries o line version
 
--- a pvcreate was done
-abbrev pub created_entries : Origin → Line → List Entry
-created_entries o line = Answered (end_of o) 0 answer.Fine ∷ Took (end_of o) 0 (zero_piece 0) ∷ begun_entries o line
+-- a command that commits nothing was done
+abbrev pub taken_entries : Origin → Line → List Entry
+taken_entries o line = Answered (end_of o) 0 answer.Fine ∷ Took (end_of o) 0 (zero_piece 0) ∷ begun_entries o line
 
 -- ---- what the layers below give
 

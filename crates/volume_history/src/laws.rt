@@ -1,7 +1,7 @@
 //! Laws of histories: each function does nothing, and its clauses are proved.
 ghost use Rattle.volume_history.specs.Laws.{AnswersKeep, BasesStay, HistoriesGrow, PastStays, ReplayStays, SourcesAreCandidates};
 ghost use Rattle.volume_history.specs.Laws.{PartsMakeConsistent, QuietIsConsistent, ScansAreOne, VolumesAreViewed};
-ghost use Rattle.volume_history.specs.Laws.{DoneCommit, DoneCreate, FailedCreate, FencedCommit, GivenUpCommit, NoLine, RefusedLine};
+ghost use Rattle.volume_history.specs.Laws.{DoneCommit, DoneCreate, DoneLine, FailedCreate, FencedCommit, GivenUpCommit, NoLine, UndoneLine};
 
 use vg_scan::one_reading;
 use volume_view::places_stand;
@@ -46,7 +46,8 @@ pub fn volumes_are_viewed()
 /// ends.
 pub fn single_commands()
     ensures no_line { NoLine }
-    ensures refused { RefusedLine }
+    ensures undone { UndoneLine }
+    ensures line { DoneLine }
     ensures done { DoneCommit }
     ensures given_up { GivenUpCommit }
     ensures fenced { FencedCommit }

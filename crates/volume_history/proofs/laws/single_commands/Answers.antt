@@ -1,11 +1,14 @@
-use Rattle.volume_history.proofs.SingleLines.{done_commit, done_create, failed_create, fenced_commit, given_up_commit, no_line, refused_line}
+use Rattle.volume_history.proofs.SingleLines.{done_commit, done_create, done_line, failed_create, fenced_commit, given_up_commit, no_line, undone_line}
 use Rattle.volume_history.proofs.laws.single_commands.Goals as goal
 
 pub returns-clause-no_line : goal.returns-clause-no_line
 returns-clause-no_line c = λ o law. no_line o law
 
-pub returns-clause-refused : goal.returns-clause-refused
-returns-clause-refused c = λ o line refusal law quiet alone. refused_line o line refusal law quiet alone
+pub returns-clause-undone : goal.returns-clause-undone
+returns-clause-undone c = λ o line answer law quiet alone bad. undone_line o line law quiet alone answer bad
+
+pub returns-clause-line : goal.returns-clause-line
+returns-clause-line c = λ o line law quiet alone none. done_line o line law quiet alone none
 
 pub returns-clause-done : goal.returns-clause-done
 returns-clause-done c = λ o line version law done. done_commit o line version law done
