@@ -1,0 +1,66 @@
+-- Any of the disks of an image, the others taken as empty: what each gives, all of these give.
+use Rattle.std.proofs.Common.{◌≡◌, ℕ, suc, ◌+◌, Bool, true, false, List, [], ◌∷◌, map, Some, None, refl, sym, subst, ◌∙◌, arith}
+use Rattle.std.specs.Prelude.{slice_get}
+use Rattle.std.specs.FinSet as set
+use Rattle.std.specs.Ordering.{nat_cmp}
+use Rattle.std.proofs.lemmas.Bool.{true≢false}
+use Rattle.disk_model.specs.Steps.{Image}
+use Rattle.scan_rules.specs.Decision.{AreaReading, Reading}
+use Rattle.vg_found.specs.Shape.{IsUnread}
+use Rattle.vg_found.specs.declared.disk.Disk.{Disk}
+use Rattle.vg_scan.specs.Readings.{AreDiskReadings, IsDiskReading}
+use Rattle.image_scans.proofs.Given.{DisksGive, PvGives}
+
+-- a disk as it is found and reads in an image, where it is read
+pub record OneRead (pv : ℕ) (sector_at : ℕ → List ℕ) (P : AreaReading → Type 0) (disk : Disk) : Type 0 where
+  pub there : Disk
+  pub read : Reading
+  pub sectors_xl : there.sectors ≡ disk.sectors
+  pub is_read : there.contents ≡ None → ⊥
+  pub is : IsDiskReading pv sector_at there read
+  pub gives : PvGives P read.pv
+
+-- all disks, of which some are left unread
+pub record SetRead (image : Image) (unread : set.FinSet nat_cmp) (first : ℕ) (P : AreaReading → Type 0) (disks : List Disk) : Type 0 where
+  pub there : List Disk
+  pub read : List Reading
+  pub sizes_xl : map (λ (d : Disk). d.sectors) there ≡ map (λ (d : Disk). d.sectors) disks
+  pub are : AreDiskReadings image unread first there read
+  pub gives : DisksGive (λ disk. P) read
+
+module _ (image : Image) (unread : set.FinSet nat_cmp) (P : AreaReading → Type 0) where
+  with_one : (first : ℕ) (disk : Disk) (disks : List Disk) (b : Bool) → set.contains unread first ≡ b → OneRead first (image first) P disk → SetRead image unread (first + 1) P disks → SetRead image unread first P (disk ∷ disks)
+  with_one first disk disks true is one later = record {
+    there = record { sectors = disk.sectors; contents = None } ∷ later.there;
+    read = record { sectors = disk.sectors; pv = None } ∷ later.read;
+    sizes_xl = λ i. disk.sectors ∷ later.sizes_xl i;
+    are = (((λ none. is), (λ has. refl)), record { contents = tt; sectors_xl = refl; pv_xl = refl }, later.are);
+    gives = (tt, later.gives);
+  }
+  with_one first disk disks false is one later = record {
+    there = one.there ∷ later.there;
+    read = one.read ∷ later.read;
+    sizes_xl = λ i. one.sectors_xl i ∷ later.sizes_xl i;
+    are = (((λ none. absurd (one.is_read none)), (λ has. absurd (true≢false (sym has ∙ is)))), one.is, later.are);
+    gives = (one.gives, later.gives);
+  }
+
+  -- each of these disks, by how it reads in the base
+  pub set_read : (base : Image) (away : set.FinSet nat_cmp) (first : ℕ) (disks : List Disk) (readings : List Reading) → AreDiskReadings base away first disks readings
+      → ((k : ℕ) (disk : Disk) (reading : Reading) → slice_get disks k ≡ Some disk → slice_get readings k ≡ Some reading → IsUnread away (first + k) disk → IsDiskReading (first + k) (base (first + k)) disk reading
+      → OneRead (first + k) (image (first + k)) P disk)
+      → SetRead image unread first P disks
+  set_read base away first [] [] are each = record { there = []; read = []; sizes_xl = refl; are = tt; gives = tt }
+  set_read base away first [] (reading ∷ readings) are each = absurd are
+  set_read base away first (disk ∷ disks) [] are each = absurd are
+  set_read base away first (disk ∷ disks) (reading ∷ readings) are each =
+      let here : first + 0 ≡ first = omega arith in
+      let one : OneRead (first + 0) (image (first + 0)) P disk =
+      each 0 disk reading refl refl (subst (λ (n : ℕ). IsUnread away n disk) (sym here) are.0) (subst (λ (n : ℕ). IsDiskReading n (base n) disk reading) (sym here) are.1)
+      in
+      with_one first disk disks (set.contains unread first) refl (subst (λ (n : ℕ). OneRead n (image n) P disk) here one)
+      (set_read base away (first + 1) disks readings are.2
+      (λ k d r at_disk at_reading is_unread is.
+      let next : first + 1 + k ≡ first + suc k = omega arith in
+      subst (λ (n : ℕ). OneRead n (image n) P d) (sym next)
+      (each (suc k) d r at_disk at_reading (subst (λ (n : ℕ). IsUnread away n d) next is_unread) (subst (λ (n : ℕ). IsDiskReading n (base n) d r) next is))))

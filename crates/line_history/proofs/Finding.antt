@@ -1,0 +1,116 @@
+-- What a scan finds in the images of a run of one line, and that the places of volumes keep their contents.
+use Rattle.std.proofs.Common.{◌≡◌, ℕ, true, false, Some, ⊎_elim, refl, sym, ap, subst, ◌∙◌}
+use Rattle.std.proofs.Math.Path.{fun_ext}
+use Rattle.std.proofs.lemmas.Bool.{false≢true}
+use Rattle.sector_base.specs.declared.places.At.{At}
+use Rattle.disk_batch.proofs.InTurn.{first_none}
+use Rattle.disk_batch.specs.InTurn.{HasFirstBatches, with_batches}
+use Rattle.disk_model.specs.Steps.{Image, IsSame, Told}
+use Rattle.image_scans.proofs.CommitLine.{all_written}
+use Rattle.image_scans.proofs.LineScans.{base_scans}
+use Rattle.image_scans.proofs.NoWrites.{place_kept}
+use Rattle.image_scans.specs.Laws.{CanCarryOut, none_out}
+use Rattle.image_scans.specs.Versions.{FindsVersion, version_in}
+use Rattle.meta_model.specs.declared.group.Group.{Group}
+use Rattle.repair_scans.proofs.RepairFound.{repairs_scan}
+use Rattle.repair_scans.proofs.RepairPlaces.{place_kept as repair_keeps}
+use Rattle.repair_scans.proofs.SameVersion.{version_kept}
+use Rattle.repair_scans.specs.Laws.{CanRepair, RepairedScans}
+use Rattle.vg_repair.proofs.RepairedSizes.{repaired_count}
+use Rattle.vg_repair.specs.Repaired.{repaired_of}
+use Rattle.vg_scan.specs.Scans.{IsScanOf}
+use Rattle.volume_view.specs.Places.{primary}
+use Rattle.volume_view.specs.View.{at_place}
+use Rattle.line_history.proofs.Images.{IsAfter, IsBefore, begun_repair}
+use Rattle.line_history.specs.LineRun.{Given, RunsLine, Stage, batches_in, is_repaired, line_begun, repair_begun, repairs_in}
+
+-- images that are the same in each sector are one
+pub one_image : (a b : Image) → IsSame a b → a ≡ b
+one_image a b same = fun_ext (λ pv. fun_ext (λ sector. same pv sector))
+
+-- the places of the volumes of the group that was found have what they have in the base
+abbrev pub KeepsPlaces : Given → Image → Type 0
+KeepsPlaces g image =
+    (group : Group) → g.found.group ≡ Some group → (lv sector : ℕ) (at : At) → primary group lv sector ≡ Some at → at_place image g.found.disk_of at ≡ at_place g.base g.found.disk_of at
+
+-- the base and all of the repair
+abbrev pub repaired_base : Given → Image
+repaired_base g = with_batches (repairs_in g) g.base
+
+module _ (scans : RepairedScans) (g : Given) (stage : Stage) (start ended : Told) (r : RunsLine g stage start ended) where
+  pub found_before : FindsVersion g.sizes g.base none_out (version_in g.found)
+  found_before = base_scans g.base g.sizes g.found r.given.scan r.given.whole
+
+  can_repair : repair_begun stage ≡ true → CanRepair g.base g.sizes g.found
+  can_repair begun = record { scan = r.given.scan; shape = r.given.shape; whole = r.given.whole; fits = r.fits begun; keeps = r.repair_keeps begun }
+
+  pub finds_before : (image : Image) → IsBefore g stage start ended r image → FindsVersion g.sizes image none_out (version_in g.found)
+  finds_before image is =
+      ⊎_elim
+      (λ same. subst (λ (i : Image). FindsVersion g.sizes i none_out (version_in g.found)) (sym (one_image image g.base same)) found_before)
+      (λ way. (repairs_scan g.base g.sizes g.found (can_repair way.0) image way.1).finds)
+      is
+
+  pub kept_before : (image : Image) → IsBefore g stage start ended r image → KeepsPlaces g image
+  kept_before image is group there lv sector at is_at =
+      ⊎_elim
+      (λ same. ap (λ (i : Image). at_place i g.found.disk_of at) (one_image image g.base same))
+      (λ way. repair_keeps g.base g.sizes g.found (can_repair way.0) group there lv sector at is_at image way.1)
+      is
+
+  -- ---- where all was repaired
+  module _ (repaired : is_repaired stage ≡ true) where
+    begun : repair_begun stage ≡ true
+    begun = begun_repair stage repaired
+
+    pub scan_repaired : IsScanOf (repaired_base g) g.sizes (repaired_of g.found)
+    scan_repaired = scans g.base g.sizes g.found (can_repair begun)
+
+    all_repaired : HasFirstBatches (repairs_in g) g.base (repaired_base g)
+    all_repaired = all_written (repairs_in g) g.base
+
+    pub finds_start : FindsVersion g.sizes (repaired_base g) none_out (version_in g.found)
+    finds_start = (repairs_scan g.base g.sizes g.found (can_repair begun) (repaired_base g) all_repaired).finds
+
+    -- a repair changes no version
+    pub same_version : version_in (repaired_of g.found) ≡ version_in g.found
+    same_version = version_kept g.found
+
+    kept_start : KeepsPlaces g (repaired_base g)
+    kept_start group there lv sector at is_at = repair_keeps g.base g.sizes g.found (can_repair begun) group there lv sector at is_at (repaired_base g) all_repaired
+
+    -- ---- and the line was begun
+    module _ (line : line_begun stage ≡ true) where
+      pub can_carry_out : CanCarryOut (repaired_base g) g.sizes (repaired_of g.found) g.names g.line g.clock
+      can_carry_out = record {
+        scan = scan_repaired;
+        shape = r.repaired_shape repaired;
+        whole = r.repaired_whole repaired;
+        no_stale = refl;
+        no_strays = refl;
+        named = r.given.named ∙ sym (repaired_count g.found);
+        names_are = r.given.names_are;
+        planned = r.given.planned;
+        time = r.given.time;
+        passes = r.passes line;
+        keeps = r.keeps line;
+      }
+
+    pub kept_after : (image : Image) → IsAfter g stage start ended r image → KeepsPlaces g image
+    kept_after image is group there lv sector at is_at =
+        ⊎_elim
+        (λ same. ap (λ (i : Image). at_place i g.found.disk_of at) (one_image image (repaired_base g) same) ∙ kept_start group there lv sector at is_at)
+        (λ way. place_kept (repaired_base g) g.sizes (repaired_of g.found) g.names g.line g.clock (can_carry_out way.0) group there image way.1 lv sector at is_at ∙ kept_start group there lv sector at is_at)
+        is
+
+    -- an image from the start on is one on the way of the line, where that was begun
+    pub on_the_way : line_begun stage ≡ true → (image : Image) → IsAfter g stage start ended r image → HasFirstBatches (batches_in g) (repaired_base g) image
+    on_the_way line image is = ⊎_elim (λ same. first_none (batches_in g) (repaired_base g) image same) (λ way. way.1) is
+
+    -- and the base with all of the repair where it wasn't
+    pub stays_after : line_begun stage ≡ false → (image : Image) → IsAfter g stage start ended r image → FindsVersion g.sizes image none_out (version_in g.found)
+    stays_after unbegun image is =
+        ⊎_elim
+        (λ same. subst (λ (i : Image). FindsVersion g.sizes i none_out (version_in g.found)) (sym (one_image image (repaired_base g) same)) finds_start)
+        (λ way. absurd (false≢true (sym unbegun ∙ way.0)))
+        is

@@ -1,0 +1,81 @@
+-- What a line makes: a version of the group, or a new physical volume on the disk that it names.
+use Rattle.std.proofs.Common.{◌≡◌, ◌<◌, ℕ, zero, suc, ◌+◌, Bool, true, false, if◌then◌else◌, List, [], ◌∷◌, length, Option, Some, None, refl, ap, ◌∙◌, arith}
+use Rattle.std.specs.Prelude.{option_map, slice_get, unwrap_or}
+use Rattle.std.specs.Option.{option_map_or}
+use Rattle.std.specs.Str.{bytes_eq}
+use Rattle.std.proofs.lemmas.Option.{same_Some}
+use Rattle.lvm_script.specs.Options.{Word, number_named}
+use Rattle.lvm_script.specs.declared.command.Command.{Command}
+use Rattle.lvm_script.specs.declared.command.Command.TheVariants.{Pvcreate, Vgcreate, Vgextend}
+use Rattle.lvm_script.specs.declared.line.Line.{Line}
+use Rattle.lvm_script.specs.declared.op_refusal.OpRefusal.{OpRefusal}
+use Rattle.lvm_script.specs.declared.op_refusal.OpRefusal.TheVariants.{UnknownGroup, UnknownPv}
+use Rattle.meta_model.specs.declared.group.Group.{Group}
+use Rattle.vg_found.specs.declared.disk.Disk.{Disk}
+use Rattle.group_ops.specs.Added.{added_of}
+use Rattle.group_ops.specs.Judging.{first_refusal}
+use Rattle.group_ops.specs.NewGroup.{extended}
+use Rattle.group_ops.specs.Planning.{IsPlanned, change_of, extend_by, refusal_of}
+use Rattle.group_ops.specs.Pvcreate.{disk_rows, new_label, pvcreate_change}
+use Rattle.group_ops.specs.Vgcreate.{empty_group}
+use Rattle.group_ops.specs.Vgextend.{found_rows, next_version}
+use Rattle.group_ops.specs.declared.state.Change.{Change}
+use Rattle.group_ops.specs.declared.state.GroupState.{GroupState}
+use Rattle.group_ops.specs.declared.state.NewLabel.{NewLabel}
+use Rattle.volume_history.specs.Commands.{created_disk}
+
+-- a line with this change
+pub data Kind (names : List Word) (command : Command) (change : Change) : Type 0 where
+  commits_group : (group : Group) → change.group ≡ Some group → Kind names command change
+  creates : (disk : ℕ) (label : NewLabel) → change.group ≡ None → created_disk names command ≡ Some disk → change.labels ≡ label ∷ [] → label.disk ≡ disk → Kind names command change
+
+-- ---- pvcreate
+
+-- a disk that is named is there
+named_within : (names : List Word) (name : Word) (n : ℕ) → number_named names name ≡ Some n → n < length names
+unfolding number_named
+named_within [] name n is = cc
+named_within (first ∷ names) name n is = step (λ k later. named_within names name k later) (bytes_eq first name) (number_named names name) refl is
+  where
+    step : ((k : ℕ) → number_named names name ≡ Some k → k < length names) → (b : Bool) (o : Option ℕ) → number_named names name ≡ o → (if b then Some 0 else option_map (λ n. n + 1) o) ≡ Some n → n < length (first ∷ names)
+    step rest true o later e = let z : 0 ≡ n = same_Some 0 n e in omega (arith, z)
+    step rest false None later e = cc
+    step rest false (Some k) later e = let z : k + 1 ≡ n = same_Some (k + 1) n e in let w : k < length names = rest k later in omega (arith, z, w)
+
+there_at : {X : Type 0} (xs : List X) (n : ℕ) → n < length xs → (x : X) × (slice_get xs n ≡ Some x)
+there_at [] n within = absurd (omega (arith, within))
+there_at (x ∷ xs) zero within = (x, refl)
+there_at (x ∷ xs) (suc n) within = there_at xs n (omega (arith, within))
+
+abbrev rows_by : GroupState → List ℕ → List ℕ → Option ℕ → List (Option OpRefusal)
+rows_by state id name None = Some (UnknownPv name) ∷ []
+rows_by state id name (Some number) = disk_rows state id name number (slice_get state.disks number)
+
+create_kind : (state : GroupState) (id pv : List ℕ) (copies : ℕ) (command : Command) (o : Option ℕ) → number_named state.names pv ≡ o → created_disk state.names command ≡ o → length state.names ≡ length state.disks
+    → first_refusal (rows_by state id pv o) ≡ None
+    → Kind state.names command (pvcreate_change state id pv copies)
+create_kind state id pv copies command None is created many none = absurd cc
+create_kind state id pv copies command (Some number) is created many none =
+    let within : number < length state.disks = let w : number < length state.names = named_within state.names pv number is in omega (arith, w, many) in
+    let disk = there_at state.disks number within in
+    creates number (new_label id copies number disk.0) refl created
+    (ap (λ (o : Option ℕ). option_map_or (λ number. option_map_or (λ disk. new_label id copies number disk ∷ []) (slice_get state.disks number) []) o []) is
+    ∙ ap (λ (o : Option Disk). option_map_or (λ disk. new_label id copies number disk ∷ []) o []) disk.1)
+    refl
+
+-- ---- any line
+
+extend_kind : (state : GroupState) (vg : List ℕ) (pvs : List (List ℕ)) (now : ℕ) (command : Command) (o : Option Group)
+    → first_refusal (option_map_or (found_rows state vg pvs now) o (Some (UnknownGroup vg) ∷ [])) ≡ None → Kind state.names command (extend_by state o pvs)
+extend_kind state vg pvs now command None none = absurd cc
+extend_kind state vg pvs now command (Some group) none = commits_group (extended (next_version group) (added_of state pvs)) refl
+
+kind_by : (state : GroupState) → length state.names ≡ length state.disks → (number : ℕ) (id : Option (List ℕ)) (command : Command) (now : ℕ) → IsPlanned id command
+    → refusal_of state (record { number = number; id = id; command = command }) now ≡ None → Kind state.names command (change_of state (record { number = number; id = id; command = command }))
+kind_by state many number id (Pvcreate pv copies) now planned none = create_kind state (unwrap_or id []) pv copies (Pvcreate pv copies) (number_named state.names pv) refl refl many none
+kind_by state many number id (Vgcreate vg extent_size pvs) now planned none = commits_group (extended (empty_group (unwrap_or id []) vg extent_size) (added_of state pvs)) refl
+kind_by state many number id (Vgextend vg pvs) now planned none = extend_kind state vg pvs now (Vgextend vg pvs) state.group none
+kind_by state many number id command now planned none = absurd planned
+
+pub kind_of : (state : GroupState) → length state.names ≡ length state.disks → (line : Line) (now : ℕ) → IsPlanned line.id line.command → refusal_of state line now ≡ None → Kind state.names line.command (change_of state line)
+kind_of state many line now planned none = kind_by state many line.number line.id line.command now planned none

@@ -1,0 +1,109 @@
+-- A run that only looks at its disks has its history.
+use Rattle.std.proofs.Common.{◌≡◌, ◌≤◌, ℕ, zero, suc, ◌-◌, true, false, List, [], ◌∷◌, length, drop, take, Some, refl, sym, ap, subst, ◌∙◌, arith}
+use Rattle.disk_model.specs.CrashValues.{IsImage}
+use Rattle.disk_model.specs.Durability.{IsBase}
+use Rattle.disk_model.specs.Moments.{at_moment}
+use Rattle.disk_model.specs.Order.{WritesNothing}
+use Rattle.disk_model.specs.Steps.{Completed, Flushing, Image, Reading, Step, Submitted, Told, Writing, steps_on}
+use Rattle.image_scans.specs.Laws.{none_out}
+use Rattle.image_scans.specs.Versions.{FindsVersion}
+use Rattle.lvm_script.specs.Options.{Word}
+use Rattle.lvm_script.specs.declared.answer.Answer.{Answer}
+use Rattle.lvm_script.specs.declared.answer.Answer.TheVariants as answer
+use Rattle.lvm_script.specs.declared.line.Line.{Line}
+use Rattle.volume_history.proofs.SingleLines.{done_line, no_line, undone_line}
+use Rattle.volume_history.specs.Chronicles.{Origin, has_written}
+use Rattle.volume_history.specs.Commands.{commits, is_good}
+use Rattle.volume_history.specs.Placed.{Place, PlacedVolume, volumes_of}
+use Rattle.volume_history.specs.Quiet.{AllUntouched, AreUntouched, is_quiet}
+use Rattle.volume_history.specs.Runs.{HasHistory}
+use Rattle.volume_history.specs.Single.{LeavesDisk, StaysLaw}
+use Rattle.line_history.proofs.Finding.{one_image}
+use Rattle.line_history.proofs.Images.{quiet_base}
+use Rattle.line_history.proofs.Origins.{origin, still}
+use Rattle.line_history.proofs.Seen.{part, part_then, steps_more, told_then}
+use Rattle.line_history.specs.Histories.{IsFineOrBad, LooksAlone, journal_of_line, run_from}
+
+-- older steps of some that write nothing do neither
+nothing_older : (k : ℕ) (steps : List Step) → WritesNothing steps → WritesNothing (drop k steps)
+nothing_older zero steps nothing = nothing
+nothing_older (suc k) [] nothing = tt
+nothing_older (suc k) (Submitted tag (Writing span sectors) ∷ steps) nothing = absurd nothing
+nothing_older (suc k) (Submitted tag (Reading span) ∷ steps) nothing = nothing_older k steps nothing
+nothing_older (suc k) (Submitted tag (Flushing pv) ∷ steps) nothing = nothing_older k steps nothing
+nothing_older (suc k) (Completed tag work well fresh ∷ steps) nothing = nothing_older k steps nothing
+
+none_written : (steps : List Step) (pv : ℕ) → WritesNothing steps → has_written steps pv ≡ false
+none_written [] pv nothing = refl
+none_written (Submitted tag (Writing span sectors) ∷ steps) pv nothing = absurd nothing
+none_written (Submitted tag (Reading span) ∷ steps) pv nothing = none_written steps pv nothing
+none_written (Submitted tag (Flushing disk) ∷ steps) pv nothing = none_written steps pv nothing
+none_written (Completed tag work well fresh ∷ steps) pv nothing = none_written steps pv nothing
+
+-- where each sector has one value no place is touched
+places_stay : (base : Image) (told : Told) → IsBase told base → (places : List Place) → AreUntouched base places told
+places_stay base told is [] = tt
+places_stay base told is (p ∷ ps) = ((is p.disk p.sector).each, places_stay base told is ps)
+
+all_stay : (base : Image) (told : Told) → IsBase told base → (volumes : List PlacedVolume) → AllUntouched base volumes told
+all_stay base told is [] = tt
+all_stay base told is (v ∷ vs) = (places_stay base told is v.places, all_stay base told is vs)
+
+module _ (handed : Told) (sizes : List ℕ) (names : List Word) (clock : ℕ) (ended : Told) (l : LooksAlone handed sizes ended) where
+  more : length handed.steps ≤ length ended.steps
+  more = steps_more handed ended l.since l.steps
+
+  base_at : (m : ℕ) → length handed.steps ≤ m → m ≤ length ended.steps → IsBase (at_moment m ended) l.base
+  base_at m ge le =
+      subst (λ (t : Told). IsBase t l.base) (sym (told_then handed ended l.since l.steps m ge le))
+      (quiet_base handed (steps_on (part handed ended l.since l.steps m ge le) handed) (part handed ended l.since l.steps m ge le) refl (nothing_older (length ended.steps - m) l.since l.nothing) l.base l.base_is)
+
+  finds_at : (m : ℕ) → length handed.steps ≤ m → m ≤ length ended.steps → (image : Image) → IsImage (at_moment m ended) image → FindsVersion sizes image none_out l.version
+  finds_at m ge le image is =
+      subst (λ (i : Image). FindsVersion sizes i none_out l.version)
+      (sym (one_image image l.base (λ pv sector. let v = is pv sector in (base_at m ge le pv sector).each v.0 (image pv sector) v.1))) l.finds
+
+  abbrev origin_is : Origin
+  origin_is = origin handed handed ended [] l.since refl l.steps l.record_is l.base l.base l.base_is l.base_is sizes names clock l.version
+
+  stays : StaysLaw origin_is
+  stays = record {
+    still = still handed handed ended [] l.since refl l.steps l.record_is l.base l.base l.base_is l.base_is sizes names clock l.version
+        (λ m ge le image is. finds_at m ge (omega (arith, le, more)) image is) (λ m ge le. all_stay l.base (at_moment m ended) (base_at m ge le) (volumes_of l.version)) l.finds;
+    after = finds_at;
+  }
+
+  leaves : (line : Line) → LeavesDisk origin_is line
+  leaves line disk created =
+      let e : length ended.steps - length ended.steps ≡ 0 = omega arith in
+      ap (λ (s : List Step). has_written (take (length ended.steps - length handed.steps) s) disk) (sym (ap (λ (n : ℕ). drop n ended.steps) e))
+      ∙ ap (λ (s : List Step). has_written s disk) (part_then handed ended l.since l.steps (length ended.steps) more (omega arith))
+      ∙ none_written (drop (length ended.steps - length ended.steps) l.since) disk (nothing_older (length ended.steps - length ended.steps) l.since l.nothing)
+
+  pub looks : HasHistory (run_from handed sizes names clock ended) [] []
+  looks = no_line origin_is stays
+
+  module _ (line : Line) (quiet : is_quiet line.command ≡ true) (none : commits line.command ≡ false) where
+    undone : (said : Answer) → is_good said ≡ false → HasHistory (run_from handed sizes names clock ended) (journal_of_line (length handed.steps) (length ended.steps) said) ((line, Some said) ∷ [])
+    undone answer.Fine bad = cc
+    undone (answer.Read sectors) bad = cc
+    undone (answer.Listed volumes) bad = cc
+    undone (answer.Refused refusal) bad = undone_line origin_is line stays quiet (leaves line) (answer.Refused refusal) bad
+    undone (answer.ReadFailed pv) bad = undone_line origin_is line stays quiet (leaves line) (answer.ReadFailed pv) bad
+    undone (answer.PvFailed pv) bad = undone_line origin_is line stays quiet (leaves line) (answer.PvFailed pv) bad
+    undone (answer.Fenced pv) bad = undone_line origin_is line stays quiet (leaves line) (answer.Fenced pv) bad
+    undone (answer.Stopped pv) bad = undone_line origin_is line stays quiet (leaves line) (answer.Stopped pv) bad
+    undone answer.Aborted bad = undone_line origin_is line stays quiet (leaves line) answer.Aborted bad
+    undone answer.NoMemory bad = undone_line origin_is line stays quiet (leaves line) answer.NoMemory bad
+
+    pub reports : (said : Answer) → IsFineOrBad said → HasHistory (run_from handed sizes names clock ended) (journal_of_line (length handed.steps) (length ended.steps) said) ((line, Some said) ∷ [])
+    reports answer.Fine may = done_line origin_is line stays quiet (leaves line) none
+    reports (answer.Read sectors) may = undone (answer.Read sectors) may
+    reports (answer.Listed volumes) may = undone (answer.Listed volumes) may
+    reports (answer.Refused refusal) may = undone (answer.Refused refusal) may
+    reports (answer.ReadFailed pv) may = undone (answer.ReadFailed pv) may
+    reports (answer.PvFailed pv) may = undone (answer.PvFailed pv) may
+    reports (answer.Fenced pv) may = undone (answer.Fenced pv) may
+    reports (answer.Stopped pv) may = undone (answer.Stopped pv) may
+    reports answer.Aborted may = undone answer.Aborted may
+    reports answer.NoMemory may = undone answer.NoMemory may

@@ -1,0 +1,87 @@
+-- A line that writes one disk alone.
+use Rattle.std.proofs.Common.{◌≡◌, ℕ, zero, suc, ◌==◌, ◌||◌, Bool, true, false, List, [], ◌∷◌, ◌++◌, map, take, drop, refl, sym, ap, subst, ◌∙◌}
+use Rattle.std.proofs.lemmas.Bool.{true≢false}
+use Rattle.std.specs.Prelude.{flat_map}
+use Rattle.disk_batch.specs.InTurn.{Put}
+use Rattle.disk_model.specs.Order.{WritesNothing}
+use Rattle.disk_model.specs.Since.{writes_submitted}
+use Rattle.disk_model.specs.Steps.{Completed, Flushing, Reading, Step, Submitted, Writing}
+use Rattle.group_ops.specs.declared.state.NewLabel.{NewLabel}
+use Rattle.pv_header.specs.declared.extent_list.Extent.{Extent}
+use Rattle.vg_change.specs.Batches.{area_put, area_puts, batch_if, label_put}
+use Rattle.volume_history.proofs.Bits.{eq_to}
+use Rattle.volume_history.specs.Chronicles.{has_written}
+
+module _ (disk : ℕ) where
+  -- these writes are all of the disk
+  abbrev pub AreOn : List Put → Type 0
+  AreOn [] = Unit {0}
+  AreOn (put ∷ puts) = (put.0.pv ≡ disk) × AreOn puts
+
+  abbrev pub BatchesAreOn : List (List Put) → Type 0
+  BatchesAreOn [] = Unit {0}
+  BatchesAreOn (batch ∷ batches) = AreOn batch × BatchesAreOn batches
+
+  both_on : (puts more : List Put) → AreOn puts → AreOn more → AreOn (puts ++ more)
+  both_on [] more a b = b
+  both_on (put ∷ puts) more a b = (a.0, both_on puts more a.1 b)
+
+  batches_both : (batches more : List (List Put)) → BatchesAreOn batches → BatchesAreOn more → BatchesAreOn (batches ++ more)
+  batches_both [] more a b = b
+  batches_both (batch ∷ batches) more a b = (a.0, batches_both batches more a.1 b)
+
+  if_on : (puts : List Put) → AreOn puts → BatchesAreOn (batch_if puts)
+  if_on [] on = tt
+  if_on (put ∷ puts) on = (on, tt)
+
+  areas_on : (areas : List Extent) → AreOn (map (area_put disk) areas)
+  areas_on [] = tt
+  areas_on (area ∷ areas) = (refl, areas_on areas)
+
+  -- those of a new physical volume on it
+  pub label_on : (label : NewLabel) → label.disk ≡ disk → BatchesAreOn (batch_if (flat_map area_puts (label ∷ [])) ++ batch_if (map label_put (label ∷ [])) ++ [])
+  label_on label on =
+      let areas : AreOn (area_puts label) = subst (λ (d : ℕ). AreOn (map (area_put d) label.header.areas)) (sym on) (areas_on label.header.areas) in
+      batches_both (batch_if (flat_map area_puts (label ∷ [])) ++ batch_if (map label_put (label ∷ []))) []
+      (batches_both (batch_if (flat_map area_puts (label ∷ []))) (batch_if (map label_put (label ∷ []))) (if_on (area_puts label ++ []) (both_on (area_puts label) [] areas tt)) ((on, tt), tt))
+      tt
+
+  -- the writes of the first of the batches
+  pub first_on : (n : ℕ) (batches : List (List Put)) → BatchesAreOn batches → AreOn (flat_map (λ batch. batch) (take n batches))
+  first_on zero batches on = tt
+  first_on (suc n) [] on = tt
+  first_on (suc n) (batch ∷ batches) on = both_on batch (flat_map (λ b. b) (take n batches)) on.0 (first_on n batches on.1)
+
+  -- ---- steps
+
+  all_but_last : (puts : List Put) (put : Put) → AreOn (puts ++ put ∷ []) → AreOn puts
+  all_but_last [] put on = tt
+  all_but_last (first ∷ puts) put on = (on.0, all_but_last puts put on.1)
+
+  the_last : (puts : List Put) (put : Put) → AreOn (puts ++ put ∷ []) → put.0.pv ≡ disk
+  the_last [] put on = on.0
+  the_last (first ∷ puts) put on = the_last puts put on.1
+
+  older_one : (step : Step) (steps : List Step) → AreOn (writes_submitted (step ∷ steps)) → AreOn (writes_submitted steps)
+  older_one (Submitted tag (Writing span sectors)) steps on = all_but_last (writes_submitted steps) (span, sectors) on
+  older_one (Submitted tag (Reading span)) steps on = on
+  older_one (Submitted tag (Flushing pv)) steps on = on
+  older_one (Completed tag work well fresh) steps on = on
+
+  -- the older of the steps write it alone too
+  pub older_on : (k : ℕ) (steps : List Step) → AreOn (writes_submitted steps) → AreOn (writes_submitted (drop k steps))
+  older_on zero steps on = on
+  older_on (suc k) [] on = tt
+  older_on (suc k) (step ∷ steps) on = older_on k steps (older_one step steps on)
+
+  same_disk : (pv : ℕ) (rest : Bool) → pv ≡ disk → ((pv == disk) || rest) ≡ true
+  same_disk pv rest is = ap (λ (b : Bool). b || rest) (eq_to pv disk is)
+
+  -- where none of them writes it, none writes
+  pub unwritten : (steps : List Step) → AreOn (writes_submitted steps) → has_written steps disk ≡ false → WritesNothing steps
+  unwritten [] on none = tt
+  unwritten (Submitted tag (Writing span sectors) ∷ steps) on none =
+      absurd (true≢false (sym (same_disk span.pv (has_written steps disk) (the_last (writes_submitted steps) (span, sectors) on)) ∙ none))
+  unwritten (Submitted tag (Reading span) ∷ steps) on none = unwritten steps on none
+  unwritten (Submitted tag (Flushing pv) ∷ steps) on none = unwritten steps on none
+  unwritten (Completed tag work well fresh ∷ steps) on none = unwritten steps on none

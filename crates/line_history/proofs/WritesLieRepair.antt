@@ -1,0 +1,33 @@
+-- Each write of a repair lies where a repair may write.
+use Rattle.std.proofs.Common.{ℕ, List, Option, get_or, ⊎_elim, arith}
+use Rattle.std.proofs.lemmas.List.Folds.{list_any_at}
+use Rattle.sector_base.specs.Spans.{covers}
+use Rattle.disk_model.specs.Steps.{Image}
+use Rattle.mda_header.specs.declared.header.Locn.{Locn}
+use Rattle.mda_ring.specs.declared.area.Area.{Area}
+use Rattle.mda_ring.proofs.SpanLaws.{covers_from}
+use Rattle.vg_commit.specs.Written.{header_span}
+use Rattle.vg_found.specs.declared.found.Found.{Found}
+use Rattle.vg_change.specs.Batches.{label_put}
+use Rattle.vg_repair.specs.Batches.{repair_batches, stray_areas, stray_labels}
+use Rattle.vg_repair.specs.Stale.{stale_areas, text_of}
+use Rattle.image_scans.proofs.CommitWrites.{no_area}
+use Rattle.repair_scans.specs.Laws.{CanRepair}
+use Rattle.repair_scans.proofs.RepairOnTheWay.{IsClearWrite, writes}
+use Rattle.line_history.specs.Places.{BatchesWrite, AtStray, AtStrayHeader, InStale, IsRepairPlace}
+use Rattle.line_history.proofs.WritesLieAny.{any_writes, area_write, written_of}
+
+module _ (base : Image) (sizes : List ℕ) (found : Found) (p : CanRepair base sizes found) (pv sector : ℕ) where
+  at_header : (value : List ℕ) → IsClearWrite base sizes found p pv sector value → IsRepairPlace found pv sector
+  at_header value w =
+      AtStrayHeader
+      (list_any_at (λ (area : Area × Option Locn). covers (header_span area.0) pv sector) (stray_areas found) w.number no_area w.among
+      (covers_from (header_span (get_or (stray_areas found) w.number no_area).0) pv sector w.disk (omega (arith, w.at)) (omega (arith, w.at))))
+
+  pub repair_writes_lie : BatchesWrite (repair_batches found) pv sector → IsRepairPlace found pv sector
+  repair_writes_lie is =
+      let w = any_writes pv sector (repair_batches found) is in
+      ⊎_elim
+      (λ stale. InStale (area_write pv sector (text_of found) (stale_areas found) w.0 stale))
+      (λ stray. ⊎_elim (λ label. AtStray (written_of pv sector label_put (stray_labels found) w.0 label)) (at_header w.0) stray)
+      (writes base sizes found p pv sector w.0 w.1)

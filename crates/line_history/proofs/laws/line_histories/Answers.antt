@@ -1,0 +1,15 @@
+use Rattle.line_history.proofs.Histories.{ends, lines}
+use Rattle.line_history.proofs.Looks.{looks, reports}
+use Rattle.line_history.proofs.laws.line_histories.Goals as goal
+
+pub returns-clause-lines : goal.returns-clause-lines
+returns-clause-lines c = λ g stage start ended said r may. lines c.repair_scans.ensures.at_the_end g start ended stage said r may
+
+pub returns-clause-ends : goal.returns-clause-ends
+returns-clause-ends c = λ g stage start ended r early. ends c.repair_scans.ensures.at_the_end g start ended stage r early
+
+pub returns-clause-looks : goal.returns-clause-looks
+returns-clause-looks c = λ handed sizes names clock ended l. looks handed sizes names clock ended l
+
+pub returns-clause-reports : goal.returns-clause-reports
+returns-clause-reports c = λ handed sizes names clock ended line said l quiet none may. reports handed sizes names clock ended l line quiet none said may

@@ -1,0 +1,9 @@
+use Rattle.line_history.proofs.WritesLieLine.{line_writes_lie}
+use Rattle.line_history.proofs.WritesLieRepair.{repair_writes_lie}
+use Rattle.line_history.proofs.places.writes_lie.Goals as goal
+
+pub returns-clause-line : goal.returns-clause-line
+returns-clause-line c = λ base sizes found names line now p pv sector is. line_writes_lie base sizes found names line now p pv sector is
+
+pub returns-clause-repair : goal.returns-clause-repair
+returns-clause-repair c = λ base sizes found p pv sector is. repair_writes_lie base sizes found p pv sector is

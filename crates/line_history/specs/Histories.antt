@@ -1,0 +1,86 @@
+-- The history of a run of one line: its journal and its answers, by what the line came to.
+use Rattle.std.specs.Prelude.{◌≡◌, ℕ, true, false, List, [], ◌∷◌, length, Option, Some}
+use Rattle.disk_model.specs.Durability.{IsBase}
+use Rattle.disk_model.specs.Order.{WritesNothing}
+use Rattle.disk_model.specs.Record.{IsRecord}
+use Rattle.disk_model.specs.Steps.{Image, Step, Told, steps_on}
+use Rattle.image_scans.specs.Laws.{none_out}
+use Rattle.image_scans.specs.Versions.{FindsVersion, Version}
+use Rattle.line_table.specs.declared.journal.EntryKind.{EntryKind}
+use Rattle.line_table.specs.declared.journal.EntryKind.TheVariants as kind
+use Rattle.line_table.specs.declared.journal.JournalEntry.{JournalEntry}
+use Rattle.lvm_script.specs.Options.{Word}
+use Rattle.lvm_script.specs.declared.answer.Answer.{Answer}
+use Rattle.lvm_script.specs.declared.answer.Answer.TheVariants as answer
+use Rattle.lvm_script.specs.declared.line.Line.{Line}
+use Rattle.volume_history.specs.Commands.{commits, is_good}
+use Rattle.volume_history.specs.Quiet.{is_quiet}
+use Rattle.volume_history.specs.Runs.{HasHistory, Run, zero_piece}
+use Rattle.line_history.specs.LineRun.{Given, RunsLine, Stage, Repaired, Writing, Done}
+
+-- the run of disks of these sizes and names, from when they were handed in, as far as this is told
+abbrev pub run_from : Told → List ℕ → List Word → ℕ → Told → Run
+run_from handed sizes names clock ended = record { told = ended; first = length handed.steps; sizes = sizes; names = names; clock = clock }
+
+-- an entry of line 0 without a piece
+abbrev pub entry : EntryKind → ℕ → JournalEntry
+entry what moment = record { kind = what; line = 0; piece = zero_piece 0; moment = moment }
+
+-- the journal of a line that was begun at the one moment and answered so at the other: where it was done, it took place then
+abbrev pub journal_of_line : ℕ → ℕ → Answer → List JournalEntry
+journal_of_line begun answered answer.Fine = entry kind.Begun begun ∷ entry kind.Took answered ∷ entry kind.Answered answered ∷ []
+journal_of_line begun answered _ = entry kind.Begun begun ∷ entry kind.Answered answered ∷ []
+
+-- what a line may answer that came so far
+abbrev pub MayAnswer : Stage → Answer → Type 0
+MayAnswer Repaired (answer.Refused refusal) = Unit {0}
+MayAnswer Writing (answer.PvFailed pv) = Unit {0}
+MayAnswer Done answer.Fine = Unit {0}
+MayAnswer _ _ = ⊥
+
+-- a run whose line was begun has its history
+abbrev pub LinesHaveHistories : Type 0
+LinesHaveHistories =
+    (g : Given) (stage : Stage) (start ended : Told) (said : Answer) → RunsLine g stage start ended → MayAnswer stage said
+    → HasHistory (run_from g.handed g.sizes g.names g.clock ended) (journal_of_line (length start.steps) (length ended.steps) said) ((g.line, Some said) ∷ [])
+
+-- nothing of the line was written
+abbrev pub IsBeforeLine : Stage → Type 0
+IsBeforeLine Writing = ⊥
+IsBeforeLine Done = ⊥
+IsBeforeLine _ = Unit {0}
+
+-- so has one whose line wasn't begun
+abbrev pub EndsHaveHistories : Type 0
+EndsHaveHistories =
+    (g : Given) (stage : Stage) (start ended : Told) → RunsLine g stage start ended → IsBeforeLine stage
+    → HasHistory (run_from g.handed g.sizes g.names g.clock ended) [] []
+
+-- the disks were only looked at: each sector had one possible value when they were handed in, of which a scan finds this version,
+-- and nothing was written
+pub record LooksAlone (handed : Told) (sizes : List ℕ) (ended : Told) : Type 0 where
+  pub base : Image
+  pub base_is : IsBase handed base
+  pub version : Option Version
+  pub finds : FindsVersion sizes base none_out version
+  pub since : List Step
+  pub steps : ended ≡ steps_on since handed
+  pub nothing : WritesNothing since
+  pub record_is : IsRecord ended.steps
+
+-- a run that only looked at its disks, and began no line, has its history
+abbrev pub LooksHaveHistories : Type 0
+LooksHaveHistories =
+    (handed : Told) (sizes : List ℕ) (names : List Word) (clock : ℕ) (ended : Told) → LooksAlone handed sizes ended → HasHistory (run_from handed sizes names clock ended) [] []
+
+-- the answer is ok, or none that is given for something done
+abbrev pub IsFineOrBad : Answer → Type 0
+IsFineOrBad answer.Fine = Unit {0}
+IsFineOrBad said = is_good said ≡ false
+
+-- so has one whose line commits nothing
+abbrev pub ReportsHaveHistories : Type 0
+ReportsHaveHistories =
+    (handed : Told) (sizes : List ℕ) (names : List Word) (clock : ℕ) (ended : Told) (line : Line) (said : Answer) → LooksAlone handed sizes ended
+    → is_quiet line.command ≡ true → commits line.command ≡ false → IsFineOrBad said
+    → HasHistory (run_from handed sizes names clock ended) (journal_of_line (length handed.steps) (length ended.steps) said) ((line, Some said) ∷ [])

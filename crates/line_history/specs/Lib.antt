@@ -1,0 +1,5 @@
+pub mod LineRun
+pub mod Laws
+pub mod Histories
+pub mod Places
+pub mod EachSet

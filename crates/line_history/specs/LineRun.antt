@@ -1,0 +1,112 @@
+-- A run of one line that changes something: the disks are opened, what was found is repaired, and the line is carried out, each
+-- part as far as it came.
+use Rattle.std.specs.Prelude.{◌≡◌, ◌<◌, ℕ, ◌^◌, Bool, true, false, IsTrue, if◌then◌else◌, List, [], length, All, None}
+use Rattle.disk_batch.specs.InTurn.{Put, WritesInTurn}
+use Rattle.disk_model.specs.Durability.{IsBase}
+use Rattle.disk_model.specs.Order.{WritesNothing}
+use Rattle.disk_model.specs.Record.{IsRecord}
+use Rattle.disk_model.specs.Steps.{Image, Step, Told, steps_on}
+use Rattle.lvm_script.specs.Options.{Word}
+use Rattle.lvm_script.specs.Values.{is_disk_name}
+use Rattle.lvm_script.specs.declared.line.Line.{Line}
+use Rattle.group_ops.specs.Laws.{state_in}
+use Rattle.group_ops.specs.Planning.{IsPlanned, refusal_of}
+use Rattle.vg_change.specs.Batches.{batches_of}
+use Rattle.vg_change.specs.CarryingOut.{KeepsImages}
+use Rattle.vg_found.specs.Shape.{HasShape}
+use Rattle.vg_found.specs.Whole.{IsWhole}
+use Rattle.vg_found.specs.declared.found.Found.{Found}
+use Rattle.vg_repair.specs.Batches.{repair_batches}
+use Rattle.vg_repair.specs.Laws.{KeepsImages as RepairKeepsImages}
+use Rattle.vg_repair.specs.Repaired.{repaired_of}
+use Rattle.vg_repair.specs.Stale.{too_large}
+use Rattle.vg_scan.specs.Scans.{IsScanOf}
+
+-- how far a run came
+pub data Stage : Type 0 where
+  -- nothing was written
+  Opened : Stage
+  -- the repair was begun, and an operation of it failed
+  Repairing : Stage
+  -- all was repaired, and nothing of the line was written
+  Repaired : Stage
+  -- the line's writes were begun, and an operation of it failed
+  Writing : Stage
+  Done : Stage
+
+-- its repair was begun
+abbrev pub repair_begun : Stage → Bool
+repair_begun Opened = false
+repair_begun _ = true
+
+-- all was repaired
+abbrev pub is_repaired : Stage → Bool
+is_repaired Opened = false
+is_repaired Repairing = false
+is_repaired _ = true
+
+-- the line's own writes were begun
+abbrev pub line_begun : Stage → Bool
+line_begun Writing = true
+line_begun Done = true
+line_begun _ = false
+
+-- the line was done
+abbrev pub is_done : Stage → Bool
+is_done Done = true
+is_done _ = false
+
+-- these batches where they were begun, and none else
+abbrev pub batches_if : Bool → List (List Put) → List (List Put)
+batches_if begun batches = if begun then batches else []
+
+-- what was given: the disks as they were handed in, what a scan found there, their names, the line and the time
+pub record Given : Type 0 where
+  pub handed : Told
+  pub base : Image
+  pub sizes : List ℕ
+  pub found : Found
+  pub names : List Word
+  pub line : Line
+  pub clock : ℕ
+
+-- the batches of its repair
+abbrev pub repairs_in : Given → List (List Put)
+repairs_in g = repair_batches g.found
+
+-- those of the line, by what is found once it is done
+abbrev pub batches_in : Given → List (List Put)
+batches_in g = batches_of (state_in (repaired_of g.found) g.names) g.line g.clock
+
+-- each sector has one possible value, that of the base, of which the scan was taken; it found something whole; and the line can
+-- be planned
+pub record IsGiven (g : Given) : Type 0 where
+  pub base : IsBase g.handed g.base
+  pub scan : IsScanOf g.base g.sizes g.found
+  pub shape : HasShape g.found
+  pub whole : IsWhole g.found
+  pub named : length g.names ≡ length g.found.disks
+  pub names_are : All (λ name. is_disk_name name ≡ true) g.names
+  pub planned : IsPlanned g.line.id g.line.command
+  pub time : g.clock < 2 ^ 48
+
+-- what the run did to the disks, until it ended with this record; the line began at the start
+pub record RunsLine (g : Given) (stage : Stage) (start ended : Told) : Type 0 where
+  pub given : IsGiven g
+  -- the disks were opened: nothing was written
+  pub opened : Told
+  pub since : List Step
+  pub opening : opened ≡ steps_on since g.handed
+  pub nothing : WritesNothing since
+  -- what was found was repaired
+  pub repair : WritesInTurn opened (batches_if (repair_begun stage) (repairs_in g)) (is_repaired stage) start
+  pub fits : IsTrue (repair_begun stage) → too_large g.found ≡ None
+  pub repair_keeps : IsTrue (repair_begun stage) → RepairKeepsImages g.found
+  pub repaired_shape : IsTrue (is_repaired stage) → HasShape (repaired_of g.found)
+  pub repaired_whole : IsTrue (is_repaired stage) → IsWhole (repaired_of g.found)
+  -- and then the line was carried out, or the run ended
+  pub written : IsTrue (is_repaired stage) → WritesInTurn start (batches_if (line_begun stage) (batches_in g)) (is_done stage) ended
+  pub unrepaired : is_repaired stage ≡ false → ended ≡ start
+  pub passes : IsTrue (line_begun stage) → refusal_of (state_in (repaired_of g.found) g.names) g.line g.clock ≡ None
+  pub keeps : IsTrue (line_begun stage) → KeepsImages (state_in (repaired_of g.found) g.names) g.line g.clock
+  pub record_is : IsRecord ended.steps

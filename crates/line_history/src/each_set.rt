@@ -1,0 +1,24 @@
+//! What some of the disks tell once a commit is done.
+ghost use Rattle.line_history.specs.EachSet.{DoneSetsAgree, EachSetFinds};
+
+use repair_scans::repair_scans;
+use vg_scan::one_reading;
+use volume_history::scans_are_one;
+
+/// Once a commit is done, a scan of any of the disks, the others taken as empty, finds no group or the one that was
+/// committed, and never an older version of it.
+pub fn each_set_finds()
+    ensures { EachSetFinds }
+{
+    one_reading();
+}
+
+/// So at the end of a run whose line has committed a group, in every image that a crash may leave, no set of the disks finds
+/// an older version of the group than all of them do.
+pub fn done_sets_agree()
+    ensures { DoneSetsAgree }
+{
+    each_set_finds();
+    repair_scans();
+    scans_are_one();
+}
