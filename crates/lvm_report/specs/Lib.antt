@@ -1,3 +1,4 @@
+pub mod AnswerLines
 pub mod Columns
 pub mod Lines
 pub mod Marks

@@ -1,0 +1,14 @@
+-- The lines that the answers of a run are printed as.
+use Rattle.std.specs.Prelude.{ℕ, List, [], ◌++◌, codes, decimal, flat_map, Option, None, Some}
+use Rattle.lvm_script.specs.Answers.{answer_text}
+use Rattle.lvm_script.specs.Options.{Word}
+use Rattle.lvm_script.specs.declared.answer.Answer.{Answer}
+
+-- the line of an answered line, by its number and its answer; none where it has no answer
+abbrev pub answer_line : List Word → ℕ × Option Answer → List ℕ
+answer_line names (number, None) = []
+answer_line names (number, Some answer) = decimal number ++ codes ": " ++ answer_text names answer ++ codes "\n"
+
+-- those of all lines of a run, in their order
+abbrev pub answers_text : List Word → List (ℕ × Option Answer) → List ℕ
+answers_text names answers = flat_map (answer_line names) answers
