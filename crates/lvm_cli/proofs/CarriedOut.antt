@@ -319,5 +319,5 @@ module _ (names : List Word) (command : Command) (id : Option (List ℕ)) (time 
         let carried : IsCarriedOut (state_in (repaired_of found) names) here time done outcome new = subst (λ (f : Found). IsCarriedOut (state_in f names) here time done outcome new) same goes in
         meets_carried done new again (subst (IsRepaired found mid done) same cause) told (images tt) carried.again record_is outcome carried
 
-    pub meets_changed : (outcome : Outcome) (new : State) → IsChanged found names here time mid outcome new → Meets (changing command) context old outcome new
-    meets_changed outcome new changed = meets_on changed.result changed.mid new changed.again changed.follows changed.cause changed.told changed.images outcome changed.goes
+    pub meets_changed : (outcome : Outcome) (begun : ℕ) (new : State) → IsChanged found names here time mid outcome begun new → Meets (changing command) context old outcome new
+    meets_changed outcome begun new changed = meets_on changed.result changed.mid new changed.again changed.follows changed.cause changed.told changed.images outcome changed.goes

@@ -1,3 +1,4 @@
+pub mod AskedLines
 pub mod BackingUp
 pub mod BuiltCommands
 pub mod CarriedOut
@@ -9,6 +10,8 @@ pub mod MeantWords
 pub mod NamedDisks
 pub mod OpenedDisks
 pub mod PlannedWords
+pub mod Promised
+pub mod PromisedReports
 pub mod Refusals
 pub mod Reporting
 pub mod ScannedEntries

@@ -6,12 +6,14 @@ use Rattle.lvm_script.specs.declared.command.Command.{Command}
 use Rattle.lvm_script.specs.declared.command.Command.TheVariants.{Lvs, Pvcreate, Pvck, Pvs, Vgcfgbackup, Vgck, Vgcreate, Vgextend, Vgs}
 use Rattle.lvm_script.specs.declared.request.Request.{Request}
 use Rattle.lvm_script.specs.declared.request.Request.TheVariants.{One}
+use Rattle.lvm_words.proofs.LineNames.{names_of_line}
 use Rattle.lvm_cli.specs.Changing.{changing}
 use Rattle.lvm_cli.specs.declared.commands.scan_report.ScanReport.TheVariants as report
 use Rattle.lvm_cli.specs.declared.ending.Ending.TheVariants.{NoMemory}
 use Rattle.lvm_cli.specs.declared.outcome.Outcome.TheVariants.{Ended}
 use Rattle.lvm_cli.specs.Meets.{Meets}
-use Rattle.lvm_cli.specs.Runs.{RunsRequest}
+use Rattle.lvm_cli.specs.Disks.{HasDisks}
+use Rattle.lvm_cli.specs.Runs.{RunsRequest, RunsWords}
 use Rattle.lvm_cli.proofs.BackingUp.{backup_undone}
 use Rattle.lvm_cli.proofs.CarriedOut.{meets_unopened}
 use Rattle.lvm_cli.proofs.Checking.{meets_undone}
@@ -35,3 +37,11 @@ undone names (One Vgs) ids now state idle = report_undone report.Vgs names _ now
 undone names (One Lvs) ids now state idle = report_undone report.Lvs names _ now state idle
 undone names (One Vgck) ids now state idle = report_undone report.Vgck names _ now state idle
 undone names _ ids now state idle = (inr refl, refl)
+
+-- words of which nothing was done
+pub undone_words : (words : List Word) (now : ℕ) (ids : ℕ → List ℕ) (state : State) → HasDisks words state → RunsWords words now ids state (Ended NoMemory) ids state
+undone_words words now ids state disks = record {
+  refused = λ none. ((inr refl, refl), refl);
+  lines = λ line is. undone line.names line.request ids now state (disks line.names (names_of_line words line is)).idle;
+  drawn = λ line is. inr (refl, refl, refl);
+}

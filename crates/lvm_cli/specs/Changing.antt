@@ -1,6 +1,6 @@
 -- A command that changes something: the disks are flushed and scanned, what is stale or a stray is repaired, the line is judged
 -- by what stands there then, and its batches are written.
-use Rattle.std.specs.Prelude.{◌≡◌, ℕ, true, List, [], Option, Some, None, Result, Ok, Err, MatchResult}
+use Rattle.std.specs.Prelude.{◌≡◌, ℕ, true, List, [], length, Option, Some, None, Result, Ok, Err, MatchResult}
 use Rattle.disk_batch.specs.InTurn.{Put}
 use Rattle.disk_model.specs.Faults.{HasSameFaults}
 use Rattle.disk_model.specs.Idle.{IsIdleAgain}
@@ -21,6 +21,8 @@ use Rattle.vg_change.specs.CarryingOut.{Carries, HasBegun, IsFault, KeepsImages}
 use Rattle.vg_change.specs.declared.fault.ChangeFault.{ChangeFault}
 use Rattle.vg_change.specs.declared.fault.ChangeFault.TheVariants as fault
 use Rattle.vg_change.specs.Laws.{AreasAreKept, IsFoundAfter}
+use Rattle.vg_found.specs.Shape.{HasShape}
+use Rattle.vg_found.specs.Whole.{IsWhole}
 use Rattle.vg_found.specs.declared.found.Found.{Found}
 use Rattle.vg_repair.specs.Batches.{repair_batches}
 use Rattle.vg_repair.specs.Repaired.{repaired_of}
@@ -108,12 +110,21 @@ abbrev pub GoesOn : List Word → Line → ℕ → Result Found RepairFault → 
 GoesOn names line now (Ok repaired) old outcome new = IsCarriedOut (state_in repaired names) line now old outcome new
 GoesOn names line now (Err fault) old outcome new = (outcome ≡ Ended (ending_of fault)) × (new ≡ old)
 
--- what was found was repaired, and then the line carried out, as far as they came, and this is the outcome
-pub record IsChanged (found : Found) (names : List Word) (line : Line) (now : ℕ) (old : State) (outcome : Outcome) (new : State) : Type 0 where
+-- what was repaired is whole
+abbrev pub IsWholeAgain : Result Found RepairFault → Type 0
+IsWholeAgain (Ok repaired) = HasShape repaired × IsWhole repaired
+IsWholeAgain (Err fault) = Unit {0}
+
+-- what was found was repaired, and then the line carried out, which was begun after so many steps, as far as they came, and this
+-- is the outcome
+pub record IsChanged (found : Found) (names : List Word) (line : Line) (now : ℕ) (old : State) (outcome : Outcome) (begun : ℕ) (new : State) : Type 0 where
   pub result : Result Found RepairFault
   pub mid : State
+  pub begun_xl : begun ≡ mid.steps
+  pub whole : IsWholeAgain result
   pub again : IsIdleAgain old mid
   pub follows : (told : Told) → mid.told ≡ Some told → IsRecord told.steps
+  pub steps : (told : Told) → mid.told ≡ Some told → mid.steps ≡ length told.steps
   pub cause : MatchResult result (IsRepaired found old mid) (IsRepairFault found old mid)
   pub told : BetweenTold (Repairs (repair_batches found) result) old.told mid.told
   pub images : HasRepairBegun result → StraysAreOthers found → RepairKeepsImages found

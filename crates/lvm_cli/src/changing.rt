@@ -8,14 +8,17 @@ ghost use Rattle.vg_found.specs.Shape.{HasShape};
 ghost use Rattle.vg_found.specs.Whole.{IsWhole};
 ghost use Rattle.lvm_cli.specs.Changing.{IsCarriedOut, IsChanged, changing, ending_of, outcome_of};
 ghost use Rattle.lvm_cli.specs.Disks.{AreDisks};
+ghost use Rattle.lvm_cli.specs.History.{KeepsPromise, journal_by, lines_by};
 ghost use Rattle.lvm_cli.specs.Meets.{Meets};
 ghost use Rattle.lvm_cli.specs.Runs.{context_with};
 
 use crate::ending::Ending;
 use crate::opening::open_disks;
 use crate::outcome::Outcome;
+use crate::ran::Ran;
 use disk_model::Shelf;
 use group_ops::GroupState;
+use line_history::{done_sets_agree, line_histories};
 use lvm_script::{Answer, DiskNames, Line};
 use std::alloc::{AllocError, Global};
 use vg_change::{ChangeFault, carry_out};
@@ -30,7 +33,7 @@ pub fn run_change<S: Shelf>(
     names: &DiskNames,
     line: &Line,
     now: u64,
-) -> Outcome
+) -> Ran
     requires disks { AreDisks (length names.now) (S.state shelf.old) }
     requires some { 1 ≤ length names.now }
     requires few { length names.now ≤ 64 }
@@ -38,11 +41,18 @@ pub fn run_change<S: Shelf>(
     requires first { line.now.number ≡ 1 }
     requires planned { IsPlanned line.now.id line.now.command }
     requires time { now < 2 ^ 48 }
-    ensures { Meets (changing line.now.command) (context_with names.now line.now.id now (S.state shelf.old)) (S.state shelf.old) result (S.state shelf.new) }
+    ensures meets { Meets (changing line.now.command) (context_with names.now line.now.id now (S.state shelf.old)) (S.state shelf.old) result.outcome (S.state shelf.new) }
+    ensures promise { KeepsPromise names.now now (S.state shelf.old) (journal_by result.begun (S.state shelf.new).steps result.outcome) (lines_by line.now result.outcome) (S.state shelf.new) }
 {
+    // (what is proved of such runs)
+    line_histories();
+    done_sets_agree();
     match open_disks(alloc, shelf) {
         Ok(whole) => change_whole(alloc, shelf, names, whole, line, now),
-        Err(ending) => Outcome::Ended(ending),
+        Err(ending) => Ran {
+            outcome: Outcome::Ended(ending),
+            begun: shelf.steps(),
+        },
     }
 }
 
@@ -54,7 +64,7 @@ fn change_whole<S: Shelf>(
     whole: Whole,
     line: &Line,
     now: u64,
-) -> Outcome
+) -> Ran
     requires idle { (S.state shelf.old).in_flight ≡ [] }
     requires shape { HasShape whole }
     requires all { IsWhole whole }
@@ -63,11 +73,18 @@ fn change_whole<S: Shelf>(
     requires named { All (λ name. is_disk_name name ≡ true) names.now }
     requires planned { IsPlanned line.now.id line.now.command }
     requires time { now < 2 ^ 48 }
-    ensures { IsChanged whole names.now line.now now (S.state shelf.old) result (S.state shelf.new) }
+    ensures { IsChanged whole names.now line.now now (S.state shelf.old) result.outcome result.begun (S.state shelf.new) }
 {
     match repair(alloc, whole, shelf) {
-        Ok(repaired) => change_found(alloc, shelf, names, repaired.into_found(), line, now),
-        Err(fault) => Outcome::Ended(ending_of(fault)),
+        Ok(repaired) => {
+            let begun = shelf.steps();
+            let outcome = change_found(alloc, shelf, names, repaired.into_found(), line, now);
+            Ran { outcome, begun }
+        }
+        Err(fault) => Ran {
+            outcome: Outcome::Ended(ending_of(fault)),
+            begun: shelf.steps(),
+        },
     }
 }
 

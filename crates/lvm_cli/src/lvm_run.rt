@@ -1,10 +1,13 @@
 //! All that the program does, over any row of disks, streams and sources of ids.
-ghost use Rattle.std.specs.Prelude.{◌≡◌, ◌≤◌, ◌<◌, ◌^◌, true, false, [], length};
+ghost use Rattle.std.specs.Prelude.{◌≡◌, ◌≢◌, ◌≤◌, ◌<◌, ◌^◌, true, false, [], length, None};
 ghost use Rattle.lvm_script.specs.Lines.{changes};
 ghost use Rattle.lvm_script.specs.Options.{words_of};
+ghost use Rattle.lvm_cli.specs.declared.ending.Ending.TheVariants as EndingVariants;
 ghost use Rattle.lvm_cli.specs.declared.outcome.Outcome.{Outcome as OutcomeRecord};
+ghost use Rattle.lvm_cli.specs.declared.outcome.Outcome.TheVariants as OutcomeVariants;
 ghost use Rattle.lvm_cli.specs.Commands.{is_built, spec_of};
 ghost use Rattle.lvm_cli.specs.Disks.{AreDisks, HasDisks};
+ghost use Rattle.lvm_cli.specs.History.{HasEntered, HasRoom, IsNothing, KeepsPromise, journal_by, lines_by, lines_of_task, lines_of_words, said_of};
 ghost use Rattle.lvm_cli.specs.Meets.{Meets};
 ghost use Rattle.lvm_cli.specs.Outcomes.{Ends, output_of};
 ghost use Rattle.lvm_cli.specs.Runs.{AreNamed, CanPlan, CanPlanTask, RunsLine, RunsTask, RunsWords, context_with, names_of};
@@ -15,21 +18,42 @@ use crate::commands::pvck::run_pvck;
 use crate::commands::scan_report::{ScanReport, run_scan_report};
 use crate::commands::vgcfgbackup::run_vgcfgbackup;
 use crate::ending::Ending;
+use crate::entered::Entered;
 use crate::outcome::Outcome;
+use crate::ran::Ran;
 use disk_model::Shelf;
+use line_table::{Answers, Journal};
 use lvm_id::Words64;
 use lvm_script::{Command, DiskNames, Line, Sink, Source};
 use lvm_words::{Asked, Task, WordsRefusal, read_words};
-use std::alloc::Global;
+use std::alloc::{AllocError, Global};
 use std::sync::Wait;
 use std::thread::Threads;
 use table_lock::Gate;
 
-/// How a run ended: its exit status, and the disks.
+/// How a run ended: its exit status, the disks, and what it has entered.
 #[derive(Drop)]
 pub struct Ended<S> {
     pub status: u8,
     pub shelf: S,
+    entered: Entered,
+}
+
+impl<S> Ended<S> {
+    /// The journal: what was done of the lines, with the moment of each entry, which counts the steps of the disks. It is
+    /// empty where no line was begun.
+    pub fn journal(&self) -> &Journal
+        ensures { result.now.items ≡ self.now.entered.journal.items }
+    {
+        &self.entered.journal
+    }
+
+    /// Of each line that was begun its number and its answer.
+    pub fn answers(&self) -> &Answers
+        ensures { result.now.items ≡ self.now.entered.answers.items }
+    {
+        &self.entered.answers
+    }
 }
 
 /// Runs the program's words. Where they name disks, `shelf` has these in that order, each of 8 to 2^40 sectors, with nothing
@@ -56,11 +80,12 @@ pub fn lvm_run<
     requires disks { HasDisks (words_of words.now.items) (S.state shelf) }
     requires time { now < 2 ^ 48 }
 
-    // The run comes to an outcome by what is said of its words, and the output and the status are the outcome's, unless the
-    // sink failed.
+    // The run comes to an outcome by what is said of its words, the output and the status are the outcome's, unless the sink
+    // failed, and the journal and the answers keep the promise.
     ensures run { (outcome : OutcomeRecord)
         × RunsWords (words_of words.now.items) now (N.upcoming ids.old) (S.state shelf) outcome (N.upcoming ids.new) (S.state result.shelf)
-        × Ends (names_of (words_of words.now.items)) outcome result.status (W.written out.old) (W.fault_count out.old) (W.written out.new) (W.fault_count out.new) }
+        × Ends (names_of (words_of words.now.items)) outcome result.status (W.written out.old) (W.fault_count out.old) (W.written out.new) (W.fault_count out.new)
+        × HasEntered (names_of (words_of words.now.items)) (words_of words.now.items) now (N.upcoming ids.old) (S.state shelf) outcome result.entered.journal.items result.entered.answers.items (S.state result.shelf) }
 
     // The source is left as it was.
     ensures script { R.left script.new ≡ R.left script.old }
@@ -68,28 +93,82 @@ pub fn lvm_run<
 {
     let _ = script;
     let mut shelf = shelf;
-    let (outcome, names) = run_words(alloc, words, &mut shelf, ids, now);
+    let (ran, names, mut entered) = run_words(alloc, words, &mut shelf, ids, now);
+    let Ran { outcome, begun } = ran;
     let status = outcome.print(alloc, out, &names);
-    Ended { status, shelf }
+    entered.enter(begun, shelf.steps(), outcome);
+    Ended {
+        status,
+        shelf,
+        entered,
+    }
 }
 
-// Runs the words at this time, and gives the names of the disks as far as the outcome prints them.
+// Runs the words at this time, and gives the names of the disks as far as the outcome prints them, and room for what is to be
+// entered of it. That is taken before anything is done.
 fn run_words<S: Shelf, N: Words64>(
     alloc: Global,
     words: &[String],
     shelf: &mut S,
     ids: &mut N,
     now: u64,
-) -> (Outcome, DiskNames)
+) -> (Ran, DiskNames, Entered)
     requires disks { HasDisks (words_of words.now) (S.state shelf.old) }
     requires time { now < 2 ^ 48 }
-    ensures run { RunsWords (words_of words.now) now (N.upcoming ids.old) (S.state shelf.old) result.0 (N.upcoming ids.new) (S.state shelf.new) }
-    ensures output { output_of result.1 result.0 ≡ output_of (names_of (words_of words.now)) result.0 }
+    ensures run { RunsWords (words_of words.now) now (N.upcoming ids.old) (S.state shelf.old) result.0.outcome (N.upcoming ids.new) (S.state shelf.new) }
+    ensures output { output_of result.1 result.0.outcome ≡ output_of (names_of (words_of words.now)) result.0.outcome }
+    ensures promise { KeepsPromise (names_of (words_of words.now)) now (S.state shelf.old) (journal_by result.0.begun (S.state shelf.new).steps result.0.outcome)
+        (lines_of_words (words_of words.now) (N.upcoming ids.old) result.0.outcome) (S.state shelf.new) }
+    ensures room { said_of result.0.outcome ≢ None → HasRoom result.2 }
+    ensures none { IsNothing result.2 }
+{
+    match Entered::spare(alloc) {
+        Ok(entered) => {
+            let (ran, names) = run_asked(alloc, words, shelf, ids, now);
+            (ran, names, entered)
+        }
+        Err(AllocError) => (
+            Ran {
+                outcome: Outcome::Ended(Ending::NoMemory),
+                begun: 0,
+            },
+            no_names(alloc),
+            Entered::none(alloc),
+        ),
+    }
+}
+
+// Reads the words, and does what they ask for.
+fn run_asked<S: Shelf, N: Words64>(
+    alloc: Global,
+    words: &[String],
+    shelf: &mut S,
+    ids: &mut N,
+    now: u64,
+) -> (Ran, DiskNames)
+    requires disks { HasDisks (words_of words.now) (S.state shelf.old) }
+    requires time { now < 2 ^ 48 }
+    ensures run { RunsWords (words_of words.now) now (N.upcoming ids.old) (S.state shelf.old) result.0.outcome (N.upcoming ids.new) (S.state shelf.new) }
+    ensures output { output_of result.1 result.0.outcome ≡ output_of (names_of (words_of words.now)) result.0.outcome }
+    ensures promise { KeepsPromise (names_of (words_of words.now)) now (S.state shelf.old) (journal_by result.0.begun (S.state shelf.new).steps result.0.outcome)
+        (lines_of_words (words_of words.now) (N.upcoming ids.old) result.0.outcome) (S.state shelf.new) }
 {
     match read_words(alloc, words, ids) {
         Ok(Asked { names, task }) => (run_task(alloc, shelf, &names, task, now), names),
-        Err(WordsRefusal::NoMeaning) => (Outcome::Ended(Ending::WordsRefused), no_names(alloc)),
-        Err(WordsRefusal::NoMemory) => (Outcome::Ended(Ending::NoMemory), no_names(alloc)),
+        Err(WordsRefusal::NoMeaning) => (
+            Ran {
+                outcome: Outcome::Ended(Ending::WordsRefused),
+                begun: 0,
+            },
+            no_names(alloc),
+        ),
+        Err(WordsRefusal::NoMemory) => (
+            Ran {
+                outcome: Outcome::Ended(Ending::NoMemory),
+                begun: 0,
+            },
+            no_names(alloc),
+        ),
     }
 }
 
@@ -100,65 +179,66 @@ fn no_names(alloc: Global) -> DiskNames
 }
 
 // Does what is asked for, at this time, where it is built.
-fn run_task<S: Shelf>(
-    alloc: Global,
-    shelf: &mut S,
-    names: &DiskNames,
-    task: Task,
-    now: u64,
-) -> Outcome
+fn run_task<S: Shelf>(alloc: Global, shelf: &mut S, names: &DiskNames, task: Task, now: u64) -> Ran
     requires disks { AreDisks (length names.now) (S.state shelf.old) }
     requires named { AreNamed names.now }
     requires planned { CanPlanTask task }
     requires time { now < 2 ^ 48 }
-    ensures { RunsTask names.now task now (S.state shelf.old) result (S.state shelf.new) }
+    ensures run { RunsTask names.now task now (S.state shelf.old) result.outcome (S.state shelf.new) }
+    ensures promise { KeepsPromise names.now now (S.state shelf.old) (journal_by result.begun (S.state shelf.new).steps result.outcome) (lines_of_task task result.outcome) (S.state shelf.new) }
 {
     match task {
         Task::One(line) => run_line(alloc, shelf, names, line, now),
-        Task::Session { .. } | Task::Demo { .. } => Outcome::Ended(Ending::WordsRefused),
+        Task::Session { .. } => refused(),
+        Task::Demo { .. } => refused(),
+    }
+}
+
+// What is asked for isn't built, and nothing is done.
+fn refused() -> Ran
+    ensures { result.outcome ≡ OutcomeVariants.Ended EndingVariants.WordsRefused }
+{
+    Ran {
+        outcome: Outcome::Ended(Ending::WordsRefused),
+        begun: 0,
     }
 }
 
 // Does what the line asks for, where its command is built.
-fn run_line<S: Shelf>(
-    alloc: Global,
-    shelf: &mut S,
-    names: &DiskNames,
-    line: Line,
-    now: u64,
-) -> Outcome
+fn run_line<S: Shelf>(alloc: Global, shelf: &mut S, names: &DiskNames, line: Line, now: u64) -> Ran
     requires disks { AreDisks (length names.now) (S.state shelf.old) }
     requires named { AreNamed names.now }
     requires planned { CanPlan line }
     requires time { now < 2 ^ 48 }
-    ensures { RunsLine names.now line.command line.id now (S.state shelf.old) result (S.state shelf.new) }
+    ensures run { RunsLine names.now line.command line.id now (S.state shelf.old) result.outcome (S.state shelf.new) }
+    ensures promise { KeepsPromise names.now now (S.state shelf.old) (journal_by result.begun (S.state shelf.new).steps result.outcome) (lines_by line result.outcome) (S.state shelf.new) }
 {
     if is_built(&line.command) {
         run_built(alloc, shelf, names, line, now)
     } else {
-        Outcome::Ended(Ending::WordsRefused)
+        Ran {
+            outcome: Outcome::Ended(Ending::WordsRefused),
+            begun: 0,
+        }
     }
 }
 
 // Does what the line asks for on these disks, at this time.
-fn run_built<S: Shelf>(
-    alloc: Global,
-    shelf: &mut S,
-    names: &DiskNames,
-    line: Line,
-    now: u64,
-) -> Outcome
+fn run_built<S: Shelf>(alloc: Global, shelf: &mut S, names: &DiskNames, line: Line, now: u64) -> Ran
     requires disks { AreDisks (length names.now) (S.state shelf.old) }
     requires named { AreNamed names.now }
     requires built { is_built line.command ≡ true }
     requires planned { CanPlan line }
     requires time { now < 2 ^ 48 }
-    ensures { Meets (spec_of line.command) (context_with names.now line.id now (S.state shelf.old)) (S.state shelf.old) result (S.state shelf.new) }
+    ensures meets { Meets (spec_of line.command) (context_with names.now line.id now (S.state shelf.old)) (S.state shelf.old) result.outcome (S.state shelf.new) }
+    ensures promise { KeepsPromise names.now now (S.state shelf.old) (journal_by result.begun (S.state shelf.new).steps result.outcome) (lines_by line result.outcome) (S.state shelf.new) }
 {
     if line.command.changes() {
         return run_change(alloc, shelf, names, &line, now);
     }
-    run_reading(alloc, shelf, names, line, now)
+    let begun = shelf.steps();
+    let outcome = run_reading(alloc, shelf, names, line, now);
+    Ran { outcome, begun }
 }
 
 // The same of a command that changes nothing.

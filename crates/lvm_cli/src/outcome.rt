@@ -1,11 +1,11 @@
 //! What a run comes to.
-ghost use Rattle.std.specs.Prelude.{◌≡◌, ◌++◌, codes, decimal, is_ok};
-ghost use Rattle.lvm_script.specs.Answers.{answer_text};
+ghost use Rattle.std.specs.Prelude.{◌≡◌, is_ok};
 ghost use Rattle.lvm_script.specs.Streams.{WritesText};
 ghost use Rattle.lvm_cli.specs.Outcomes.{Ends, output_of, status_of, status_of_answer, status_unprinted};
 
 use crate::ending::Ending;
-use lvm_script::{Answer, DiskNames, Failed, Sink, TextSink, write_all, write_bytes, write_number};
+use lvm_report::write_answered;
+use lvm_script::{Answer, DiskNames, Failed, Sink, TextSink, write_all, write_bytes};
 use sector_base::Text;
 use std::alloc::Global;
 
@@ -91,20 +91,4 @@ fn status_of(answer: &Answer) -> u8
         Answer::NoMemory => 2,
         Answer::Fine | Answer::Read(_) | Answer::Listed(_) | Answer::Aborted => 0,
     }
-}
-
-// Writes the answer of a line, with the line's number.
-fn write_answered<W: Sink>(
-    out: &mut W,
-    line: u64,
-    answer: &Answer,
-    names: &DiskNames,
-) -> Result<(), Failed>
-    ensures { WritesText (W.written out.old) (W.fault_count out.old) (decimal line ++ codes ": " ++ answer_text names.now answer.now ++ codes "\n")
-        (is_ok result) (W.written out.new) (W.fault_count out.new) }
-{
-    write_number(out, line)?;
-    write_bytes(out, b": ")?;
-    answer.write(out, names)?;
-    write_bytes(out, b"\n")
 }

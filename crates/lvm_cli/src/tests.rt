@@ -19,6 +19,7 @@ use table_lock::OpenGate;
 
 mod backups;
 mod groups;
+mod journals;
 mod reports;
 
 /// Creates a physical volume without a metadata area.

@@ -1,15 +1,15 @@
 use Rattle.std.proofs.Common.{length, refl, sym, ap, subst, ◌∙◌}
 use Rattle.std.specs.Prelude.{Ok, Err}
-use Rattle.disk_model.specs.Record.{IsRecord}
-use Rattle.disk_model.specs.Steps.{Told}
-use Rattle.disk_model.proofs.WhereTold.{told_at}
 use Rattle.group_ops.specs.Laws.{state_in}
+use Rattle.vg_found.specs.Shape.{HasShape}
+use Rattle.vg_found.specs.Whole.{IsWhole}
 use Rattle.vg_found.specs.declared.found.Found.{Found}
 use Rattle.vg_repair.proofs.RepairedSizes.{repaired_count, repaired_sizes}
 use Rattle.vg_change.specs.CarryingOut.{sizes_of}
 use Rattle.lvm_cli.specs.Changing.{IsCarriedOut}
 use Rattle.lvm_cli.specs.declared.ending.Ending.{Ending}
 use Rattle.lvm_cli.specs.declared.outcome.Outcome.TheVariants.{Ended}
+use Rattle.lvm_cli.proofs.Promised.{told_of}
 use Rattle.lvm_cli.proofs.changing.change_whole.Goals as goal
 
 pub returns-in-Err : goal.returns-in-Err
@@ -20,7 +20,10 @@ returns-in-Err g c =
       result = Err c.in-Err.fault;
       mid = s1;
       again = e.again;
-      follows = λ told is. told_at (λ (t : Told). IsRecord t.steps) s1.told told (g.met.S.Shelf.lawful c.repair.new.shelf).follows is;
+      follows = (told_of s1 (g.met.S.Shelf.lawful c.repair.new.shelf)).record_is;
+      steps = (told_of s1 (g.met.S.Shelf.lawful c.repair.new.shelf)).steps;
+      begun_xl = c.steps.ensures;
+      whole = tt;
       cause = e.cause;
       told = e.told;
       images = e.images;
@@ -35,17 +38,20 @@ returns-in-Ok g c =
       result = Ok c.in-Ok.repaired;
       mid = s1;
       again = e.again;
-      follows = λ told is. told_at (λ (t : Told). IsRecord t.steps) s1.told told (g.met.S.Shelf.lawful c.repair.new.shelf).follows is;
+      follows = (told_of s1 (g.met.S.Shelf.lawful c.repair.new.shelf)).record_is;
+      steps = (told_of s1 (g.met.S.Shelf.lawful c.repair.new.shelf)).steps;
+      begun_xl = c.steps-begun.ensures;
+      whole = (subst HasShape c.into_found.ensures.found c.into_found.ensures.shape, subst IsWhole c.into_found.ensures.found c.into_found.ensures.whole);
       cause = e.cause;
       told = e.told;
       images = e.images;
-      goes = subst (λ (f : Found). IsCarriedOut (state_in f c.args.names.now) c.args.line.now c.args.now s1 c.change_found.result (g.S.Shelf.state c.change_found.new.shelf)) c.into_found.ensures.found c.change_found.ensures;
+      goes = subst (λ (f : Found). IsCarriedOut (state_in f c.args.names.now) c.args.line.now c.args.now s1 c.change_found-outcome.result (g.S.Shelf.state c.change_found-outcome.new.shelf)) c.into_found.ensures.found c.change_found-outcome.ensures;
     }
 
-pub change_found-requires-clause-count : goal.change_found-requires-clause-count
-change_found-requires-clause-count g c =
+pub change_found-outcome-requires-clause-count : goal.change_found-outcome-requires-clause-count
+change_found-outcome-requires-clause-count g c =
     c.requires.count ∙ sym (repaired_count c.args.whole) ∙ ap (λ (f : Found). length f.disks) (sym (c.into_found.ensures.found ∙ c.in-Ok.ensures.cause.now))
 
-pub change_found-requires-clause-sizes : goal.change_found-requires-clause-sizes
-change_found-requires-clause-sizes g c =
+pub change_found-outcome-requires-clause-sizes : goal.change_found-outcome-requires-clause-sizes
+change_found-outcome-requires-clause-sizes g c =
     c.in-Ok.ensures.again.sizes ∙ c.requires.sizes ∙ sym (repaired_sizes c.args.whole) ∙ ap (λ (f : Found). sizes_of f.disks) (sym (c.into_found.ensures.found ∙ c.in-Ok.ensures.cause.now))

@@ -1,11 +1,11 @@
-use Rattle.std.proofs.Common.{◌≡◌, ℕ, ap, sym, subst, arith}
-use Rattle.disk_model.specs.Record.{IsRecord}
-use Rattle.disk_model.specs.Steps.{Told}
-use Rattle.disk_model.proofs.WhereTold.{told_at}
+use Rattle.std.proofs.Common.{◌≡◌, ℕ, length, ap, sym, subst, arith}
+use Rattle.std.proofs.lemmas.List.{length-map}
+use Rattle.vg_found.specs.declared.disk.Disk.{Disk}
 use Rattle.lvm_script.specs.declared.line.Line.{Line}
 use Rattle.lvm_cli.specs.Changing.{IsChanged}
 use Rattle.lvm_cli.specs.Disks.{AreDisks}
 use Rattle.lvm_cli.proofs.CarriedOut.{meets_changed, meets_unopened}
+use Rattle.lvm_cli.proofs.Promised.{kept_changed, kept_unopened, told_of}
 use Rattle.lvm_cli.proofs.changing.run_change.Goals as goal
 
 pub open_disks-requires-clause-disks : goal.open_disks-requires-clause-disks
@@ -19,19 +19,36 @@ open_disks-requires-clause-some g c = omega (arith, c.requires.disks.many, c.req
 pub open_disks-requires-clause-few : goal.open_disks-requires-clause-few
 open_disks-requires-clause-few g c = omega (arith, c.requires.disks.many, c.requires.few)
 
-pub returns-in-Err : goal.returns-in-Err
-returns-in-Err g c =
+pub returns-in-Err-clause-meets : goal.returns-in-Err-clause-meets
+returns-in-Err-clause-meets g c =
     let e = c.in-Err.ensures in
     meets_unopened c.args.names.now c.args.line.now.command c.args.line.now.id c.args.now (g.S.Shelf.state c.args.shelf.now) (g.S.Shelf.state c.open_disks.new.shelf) c.in-Err.ending e.again e.cause e.told
 
-pub returns-in-Ok : goal.returns-in-Ok
-returns-in-Ok g c =
+pub returns-in-Err-clause-promise : goal.returns-in-Err-clause-promise
+returns-in-Err-clause-promise g c =
+    let s1 = g.S.Shelf.state c.open_disks.new.shelf in
+    kept_unopened c.args.names.now c.args.now c.args.line.now (g.S.Shelf.state c.args.shelf.now) s1 c.steps.result c.in-Err.ending (told_of s1 (g.met.S.Shelf.lawful c.open_disks.new.shelf)) c.in-Err.ensures.told
+
+pub returns-in-Ok-clause-meets : goal.returns-in-Ok-clause-meets
+returns-in-Ok-clause-meets g c =
     let s0 = g.S.Shelf.state c.args.shelf.now in
     let s1 = g.S.Shelf.state c.open_disks.new.shelf in
     let s2 = g.S.Shelf.state c.change_whole.new.shelf in
     let e = c.in-Ok.ensures in
     let line = c.args.line.now in
     let same : line ≡ record { number = 1; id = line.id; command = line.command } = ap (λ (n : ℕ). record { number = n; id = line.id; command = line.command }) c.requires.first in
-    let changed = subst (λ (l : Line). IsChanged c.in-Ok.whole c.args.names.now l c.args.now s1 c.change_whole.result s2) same c.change_whole.ensures in
+    let changed = subst (λ (l : Line). IsChanged c.in-Ok.whole c.args.names.now l c.args.now s1 c.change_whole.result.outcome c.change_whole.result.begun s2) same c.change_whole.ensures in
     meets_changed c.args.names.now line.command line.id c.args.now s0 c.in-Ok.whole s1 e.cause e.again e.told
-    (λ told is. told_at (λ (t : Told). IsRecord t.steps) s0.told told (g.met.S.Shelf.lawful c.args.shelf.now).follows is) c.change_whole.result s2 changed
+    (told_of s0 (g.met.S.Shelf.lawful c.args.shelf.now)).record_is c.change_whole.result.outcome c.change_whole.result.begun s2 changed
+
+pub returns-in-Ok-clause-promise : goal.returns-in-Ok-clause-promise
+returns-in-Ok-clause-promise g c =
+    let many = length-map c.in-Ok.whole.disks (λ (disk : Disk). disk.sectors) in
+    let sizes = ap length c.in-Ok.ensures.cause.sizes in
+    let count : length c.args.names.now ≡ length c.in-Ok.whole.disks = omega (arith, many, sizes, c.requires.disks.many) in
+    let s0 = g.S.Shelf.state c.args.shelf.now in
+    let s1 = g.S.Shelf.state c.open_disks.new.shelf in
+    let s2 = g.S.Shelf.state c.change_whole.new.shelf in
+    let e = c.in-Ok.ensures in
+    kept_changed c.line_histories.ensures.lines c.line_histories.ensures.ends c.done_sets_agree.ensures c.args.names.now c.args.now c.args.line.now s0 c.in-Ok.whole s1 e.cause e.told count c.requires.named c.requires.planned c.requires.time
+    (told_of s0 (g.met.S.Shelf.lawful c.args.shelf.now)) s2 c.change_whole.result.outcome c.change_whole.result.begun (told_of s2 (g.met.S.Shelf.lawful c.change_whole.new.shelf)) c.change_whole.ensures

@@ -1,10 +1,13 @@
-use Rattle.std.proofs.Common.{◌≡◌, ℕ, List, Option, ap, subst, ◌∙◌}
+use Rattle.std.proofs.Common.{◌≡◌, ℕ, List, Option, sym, ap, subst, ◌∙◌}
 use Rattle.std.specs.declared.string.String.{String}
 use Rattle.lvm_script.specs.Options.{Word, words_of}
 use Rattle.lvm_script.specs.Streams.{WritesText}
 use Rattle.lvm_cli.specs.declared.outcome.Outcome.{Outcome}
+use Rattle.line_table.specs.declared.journal.JournalEntry.{JournalEntry}
+use Rattle.lvm_cli.specs.History.{KeepsPromise, journal_by, lines_of_words}
 use Rattle.lvm_cli.specs.Outcomes.{Ends, output_of}
 use Rattle.lvm_cli.specs.Runs.{RunsWords, names_of}
+use Rattle.lvm_cli.proofs.AskedLines.{entered_answers}
 use Rattle.lvm_cli.proofs.lvm_run.lvm_run.Goals as goal
 
 -- names that print alike
@@ -13,11 +16,23 @@ ends_alike a b outcome status f0 f1 b0 b1 alike e = (e.0, e.1, subst (λ (t : Li
 
 pub returns-clause-run : goal.returns-clause-run
 returns-clause-run g c =
-    let outcome = c.run_words-outcome.result.0 in
-    let words_are = c.deref.ensures.value in (
-      outcome,
-      subst (λ (w : List (String _)). RunsWords (words_of w) c.args.now (g.N.Words64.upcoming c.args.ids.now) (g.S.Shelf.state c.args.shelf) outcome (g.N.Words64.upcoming c.run_words-outcome.new.ids) (g.S.Shelf.state c.run_words-outcome.new.shelf))
-          words_are c.run_words-outcome.ensures.run,
-      ends_alike c.run_words-outcome.result.1 (names_of (words_of c.args.words.now.items)) outcome c.print-status.result _ _ _ _
-          (c.run_words-outcome.ensures.output ∙ ap (λ (w : List (String _)). output_of (names_of (words_of w)) outcome) words_are) c.print-status.ensures,
+    let ran = c.run_words-ran.result.0 in
+    let s0 = g.S.Shelf.state c.args.shelf in
+    let s1 = g.S.Shelf.state c.run_words-ran.new.shelf in
+    let ids = g.N.Words64.upcoming c.args.ids.now in
+    let words_are = c.deref.ensures.value in
+    let runs : RunsWords (words_of c.args.words.now.items) c.args.now ids s0 ran.outcome (g.N.Words64.upcoming c.run_words-ran.new.ids) s1 =
+    subst (λ (w : List (String _)). RunsWords (words_of w) c.args.now ids s0 ran.outcome (g.N.Words64.upcoming c.run_words-ran.new.ids) s1) words_are c.run_words-ran.ensures.run
+    in
+    let journal = c.enter.ensures.journal ∙ ap (λ (n : ℕ). journal_by ran.begun n ran.outcome) c.steps.ensures in (
+      ran.outcome,
+      runs,
+      ends_alike c.run_words-ran.result.1 (names_of (words_of c.args.words.now.items)) ran.outcome c.print-status.result _ _ _ _
+          (c.run_words-ran.ensures.output ∙ ap (λ (w : List (String _)). output_of (names_of (words_of w)) ran.outcome) words_are) c.print-status.ensures,
+      record {
+        answers_xl = c.enter.ensures.answers ∙ sym (entered_answers (words_of c.args.words.now.items) c.args.now ids s0 ran.outcome (g.N.Words64.upcoming c.run_words-ran.new.ids) s1 runs);
+        promise =
+            subst (λ (j : List JournalEntry). KeepsPromise (names_of (words_of c.args.words.now.items)) c.args.now s0 j (lines_of_words (words_of c.args.words.now.items) ids ran.outcome) s1) (sym {A = List JournalEntry} journal)
+            (subst (λ (w : List (String _)). KeepsPromise (names_of (words_of w)) c.args.now s0 (journal_by ran.begun s1.steps ran.outcome) (lines_of_words (words_of w) ids ran.outcome) s1) words_are c.run_words-ran.ensures.promise);
+      },
     )

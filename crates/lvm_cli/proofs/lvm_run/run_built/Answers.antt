@@ -1,12 +1,23 @@
-use Rattle.std.proofs.Common.{sym, subst, ◌∙◌}
+use Rattle.std.proofs.Common.{ℕ, sym, subst, ◌∙◌}
 use Rattle.lvm_cli.specs.CommandSpec.{CommandSpec}
+use Rattle.lvm_cli.specs.History.{KeepsPromise, journal_by, lines_by}
 use Rattle.lvm_cli.specs.Meets.{Meets}
 use Rattle.lvm_cli.specs.Runs.{context_with}
 use Rattle.lvm_cli.proofs.BuiltCommands.{spec_of_changing}
+use Rattle.lvm_cli.proofs.Promised.{told_of}
+use Rattle.lvm_cli.proofs.PromisedReports.{kept_report, report_is}
 use Rattle.lvm_cli.proofs.lvm_run.run_built.Goals as goal
 
-pub returns-then-changes : goal.returns-then-changes
-returns-then-changes g c =
+pub returns-then-changes-clause-meets : goal.returns-then-changes-clause-meets
+returns-then-changes-clause-meets g c =
     let s0 = g.S.Shelf.state c.args.shelf.now in
-    subst (λ (spec : CommandSpec). Meets spec (context_with c.args.names.now c.args.line.id c.args.now s0) s0 c.run_change.result (g.S.Shelf.state c.run_change.new.shelf))
-    (sym (spec_of_changing c.args.line.command c.requires.built (sym c.changes.ensures ∙ c.if-changes.true))) c.run_change.ensures
+    subst (λ (spec : CommandSpec). Meets spec (context_with c.args.names.now c.args.line.id c.args.now s0) s0 c.run_change.result.outcome (g.S.Shelf.state c.run_change.new.shelf))
+    (sym (spec_of_changing c.args.line.command c.requires.built (sym c.changes.ensures ∙ c.if-changes.true))) c.run_change.ensures.meets
+
+pub returns-clause-promise : goal.returns-clause-promise
+returns-clause-promise g c =
+    let s0 = g.S.Shelf.state c.args.shelf.now in
+    let s1 = g.S.Shelf.state c.run_reading-outcome.new.shelf in
+    subst (λ (n : ℕ). KeepsPromise c.args.names.now c.args.now s0 (journal_by n s1.steps c.run_reading-outcome.result) (lines_by c.args.line c.run_reading-outcome.result) s1) (sym c.steps-begun.ensures)
+    (kept_report c.args.names.now c.args.now c.args.line s0 s1 (told_of s0 (g.met.S.Shelf.lawful c.args.shelf.now)) (told_of s1 (g.met.S.Shelf.lawful c.run_reading-outcome.new.shelf))
+    (report_is c.args.line.command c.requires.built (sym c.changes.ensures ∙ c.if-changes.false)) c.run_reading-outcome.result c.run_reading-outcome.ensures.cause c.run_reading-outcome.ensures.told)

@@ -1,23 +1,14 @@
-use Rattle.std.proofs.Common.{inr, refl}
 use Rattle.lvm_script.specs.Options.{words_of}
-use Rattle.lvm_words.proofs.LineNames.{names_of_line}
-use Rattle.lvm_cli.proofs.EachNamed.{are_named}
-use Rattle.lvm_cli.proofs.PlannedWords.{can_plan}
-use Rattle.lvm_cli.proofs.Undone.{undone}
+use Rattle.lvm_cli.specs.declared.ending.Ending.TheVariants.{NoMemory}
+use Rattle.lvm_cli.proofs.AskedLines.{kept_words}
+use Rattle.lvm_cli.proofs.Promised.{told_of}
+use Rattle.lvm_cli.proofs.Undone.{undone_words}
 use Rattle.lvm_cli.proofs.lvm_run.run_words.Goals as goal
 
-pub run_task-requires-clause-named : goal.run_task-requires-clause-named
-run_task-requires-clause-named g c = are_named (words_of c.args.words.now) _ c.in-Ok.ensures.line
+pub returns-in-Err-clause-run : goal.returns-in-Err-clause-run
+returns-in-Err-clause-run g c = undone_words (words_of c.args.words.now) c.args.now (g.N.Words64.upcoming c.args.ids.now) (g.S.Shelf.state c.args.shelf.now) c.requires.disks
 
-pub run_task-requires-clause-planned : goal.run_task-requires-clause-planned
-run_task-requires-clause-planned g c =
-    can_plan (words_of c.args.words.now) _ _ (g.N.Words64.upcoming c.args.ids.now) c.in-Ok.ensures.line refl c.in-Ok.ensures.task c.in-Ok.ensures.valid
-
-pub returns-in-Err-NoMemory-clause-run : goal.returns-in-Err-NoMemory-clause-run
-returns-in-Err-NoMemory-clause-run g c = record {
-  refused = λ none. ((inr refl, refl), c.in-Err-NoMemory.ensures.undrawn);
-  lines = λ line is.
-      let disks = c.requires.disks line.names (names_of_line _ line is) in
-      undone line.names line.request (g.N.Words64.upcoming c.args.ids.now) c.args.now (g.S.Shelf.state c.args.shelf.now) disks.idle;
-  drawn = λ line is. inr (refl, c.in-Err-NoMemory.ensures.undrawn, refl);
-}
+pub returns-in-Err-clause-promise : goal.returns-in-Err-clause-promise
+returns-in-Err-clause-promise g c =
+    let s0 = g.S.Shelf.state c.args.shelf.now in
+    kept_words (words_of c.args.words.now) c.args.now (g.N.Words64.upcoming c.args.ids.now) s0 (told_of s0 (g.met.S.Shelf.lawful c.args.shelf.now)) NoMemory

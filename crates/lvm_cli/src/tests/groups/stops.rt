@@ -15,8 +15,8 @@ use std::sync::Wait;
 use std::test::Fail;
 use std::thread::Threads;
 
-/// Which of its values each sector takes that has two: the old one, the new one, and both in turn.
-const CHOICES: [u64; 3] = [0, 0xffff, 0x5555];
+/// Which sectors take the new one of their two values, where some do: every second, two of four, eight of sixteen.
+const MIXED: [u64; 6] = [0x5555, 0xaaaa, 0x3333, 0xcccc, 0x00ff, 0xff00];
 
 /// A group that is created on two of the disks, and one on all three, of which the last has no metadata area: the words,
 /// and what vgs prints of it.
@@ -55,6 +55,11 @@ fn one_in_group<T: Threads + Wait + Sync + Abort>(rt: &T, alloc: Global) -> Resu
     reopened(rt, alloc, &left, left.moments(), 0, Vec::new(alloc))
 }
 
+// Which of its values each sector takes that has two, by turns: the old ones, the new ones, and some of both.
+fn choices_at(turn: u64) -> [u64; 3] {
+    [0, 0xffff, MIXED[(turn % 6) as usize]]
+}
+
 // Whether vgs prints the second of these texts, where it else prints the first, on the disks as a crash at this moment
 // may leave them, where of each two values the one of this number is taken.
 fn is_new<T: Threads + Wait + Sync + Abort>(
@@ -77,7 +82,8 @@ fn is_new<T: Threads + Wait + Sync + Abort>(
     Ok(new)
 }
 
-// Runs the command of these words on the disks, where each crash leaves the old or the new.
+// Runs the command of these words on the disks, where each crash leaves what the journal says: the old until the line is
+// begun, the old or the new while its commit is pending, and the new once it took place.
 fn is_stopped_at_each_moment<T: Threads + Wait + Sync + Abort>(
     rt: &T,
     alloc: Global,
@@ -87,13 +93,21 @@ fn is_stopped_at_each_moment<T: Threads + Wait + Sync + Abort>(
 ) -> Result<(), Fail>
     requires { AreDisks 3 (⟦<MemShelf as Shelf>⟧.state shelf) }
 {
-    let left = answers(rt, alloc, shelf, words, 4, "1: ok\n", 0)?;
+    let mut out = MemSink::new(alloc, 1_000, Vec::new(alloc))?;
+    let ended = run_on_three(rt, alloc, shelf, words, 4, &mut out)?;
+    assert_eq!(rt; (ended.status, ended.journal().len()), (0, 3));
+    let begun = ended.journal()[0].moment;
+    let took = ended.journal()[1].moment;
+    let left = ended.shelf;
     let mut seen = [false; 2];
     for moment in 0..=left.moments() {
-        for choice in CHOICES {
+        for choice in choices_at(moment) {
             let new = is_new(rt, alloc, &left, moment, choice, found)?;
             seen[usize::from(new)] = true;
-            assert!(rt; new || moment < left.moments(), "{moment}, {choice}");
+            assert!(rt;
+                if new { begun < moment } else { moment < took },
+                "{moment}, {choice}"
+            );
         }
     }
     assert!(rt; seen[0] && seen[1]);
@@ -124,7 +138,7 @@ fn is_failed_at_each_operation<T: Threads + Wait + Sync + Abort>(
             let ended = run_on_three(rt, alloc, shelf, words, 4, &mut out)?;
             assert_eq!(rt; ended.status, 6, "{tag}, {fresh}");
             let left = ended.shelf;
-            for choice in CHOICES {
+            for choice in choices_at(tag) {
                 let new = is_new(rt, alloc, &left, left.moments(), choice, found)?;
                 seen[usize::from(new)] = true;
             }

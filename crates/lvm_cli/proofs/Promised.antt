@@ -1,0 +1,328 @@
+-- A run keeps the promise, by what it did to the disks.
+use Rattle.std.proofs.Common.{◌≡◌, ◌<◌, ℕ, ◌^◌, Bool, true, false, List, [], ◌∷◌, length, Option, Some, None, refl, sym, ap, subst, ◌∙◌}
+use Rattle.std.proofs.lemmas.Option.{same_Some}
+use Rattle.std.specs.Prelude.{All, MatchResult, Result, Ok, Err}
+use Rattle.disk_batch.specs.InTurn.{WritesInTurn}
+use Rattle.disk_model.proofs.NowStands.{now_base}
+use Rattle.disk_model.proofs.WhereTold.{told_at}
+use Rattle.disk_model.specs.Durability.{IsBase}
+use Rattle.disk_model.specs.Faults.{HasSameFaults}
+use Rattle.disk_model.specs.Order.{WritesNothing}
+use Rattle.disk_model.specs.Record.{IsRecord}
+use Rattle.disk_model.specs.Since.{BetweenTold}
+use Rattle.disk_model.specs.State.{IsLawful, State}
+use Rattle.disk_model.specs.Steps.{Image, Step, Told, now_after, steps_on}
+use Rattle.group_ops.specs.Laws.{state_in}
+use Rattle.group_ops.specs.Planning.{IsPlanned, refusal_of}
+use Rattle.image_scans.specs.Laws.{none_out}
+use Rattle.image_scans.specs.Versions.{FindsVersion, Version}
+use Rattle.line_history.proofs.Looks.{looks}
+use Rattle.line_history.specs.EachSet.{DoneSetsAgree}
+use Rattle.line_history.specs.Histories.{EndsHaveHistories, LinesHaveHistories, LooksAlone, journal_of_line, run_from}
+use Rattle.line_history.specs.LineRun.{Given, IsGiven, RunsLine, Opened, Repairing, Repaired, Writing, Done}
+use Rattle.lvm_script.specs.Options.{Word}
+use Rattle.lvm_script.specs.Values.{is_disk_name}
+use Rattle.lvm_script.specs.declared.answer.Answer.{Answer}
+use Rattle.lvm_script.specs.declared.answer.Answer.TheVariants as answer
+use Rattle.lvm_script.specs.declared.line.Line.{Line}
+use Rattle.repair_scans.proofs.StraysApart.{strays_apart}
+use Rattle.vg_change.specs.Batches.{batches_of}
+use Rattle.vg_change.specs.CarryingOut.{Carries, HasBegun, IsFault, KeepsImages}
+use Rattle.vg_change.specs.declared.fault.ChangeFault.{ChangeFault}
+use Rattle.vg_change.specs.declared.fault.ChangeFault.TheVariants as fault
+use Rattle.vg_found.specs.Shape.{HasShape}
+use Rattle.vg_found.specs.Whole.{IsWhole}
+use Rattle.vg_found.specs.declared.found.Found.{Found}
+use Rattle.vg_repair.specs.Batches.{repair_batches}
+use Rattle.vg_repair.specs.Laws.{KeepsImages as RepairKeepsImages, StraysAreOthers}
+use Rattle.vg_repair.specs.Repaired.{repaired_of}
+use Rattle.vg_repair.specs.Repairing.{HasBegun as HasRepairBegun, IsFault as IsRepairFault, IsRepaired, Repairs}
+use Rattle.vg_repair.specs.Stale.{too_large}
+use Rattle.vg_repair.specs.declared.fault.RepairFault.{RepairFault}
+use Rattle.vg_repair.specs.declared.fault.RepairFault.TheVariants as repair
+use Rattle.vg_scan.specs.Scans.{HoldsNow, IsScanOf}
+use Rattle.volume_history.specs.Runs.{HasHistory, Run}
+use Rattle.lvm_cli.specs.Changing.{GoesOn, IsCarriedOut, IsChanged, IsWholeAgain, ending_of, outcome_of}
+use Rattle.lvm_cli.specs.History.{KeepsPromise, Said, journal_by, lines_by}
+use Rattle.lvm_cli.specs.Scan.{IsOpened, OpensDisks}
+use Rattle.lvm_cli.specs.declared.ending.Ending.{Ending}
+use Rattle.lvm_cli.specs.declared.outcome.Outcome.{Outcome}
+use Rattle.lvm_cli.specs.declared.outcome.Outcome.TheVariants.{Ended}
+use Rattle.lvm_cli.proofs.ChangedDisks.{none_in_turn}
+use Rattle.lvm_cli.proofs.FlushedAndScanned.{same_image}
+
+-- what a shelf's law says of its record
+pub record IsTold (state : State) : Type 0 where
+  pub record_is : (told : Told) → state.told ≡ Some told → IsRecord told.steps
+  pub steps : (told : Told) → state.told ≡ Some told → state.steps ≡ length told.steps
+
+pub told_of : (state : State) → IsLawful state → IsTold state
+told_of state law = record {
+  record_is = λ told is. told_at (λ (t : Told). IsRecord t.steps) state.told told law.follows is;
+  steps = λ told is. told_at (λ (t : Told). state.steps ≡ length t.steps) state.told told law.steps is;
+}
+
+-- the moments of a journal as the shelf counts them
+pub counted : (run : Run) (said : Answer) (all : List Said) (a b n m : ℕ) → n ≡ a → m ≡ b → HasHistory run (journal_of_line a b said) all → HasHistory run (journal_of_line n m said) all
+counted run said all a b n m begun ended has =
+    subst (λ (k : ℕ). HasHistory run (journal_of_line k m said) all) (sym begun) (subst (λ (k : ℕ). HasHistory run (journal_of_line a k said) all) (sym ended) has)
+
+-- ---- where nothing was written
+
+same_told : (o : Option Told) (a b : Told) → o ≡ Some a → o ≡ Some b → a ≡ b
+same_told o a b is also = same_Some a b (sym is ∙ also)
+
+-- the steps since write nothing
+abbrev pub WroteNothing : Told → Told → Type 0
+WroteNothing old new = (since : List Step) × (new ≡ steps_on since old) × WritesNothing since
+
+-- so they were looked at alone
+pub looked_alone : (old new : State) → IsTold new → BetweenTold WroteNothing old.told new.told → (handed : Told) → old.told ≡ Some handed → (base : Image) → IsBase handed base → (version : Option Version) → FindsVersion old.sizes base none_out version
+    → (ended : Told) → new.told ≡ Some ended → LooksAlone handed old.sizes ended
+looked_alone old new told between handed there base base_is version finds ended at_end =
+    let w = between handed there in
+    let same : w.0 ≡ ended = same_told new.told w.0 ended w.1 at_end in
+    record {
+      base = base;
+      base_is = base_is;
+      version = version;
+      finds = finds;
+      since = w.2.0;
+      steps = sym same ∙ w.2.1;
+      nothing = w.2.2;
+      record_is = told.record_is ended at_end;
+    }
+
+-- and no line was begun
+pub kept_unbegun : (names : List Word) (now : ℕ) (old new : State) → IsTold new → BetweenTold WroteNothing old.told new.told → KeepsPromise names now old [] [] new
+kept_unbegun names now old new told between handed there base base_is version finds ended at_end =
+    (looks handed old.sizes names now ended (looked_alone old new told between handed there base base_is version finds ended at_end), tt)
+
+pub kept_undone : (names : List Word) (now : ℕ) (old : State) → IsTold old → KeepsPromise names now old [] [] old
+kept_undone names now old told = kept_unbegun names now old old told (λ handed there. (handed, there, ([], refl, tt)))
+
+opening_wrote : (sizes : List ℕ) (passes : Bool) (old new : Told) → OpensDisks sizes old passes new → WroteNothing old new
+opening_wrote sizes passes old new o = (o.since, o.steps, o.nothing)
+
+-- the disks weren't taken
+pub kept_unopened : (names : List Word) (now : ℕ) (line : Line) (old new : State) (begun : ℕ) (ending : Ending) → IsTold new → BetweenTold (λ a b. OpensDisks old.sizes a false b) old.told new.told
+    → KeepsPromise names now old (journal_by begun new.steps (Ended ending)) (lines_by line (Ended ending)) new
+kept_unopened names now line old new begun ending told opens =
+    kept_unbegun names now old new told (λ handed there. let o = opens handed there in (o.0, o.1, opening_wrote old.sizes false handed o.0 o.2))
+
+-- ---- the disks were taken as this was found
+module _ (lines : LinesHaveHistories) (ends : EndsHaveHistories) (agree : DoneSetsAgree) (names : List Word) (now : ℕ) (line : Line) (old : State) (found : Found) (mid : State) (opened : IsOpened old found mid) (opens : BetweenTold (λ a b. OpensDisks old.sizes a true b) old.told mid.told)
+    (count : length names ≡ length found.disks) (named : All (λ name. is_disk_name name ≡ true) names) (planned : IsPlanned line.id line.command) (time : now < 2 ^ 48) (old_told : IsTold old) where
+  module _ (handed : Told) (there : old.told ≡ Some handed) (base : Image) (base_is : IsBase handed base) where
+    abbrev given : Given
+    given = record { handed = handed; base = base; sizes = old.sizes; found = found; names = names; line = line; clock = now }
+
+    scan_base : IsScanOf base old.sizes found
+    scan_base =
+        subst (λ (i : Image). IsScanOf i old.sizes found)
+        (same_image (now_after handed.opened handed.steps) base (now_base handed base (old_told.record_is handed there) base_is))
+        (subst (λ (o : Option Told). HoldsNow o (λ image. IsScanOf image old.sizes found)) there opened.now)
+
+    is_given : IsGiven given
+    is_given = record {
+      base = base_is;
+      scan = scan_base;
+      shape = opened.shape;
+      whole = opened.whole;
+      named = count;
+      names_are = named;
+      planned = planned;
+      time = time;
+    }
+
+    others : StraysAreOthers found
+    others = strays_apart base old.sizes found scan_base
+
+    abbrev look : Told
+    look = (opens handed there).0
+
+    look_told : mid.told ≡ Some look
+    look_told = (opens handed there).1
+
+    -- nothing was written at all
+    opened_alone : (ended : Told) → ended ≡ look → IsRecord ended.steps → RunsLine given Opened look ended
+    opened_alone ended same record_is = record {
+      given = is_given;
+      opened = look;
+      since = (opens handed there).2.since;
+      opening = (opens handed there).2.steps;
+      nothing = (opens handed there).2.nothing;
+      repair = none_in_turn look false;
+      fits = λ begun. cc;
+      repair_keeps = λ begun. cc;
+      repaired_shape = λ repaired. cc;
+      repaired_whole = λ repaired. cc;
+      written = λ repaired. cc;
+      unrepaired = λ e. same;
+      passes = λ begun. cc;
+      keeps = λ begun. cc;
+      record_is = record_is;
+    }
+
+    -- the repair failed
+    repair_failed : (start ended : Told) → WritesInTurn look (repair_batches found) false start → too_large found ≡ None → RepairKeepsImages found → ended ≡ start → IsRecord ended.steps → RunsLine given Repairing start ended
+    repair_failed start ended repaired fits keeps same record_is = record {
+      given = is_given;
+      opened = look;
+      since = (opens handed there).2.since;
+      opening = (opens handed there).2.steps;
+      nothing = (opens handed there).2.nothing;
+      repair = repaired;
+      fits = λ begun. fits;
+      repair_keeps = λ begun. keeps;
+      repaired_shape = λ repaired. cc;
+      repaired_whole = λ repaired. cc;
+      written = λ repaired. cc;
+      unrepaired = λ e. same;
+      passes = λ begun. cc;
+      keeps = λ begun. cc;
+      record_is = record_is;
+    }
+
+    -- all was repaired
+    module _ (start ended : Told) (repaired : WritesInTurn look (repair_batches found) true start) (fits : too_large found ≡ None) (keeps : RepairKeepsImages found)
+        (shape : HasShape (repaired_of found)) (whole : IsWhole (repaired_of found)) (record_is : IsRecord ended.steps) where
+      unwritten : ended ≡ start → RunsLine given Repaired start ended
+      unwritten same = record {
+        given = is_given;
+        opened = look;
+        since = (opens handed there).2.since;
+        opening = (opens handed there).2.steps;
+        nothing = (opens handed there).2.nothing;
+        repair = repaired;
+        fits = λ begun. fits;
+        repair_keeps = λ begun. keeps;
+        repaired_shape = λ e. shape;
+        repaired_whole = λ e. whole;
+        written = λ e. subst (λ (t : Told). WritesInTurn start [] false t) (sym same) (none_in_turn start false);
+        unrepaired = λ e. cc;
+        passes = λ begun. cc;
+        keeps = λ begun. cc;
+        record_is = record_is;
+      }
+
+      module _ (passes : refusal_of (state_in (repaired_of found) names) line now ≡ None) (images : KeepsImages (state_in (repaired_of found) names) line now) where
+        failed : WritesInTurn start (batches_of (state_in (repaired_of found) names) line now) false ended → RunsLine given Writing start ended
+        failed written = record {
+          given = is_given;
+          opened = look;
+          since = (opens handed there).2.since;
+          opening = (opens handed there).2.steps;
+          nothing = (opens handed there).2.nothing;
+          repair = repaired;
+          fits = λ begun. fits;
+          repair_keeps = λ begun. keeps;
+          repaired_shape = λ e. shape;
+          repaired_whole = λ e. whole;
+          written = λ e. written;
+          unrepaired = λ e. cc;
+          passes = λ begun. passes;
+          keeps = λ begun. images;
+          record_is = record_is;
+        }
+
+        done : WritesInTurn start (batches_of (state_in (repaired_of found) names) line now) true ended → RunsLine given Done start ended
+        done written = record {
+          given = is_given;
+          opened = look;
+          since = (opens handed there).2.since;
+          opening = (opens handed there).2.steps;
+          nothing = (opens handed there).2.nothing;
+          repair = repaired;
+          fits = λ begun. fits;
+          repair_keeps = λ begun. keeps;
+          repaired_shape = λ e. shape;
+          repaired_whole = λ e. whole;
+          written = λ e. written;
+          unrepaired = λ e. cc;
+          passes = λ begun. passes;
+          keeps = λ begun. images;
+          record_is = record_is;
+        }
+
+  -- ---- by what it came to
+  module _ (done_at new : State) (told_done : IsTold done_at) (told_new : IsTold new) where
+    abbrev Keeps : Outcome → Type 0
+    Keeps outcome = KeepsPromise names now old (journal_by done_at.steps new.steps outcome) (lines_by line outcome) new
+
+    -- the run ended before its line
+    ended_by : (why : RepairFault) → IsRepairFault found mid done_at why → BetweenTold (Repairs (repair_batches found) (Err why)) mid.told done_at.told
+        → (HasRepairBegun (Err why) → StraysAreOthers found → RepairKeepsImages found) → new ≡ done_at → Keeps (Ended (ending_of why))
+    ended_by repair.NoMemory cause told keeps same handed there base base_is version finds ended at_end =
+        let t = told (look handed there base base_is) (look_told handed there base base_is) in
+        let is : ended ≡ t.0 = same_told done_at.told ended t.0 (ap (λ (s : State). s.told) (sym same) ∙ at_end) t.1 in
+        (ends (given handed there base base_is) Opened (look handed there base base_is) ended (opened_alone handed there base base_is ended (is ∙ t.2) (told_new.record_is ended at_end)) tt, tt)
+    ended_by (repair.TooLarge pv need room) cause told keeps same handed there base base_is version finds ended at_end =
+        let t = told (look handed there base base_is) (look_told handed there base base_is) in
+        let is : ended ≡ t.0 = same_told done_at.told ended t.0 (ap (λ (s : State). s.told) (sym same) ∙ at_end) t.1 in
+        (ends (given handed there base base_is) Opened (look handed there base base_is) ended (opened_alone handed there base base_is ended (is ∙ t.2) (told_new.record_is ended at_end)) tt, tt)
+    ended_by (repair.Pv pv) cause told keeps same handed there base base_is version finds ended at_end =
+        let t = told (look handed there base base_is) (look_told handed there base base_is) in
+        let is : ended ≡ t.0 = same_told done_at.told ended t.0 (ap (λ (s : State). s.told) (sym same) ∙ at_end) t.1 in (
+          ends (given handed there base base_is) Repairing t.0 ended
+              (repair_failed handed there base base_is t.0 ended t.2 cause.0 (keeps tt (others handed there base base_is)) is (told_new.record_is ended at_end)) tt,
+          tt,
+        )
+
+    module _ (repaired : IsRepaired found mid done_at (repaired_of found)) (told : BetweenTold (λ a b. WritesInTurn a (repair_batches found) true b) mid.told done_at.told)
+        (keeps : StraysAreOthers found → RepairKeepsImages found) (shape : HasShape (repaired_of found)) (whole : IsWhole (repaired_of found)) where
+      line_by : (result : Result (Unit {0}) ChangeFault) → MatchResult result (λ _. HasSameFaults done_at new × (refusal_of (state_in (repaired_of found) names) line now ≡ None)) (IsFault (state_in (repaired_of found) names) line now done_at new)
+          → (HasBegun result → KeepsImages (state_in (repaired_of found) names) line now) → BetweenTold (Carries (batches_of (state_in (repaired_of found) names) line now) result) done_at.told new.told → Keeps (outcome_of result)
+      line_by (Ok well) cause images carried handed there base base_is version finds ended at_end =
+          let t = told (look handed there base base_is) (look_told handed there base base_is) in
+          let e = carried t.0 t.1 in
+          let is : e.0 ≡ ended = same_told new.told e.0 ended e.1 at_end in
+          let runs : RunsLine (given handed there base base_is) Done t.0 ended =
+          done handed there base base_is t.0 ended t.2 repaired.fits (keeps (others handed there base base_is)) shape whole (told_new.record_is ended at_end) cause.1 (images tt)
+          (subst (λ (u : Told). WritesInTurn t.0 (batches_of (state_in (repaired_of found) names) line now) true u) is e.2)
+          in (
+            counted (run_from handed old.sizes names now ended) answer.Fine ((line, Some answer.Fine) ∷ []) (length t.0.steps) (length ended.steps) done_at.steps new.steps (told_done.steps t.0 t.1) (told_new.steps ended at_end)
+                (lines (given handed there base base_is) Done t.0 ended answer.Fine runs tt),
+            agree (given handed there base base_is) t.0 ended runs,
+          )
+      line_by (Err fault.NoMemory) cause images carried handed there base base_is version finds ended at_end =
+          let t = told (look handed there base base_is) (look_told handed there base base_is) in
+          let e = carried t.0 t.1 in
+          let is : e.0 ≡ ended = same_told new.told e.0 ended e.1 at_end in (
+            ends (given handed there base base_is) Repaired t.0 ended
+                (unwritten handed there base base_is t.0 ended t.2 repaired.fits (keeps (others handed there base base_is)) shape whole (told_new.record_is ended at_end) (sym is ∙ e.2)) tt,
+            tt,
+          )
+      line_by (Err (fault.Refused refusal)) cause images carried handed there base base_is version finds ended at_end =
+          let t = told (look handed there base base_is) (look_told handed there base base_is) in
+          let e = carried t.0 t.1 in
+          let is : e.0 ≡ ended = same_told new.told e.0 ended e.1 at_end in (
+            counted (run_from handed old.sizes names now ended) (answer.Refused refusal) ((line, Some (answer.Refused refusal)) ∷ []) (length t.0.steps) (length ended.steps) done_at.steps new.steps (told_done.steps t.0 t.1) (told_new.steps ended at_end)
+                (lines (given handed there base base_is) Repaired t.0 ended (answer.Refused refusal)
+                (unwritten handed there base base_is t.0 ended t.2 repaired.fits (keeps (others handed there base base_is)) shape whole (told_new.record_is ended at_end) (sym is ∙ e.2)) tt),
+            tt,
+          )
+      line_by (Err (fault.Failed pv)) cause images carried handed there base base_is version finds ended at_end =
+          let t = told (look handed there base base_is) (look_told handed there base base_is) in
+          let e = carried t.0 t.1 in
+          let is : e.0 ≡ ended = same_told new.told e.0 ended e.1 at_end in (
+            counted (run_from handed old.sizes names now ended) (answer.PvFailed pv) ((line, Some (answer.PvFailed pv)) ∷ []) (length t.0.steps) (length ended.steps) done_at.steps new.steps (told_done.steps t.0 t.1) (told_new.steps ended at_end)
+                (lines (given handed there base base_is) Writing t.0 ended (answer.PvFailed pv)
+                (failed handed there base base_is t.0 ended t.2 repaired.fits (keeps (others handed there base base_is)) shape whole (told_new.record_is ended at_end) cause.0 (images tt)
+                (subst (λ (u : Told). WritesInTurn t.0 (batches_of (state_in (repaired_of found) names) line now) false u) is e.2)) tt),
+            tt,
+          )
+
+    by_result : (result : Result Found RepairFault) → IsWholeAgain result → MatchResult result (IsRepaired found mid done_at) (IsRepairFault found mid done_at) → BetweenTold (Repairs (repair_batches found) result) mid.told done_at.told
+        → (HasRepairBegun result → StraysAreOthers found → RepairKeepsImages found) → (outcome : Outcome) → GoesOn names line now result done_at outcome new → Keeps outcome
+    by_result (Err why) whole cause told keeps outcome goes = subst Keeps (sym goes.0) (ended_by why cause told keeps goes.1)
+    by_result (Ok r) whole cause told keeps outcome goes =
+        let same : r ≡ repaired_of found = cause.now in
+        let carried : IsCarriedOut (state_in (repaired_of found) names) line now done_at outcome new = subst (λ (f : Found). IsCarriedOut (state_in f names) line now done_at outcome new) same goes in
+        subst Keeps (sym carried.is)
+        (line_by (subst (IsRepaired found mid done_at) same cause) told (keeps tt) (subst HasShape same whole.0) (subst IsWhole same whole.1) carried.result carried.cause carried.images carried.told)
+
+  pub kept_changed : (new : State) (outcome : Outcome) (begun : ℕ) → IsTold new → IsChanged found names line now mid outcome begun new → KeepsPromise names now old (journal_by begun new.steps outcome) (lines_by line outcome) new
+  kept_changed new outcome begun told_new c =
+      subst (λ (n : ℕ). KeepsPromise names now old (journal_by n new.steps outcome) (lines_by line outcome) new) (sym c.begun_xl)
+      (by_result c.mid new (record { record_is = c.follows; steps = c.steps }) told_new c.result c.whole c.cause c.told c.images outcome c.goes)

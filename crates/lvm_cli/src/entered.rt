@@ -1,0 +1,101 @@
+//! The journal and the answers of a run.
+ghost use Rattle.std.specs.Prelude.{◌≡◌, ◌≢◌, [], ◌∷◌, false, IfOk, None, Some};
+ghost use Rattle.std.specs.Option.{option_map_or};
+ghost use Rattle.line_history.specs.Histories.{journal_of_line};
+ghost use Rattle.lvm_script.specs.declared.answer.Answer.{Answer as AnswerRecord};
+ghost use Rattle.lvm_cli.specs.History.{HasRoom, IsNothing, journal_by, said_of};
+
+use crate::outcome::Outcome;
+use line_table::{Answers, EntryKind, Journal, JournalEntry};
+use lvm_script::Answer;
+use sector_base::Piece;
+use std::alloc::{AllocError, Global};
+
+/// The journal and the answers of a run.
+#[derive(Drop)]
+pub struct Entered {
+    pub journal: Journal,
+    pub answers: Answers,
+}
+
+// The piece of an entry that has none.
+const NO_PIECE: Piece = Piece {
+    volume: 0,
+    first: 0,
+    count: 0,
+    write: false,
+};
+
+// An entry of the line.
+fn entry(kind: EntryKind, moment: u64) -> JournalEntry
+    ensures { result ≡ record { kind = kind; line = 0; piece = record { volume = 0; first = 0; count = 0; write = false }; moment = moment } }
+{
+    JournalEntry {
+        kind,
+        line: 0,
+        piece: NO_PIECE,
+        moment,
+    }
+}
+
+impl Entered {
+    /// No entry, and no answer.
+    pub fn none(alloc: Global) -> Self
+        ensures { IsNothing result }
+    {
+        Entered {
+            journal: Vec::new(alloc),
+            answers: Vec::new(alloc),
+        }
+    }
+
+    /// The same, with room for one line. Only memory can be wanting.
+    pub fn spare(alloc: Global) -> Result<Self, AllocError>
+        ensures { IfOk result (λ entered. IsNothing entered × HasRoom entered) }
+    {
+        let mut journal = Vec::new(alloc);
+        journal.reserve(3)?;
+        let mut answers = Vec::new(alloc);
+        answers.reserve(1)?;
+        Ok(Entered { journal, answers })
+    }
+
+    /// Enters line 1, which was begun after so many steps of the disks, where the run came to this outcome after so many.
+    pub fn enter(&mut self, begun: u64, ended: u64, outcome: Outcome)
+        requires nothing { IsNothing self.old }
+        requires room { said_of outcome ≢ None → HasRoom self.old }
+        ensures journal { self.new.journal.items ≡ journal_by begun ended outcome }
+        ensures answers { self.new.answers.items ≡ option_map_or (λ (said : AnswerRecord). (1, Some said) ∷ []) (said_of outcome) [] }
+    {
+        if let Some(answer) = said(outcome) {
+            self.enter_answered(begun, ended, answer);
+        }
+    }
+
+    // The same of a line that was answered.
+    fn enter_answered(&mut self, begun: u64, ended: u64, answer: Answer)
+        requires nothing { IsNothing self.old }
+        requires room { HasRoom self.old }
+        ensures journal { self.new.journal.items ≡ journal_of_line begun ended answer }
+        ensures answers { self.new.answers.items ≡ (1, Some answer) ∷ [] }
+    {
+        self.journal.push_reserved(entry(EntryKind::Begun, begun));
+        if let Answer::Fine = &answer {
+            self.journal.push_reserved(entry(EntryKind::Took, ended));
+        }
+        self.journal
+            .push_reserved(entry(EntryKind::Answered, ended));
+        self.answers.push_reserved((1, Some(answer)));
+    }
+}
+
+// The answer of the line, where it was begun.
+fn said(outcome: Outcome) -> Option<Answer>
+    ensures { result ≡ said_of outcome }
+{
+    match outcome {
+        Outcome::Ended(_) | Outcome::Answered(_, Answer::NoMemory) => None,
+        Outcome::Answered(_, answer) => Some(answer),
+        Outcome::Reported { .. } => Some(Answer::Fine),
+    }
+}
