@@ -1,0 +1,17 @@
+pub mod CountedEnds
+pub mod Examples
+pub mod Fewest
+pub mod FirstFit
+pub mod FreeLists
+pub mod FreeOn
+pub mod GivenParts
+pub mod LaidParts
+pub mod LaySteps
+pub mod LongestFirst
+pub mod MoreLegsGiven
+pub mod OneLegGiven
+pub mod Pairs
+pub mod Spots
+pub mod Taken
+pub mod UnusedRuns
+pub mod Walks
