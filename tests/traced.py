@@ -1,0 +1,53 @@
+"""Runs of a program under strace: its calls in their order, with what they write, and stops before one of them."""
+import functools
+import os
+import re
+import shutil
+import subprocess
+import tempfile
+
+LINE = re.compile(rb"^\d+ +(\w+)\((.*)\) += (\?|-?\d+|0x[0-9a-f]+)")
+HEX = re.compile(rb'"((?:\\x[0-9a-f]{2})*)"')
+
+
+@functools.cache
+def is_there():
+    """Whether strace is there and may follow a program."""
+    if not shutil.which("strace"):
+        return False
+    return subprocess.run(["strace", "-o", os.devnull, "true"], capture_output=True).returncode == 0
+
+
+class Call:
+    """A call: its name, how many of this name there were up to it, its words, the first text among them, and its answer."""
+
+    def __init__(self, name, number, words, answer):
+        self.name, self.number = name, number
+        text = HEX.search(words)
+        self.text = bytes.fromhex(text[1].replace(b"\\x", b"").decode()) if text else b""
+        self.words = HEX.sub(b"_", words).decode().split(", ")
+        self.answer = None if answer == b"?" else int(answer, 0)
+
+
+def calls_of(log):
+    """The calls of a log of strace."""
+    counts, calls = {}, []
+    for line in log.splitlines():
+        found = LINE.match(line)
+        if found:
+            name = found[1].decode()
+            counts[name] = counts.get(name, 0) + 1
+            calls.append(Call(name, counts[name], found[2], found[3]))
+    return calls
+
+
+def traced(words, names, folder=None, env=None, stop=None):
+    """The program's calls of these names, and what it prints and its status. It is killed before the call `stop`."""
+    with tempfile.TemporaryDirectory() as place:
+        log = os.path.join(place, "log")
+        tracer = ["strace", "-f", "-o", log, "-xx", "-s", "1048576", "-e", "signal=none", "-e", f"trace={','.join(names)}"]
+        if stop:
+            tracer += ["-e", f"inject={stop.name}:signal=SIGKILL:when={stop.number}"]
+        done = subprocess.run([*tracer, *words], cwd=folder, env=env, capture_output=True, timeout=120)
+        with open(log, "rb") as file:
+            return calls_of(file.read()), done
