@@ -1,12 +1,12 @@
 -- Batches that are carried out by one call and then by another.
-use Rattle.std.proofs.Common.{◌≡◌, ◌≤◌, ◌<◌, ℕ, suc, ◌+◌, cond, Bool, true, false, List, [], ◌∷◌, ◌++◌, length, take, flat_map, Option, inl, ⊎_elim, refl, sym, ap, subst, ◌∙◌, arith, length-append}
+use Rattle.std.proofs.Common.{◌≡◌, ◌≤◌, ◌<◌, ℕ, suc, ◌+◌, cond, Bool, true, false, List, [], ◌∷◌, ◌++◌, drop, length, take, flat_map, Option, inl, ⊎_elim, refl, sym, ap, subst, ◌∙◌, arith, length-append}
 use Rattle.std.proofs.Math.Seq.{take-append-add, take-length}
-use Rattle.std.proofs.lemmas.List.{take-append-le, take_all}
+use Rattle.std.proofs.lemmas.List.{take-append-drop, take-append-le, take_all}
 use Rattle.std.proofs.lemmas.List.Concat.{flat_map-append}
 use Rattle.std.proofs.lemmas.Bool.{cases_lt}
 use Rattle.sector_base.specs.declared.spans.Span.{Span}
 use Rattle.sector_base.specs.Spans.{covers}
-use Rattle.disk_model.specs.Steps.{Image, IsSame, Told, now_after, value_at}
+use Rattle.disk_model.specs.Steps.{Image, IsSame, Told, now_after, steps_on, value_at}
 use Rattle.disk_model.specs.Moments.{EveryImageSince}
 use Rattle.disk_model.specs.Durability.{IsBase}
 use Rattle.disk_model.specs.Since.{spans_read, writes_submitted}
@@ -83,25 +83,37 @@ first_none batches base image same = record { count = 0; among = omega arith; ei
 
 -- some batches are carried out, and then more
 module _ (old mid new : Told) (first more : List (List Put)) (well : Bool) (a : WritesInTurn old first true mid) (b : WritesInTurn mid more well new) where
-  both_images : (base : Image) → IsBase old base → EveryImageSince (length old.steps) new (HasFirstBatches (first ++ more) base)
-  both_images base is =
-      let early : EveryImageSince (length old.steps) mid (HasFirstBatches (first ++ more) base) =
-      since_weaken mid (length old.steps) (length old.steps) (HasFirstBatches first base) (HasFirstBatches (first ++ more) base) (omega arith) (first_of_more first more base) (a.every_image base is) in
-      let late : EveryImageSince (length mid.steps) new (HasFirstBatches (first ++ more) base) =
-      since_weaken new (length mid.steps) (length mid.steps) (HasFirstBatches more (with_batches first base)) (HasFirstBatches (first ++ more) base) (omega arith) (first_after_all first more base)
-      (b.every_image (with_batches first base) (a.lasting refl base is)) in
-      let late' = subst (λ (t : Told). EveryImageSince (length mid.steps) t (HasFirstBatches (first ++ more) base)) b.steps late in
-      subst (λ (t : Told). EveryImageSince (length old.steps) t (HasFirstBatches (first ++ more) base)) (sym b.steps)
-      (since_join mid.opened mid.steps b.since (length old.steps) (HasFirstBatches (first ++ more) base) (steps_grow old mid a.since a.steps) early late')
-
   -- all of the first were submitted, and then so many of the others
+  all_first : take a.submitted first ≡ first
+  all_first = ap (λ (n : ℕ). take n first) (a.whole refl) ∙ take-length first
+
+  both_taken : take (length first + b.submitted) (first ++ more) ≡ first ++ take b.submitted more
+  both_taken = take-append-add first more b.submitted
+
+  abbrev Along : Image → Image → Type 0
+  Along base = HasFirstBatches (first ++ take b.submitted more) base
+
+  both_images : (base : Image) → IsBase old base → EveryImageSince (length old.steps) new (HasFirstBatches (take (length first + b.submitted) (first ++ more)) base)
+  both_images base is =
+      let early : EveryImageSince (length old.steps) mid (Along base) =
+      since_weaken mid (length old.steps) (length old.steps) (HasFirstBatches (take a.submitted first) base) (Along base) (omega arith)
+      (λ image h. first_of_more first (take b.submitted more) base image (subst (λ (l : List (List Put)). HasFirstBatches l base image) all_first h)) (a.every_image base is)
+      in
+      let late : EveryImageSince (length mid.steps) new (Along base) =
+      since_weaken new (length mid.steps) (length mid.steps) (HasFirstBatches (take b.submitted more) (with_batches first base)) (Along base) (omega arith) (first_after_all first (take b.submitted more) base)
+      (b.every_image (with_batches first base) (a.lasting refl base is))
+      in
+      let late' : EveryImageSince (length mid.steps) (steps_on b.since mid) (Along base) = subst (λ (t : Told). EveryImageSince (length mid.steps) t (Along base)) b.steps late in
+      subst (λ (l : List (List Put)). EveryImageSince (length old.steps) new (HasFirstBatches l base)) (sym both_taken)
+      (subst (λ (t : Told). EveryImageSince (length old.steps) t (Along base)) (sym b.steps)
+      (since_join mid.opened mid.steps b.since (length old.steps) (Along base) (steps_grow old mid a.since a.steps) early late'))
+
   both_writes : writes_submitted (b.since ++ a.since) ≡ all_writes (take (length first + b.submitted) (first ++ more))
   both_writes =
-      let all : take a.submitted first ≡ first = ap (λ (n : ℕ). take n first) (a.whole refl) ∙ take-length first in
       writes_submitted-append b.since a.since
-      ∙ ap (λ (l : List Put). l ++ writes_submitted b.since) (a.writes ∙ ap all_writes all)
+      ∙ ap (λ (l : List Put). l ++ writes_submitted b.since) (a.writes ∙ ap all_writes all_first)
       ∙ ap (λ (l : List Put). all_writes first ++ l) b.writes
-      ∙ sym (ap all_writes (take-append-add first more b.submitted) ∙ flat_map-append _ first (take b.submitted more))
+      ∙ sym (ap all_writes both_taken ∙ flat_map-append _ first (take b.submitted more))
 
   both_unread : spans_read (b.since ++ a.since) ≡ []
   both_unread = spans_read-append b.since a.since ∙ ap (λ (l : List Span). l ++ spans_read b.since) a.unread ∙ b.unread
@@ -135,7 +147,7 @@ turns_failed old mid first more a = record {
   unread = a.unread;
   whole = λ went. absurd (let h : false ≡ true = went in cc);
   every_image = λ base is.
-      since_weaken mid (length old.steps) (length old.steps) (HasFirstBatches first base) (HasFirstBatches (first ++ more) base) (omega arith) (first_of_more first more base) (a.every_image base is);
+      subst (λ (l : List (List Put)). EveryImageSince (length old.steps) mid (HasFirstBatches l base)) (sym (take-append-le a.submitted first more a.among)) (a.every_image base is);
   lasting = λ went. absurd (let h : false ≡ true = went in cc);
   now = λ went. absurd (let h : false ≡ true = went in cc);
 }
@@ -155,6 +167,11 @@ turns_none well told = record {
   lasting = λ went base is. is;
   now = λ went pv sector. refl;
 }
+
+-- what an image has of the batches that were submitted it has of all
+pub of_submitted : (n : ℕ) (batches : List (List Put)) (base image : Image) → HasFirstBatches (take n batches) base image → HasFirstBatches batches base image
+of_submitted n batches base image h =
+    subst (λ (l : List (List Put)). HasFirstBatches l base image) (take-append-drop n batches) (first_of_more (take n batches) (drop n batches) base image h)
 
 -- the same where the shelf tells its record
 pub turns_told_both : (s0 s1 s2 : Option Told) (first more : List (List Put)) (well : Bool) → WritesInTurnTold s0 first true s1 → WritesInTurnTold s1 more well s2 → WritesInTurnTold s0 (first ++ more) well s2

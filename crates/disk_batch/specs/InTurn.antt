@@ -43,8 +43,8 @@ pub record HasFirstBatches (batches : List (List Put)) (base image : Image) : Ty
   pub either : IsEither (with_batches (take count batches) base) (with_batches (take (suc count) batches) base) image
 
 -- The first so many of the batches were submitted in their order, each write once, and no other write, nor any read. At
--- every moment a crash leaves the first so many of them whole, and each sector of the next one old or new. Where all went
--- well all were submitted, a crash leaves all of them, and a read gives what they wrote.
+-- every moment a crash leaves some of these whole, and each sector of the next one of these old or new. Where all went well
+-- all were submitted, a crash leaves all of them, and a read gives what they wrote.
 pub record WritesInTurn (old : Told) (batches : List (List Put)) (well : Bool) (new : Told) : Type 0 where
   pub since : List Step
   pub steps : new ≡ steps_on since old
@@ -53,7 +53,7 @@ pub record WritesInTurn (old : Told) (batches : List (List Put)) (well : Bool) (
   pub writes : writes_submitted since ≡ flat_map (λ batch. batch) (take submitted batches)
   pub unread : spans_read since ≡ []
   pub whole : IsTrue well → submitted ≡ length batches
-  pub every_image : (base : Image) → IsBase old base → EveryImageSince (length old.steps) new (HasFirstBatches batches base)
+  pub every_image : (base : Image) → IsBase old base → EveryImageSince (length old.steps) new (HasFirstBatches (take submitted batches) base)
   pub lasting : IsTrue well → (base : Image) → IsBase old base → IsBase new (with_batches batches base)
   pub now : IsTrue well → IsSame (now_after new.opened new.steps) (with_batches batches (now_after old.opened old.steps))
 
