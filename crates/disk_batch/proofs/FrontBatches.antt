@@ -10,7 +10,7 @@ use Rattle.disk_model.specs.Steps.{Image, IsSame, value_at}
 use Rattle.disk_model.specs.Submitting.{writes_at}
 use Rattle.disk_batch.specs.Writes.{IsWrittenBy, write_work}
 use Rattle.disk_batch.specs.InTurn.{HasFirstBatches, IsEither, Put, with_batches, with_writes}
-use Rattle.disk_batch.proofs.InTurn.{batches_append}
+use Rattle.disk_batch.proofs.InTurn.{batches_append, of_submitted}
 use Rattle.disk_batch.proofs.WritesOnImages.{written_kept}
 
 -- an image on the way of some batches and then of more is on the way of the first, or on that of the others over all that
@@ -41,6 +41,12 @@ module _ (first more : List (List Put)) (base image : Image) where
         either = either_of _ _ _ _ (late (h.count - length first) h.count (omega (arith, le))) (late (suc (h.count - length first)) (suc h.count) (omega (arith, le))) h.either;
       }))
       (cases_lt h.count (length first))
+
+-- where the last batch wasn't submitted, an image is on the way of those before it
+pub but_last : (batches : List (List Put)) (last : List Put) (n : ℕ) (base image : Image) → n < length (batches ++ last ∷ []) → HasFirstBatches (take n (batches ++ last ∷ [])) base image → HasFirstBatches batches base image
+but_last batches last n base image less h =
+    let le : n ≤ length batches = omega (arith, less, length-append batches (last ∷ [])) in
+    of_submitted n batches base image (subst (λ (l : List (List Put)). HasFirstBatches l base image) (take-append-le n batches (last ∷ []) le) h)
 
 -- an image on the way of no batch is the base
 pub none_front : (base image : Image) → HasFirstBatches [] base image → IsSame image base

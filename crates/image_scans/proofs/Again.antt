@@ -147,6 +147,33 @@ module _ (group : Group) (text : List ℕ) (passed : List (List ℕ)) where
       (held_or_same as' bs again.2))
       (pv_new a.pv b.pv again.1 b.sectors)
 
+-- ---- where none may give a new copy they read as they did
+
+none_new : (new : AreaReading) (a b : Option AreaReading) → GivesAgain new false (λ r. false) a b → b ≡ a
+none_new new None b again = again
+none_new new (Some r) b (inl same) = same
+none_new new (Some r) b (inr (inl made)) = absurd (false≢true made.1)
+none_new new (Some r) b (inr (inr none)) = absurd (false≢true none.1)
+
+areas_as_before : (new : AreaReading) (as' bs : List Area) → AreasAgain new false (λ r. false) as' bs → bs ≡ as'
+areas_as_before new [] [] again = refl
+areas_as_before new [] (b ∷ bs) again = absurd again
+areas_as_before new (a ∷ as') [] again = absurd again
+areas_as_before new (a ∷ as') (b ∷ bs) again =
+    λ i. record { start = sym again.0 i; sectors = sym again.1 i; reading = none_new new a.reading b.reading again.2 i } ∷ areas_as_before new as' bs again.3 i
+
+pv_as_before : (new : AreaReading) (a b : Option Found) → PvAgain (λ id. false) (λ id r. false) new a b → b ≡ a
+pv_as_before new None None again = refl
+pv_as_before new None (Some b) again = absurd again
+pv_as_before new (Some a) None again = absurd again
+pv_as_before new (Some a) (Some b) again = λ i. Some (record { id = sym again.0 i; areas = areas_as_before new a.areas b.areas again.1 i })
+
+pub as_before : (new : AreaReading) (as' bs : List Reading) → DisksAgain (λ id. false) (λ id r. false) new as' bs → bs ≡ as'
+as_before new [] [] again = refl
+as_before new [] (b ∷ bs) again = absurd again
+as_before new (a ∷ as') [] again = absurd again
+as_before new (a ∷ as') (b ∷ bs) again = λ i. record { sectors = sym again.0 i; pv = pv_as_before new a.pv b.pv again.1 i } ∷ as_before new as' bs again.2 i
+
 -- ---- an answer with a group and text
 
 pub record Finds (disks : List Reading) (group : Group) (text : List ℕ) : Type 0 where

@@ -56,11 +56,19 @@ MayBeRefused bare r = (bare r ≡ true) ⊎ NotRefused r
 abbrev pub IsRead : (AreaReading → Bool) → Option AreaReading → Type 0
 IsRead bare reading = GivenHas (MayBeRefused bare) reading
 
--- what is known of an area that isn't ignored: it shows, whole, what it showed or the new text
+-- the area shows, whole, what it showed, or the new text where it may
+abbrev pub IsKeptOrMade : List ℕ → Image → Image → Bool → Area × Option Locn → Type 0
+IsKeptOrMade text base image may held = ShowsBy (old_reading (text_in base)) image held ⊎ (ShowsBy (new_reading text) image held × (may ≡ true))
+
+-- each of them may
+pub kept_or_made : (text : List ℕ) (base image : Image) (may : Bool) → may ≡ true → (held : Area × Option Locn) → IsKeptOrNew text base image held → IsKeptOrMade text base image may held
+kept_or_made text base image may allowed held (inl old) = inl old
+kept_or_made text base image may allowed held (inr new) = inr (new, allowed)
+
+-- what is known of an area that isn't ignored
 pub record IsOnTheWay (text : List ℕ) (base image : Image) (may : Bool) (held : Area × Option Locn) : Type 0 where
-  pub shows : IsKeptOrNew text base image held
+  pub shows : IsKeptOrMade text base image may held
   pub take : CanTake held
-  pub allowed : may ≡ true
 
 -- the header sector has one of the headers of the commit, to an area that has room for the text
 abbrev pub IsWritten : List ℕ → ℕ → AreaFound → List ℕ → Type 0
@@ -185,12 +193,12 @@ module _ (text : List ℕ) (group : Group) (passed : List (List ℕ)) (copy : Is
         absurd (not_both (new_entry text (own, None)) (entry_text sector (header_after text (own, None)) (new_entry text (own, None)) read refl refl) old.header))
         written.3)
         has)
-        (λ made. of_new None r way.allowed was made)
+        (λ made. of_new None r made.1 was made.0)
         way.shows
 
     -- a text was
     of_some : (locn : Locn) (given : AreaReading) → before.reading ≡ Some given → IsStored locn (stored_bytes (base pv) own locn) given → IsOnTheWay text base image may (own, Some locn) → Reads
-    of_some locn given was stored way = ⊎_elim (λ old. of_text locn given was stored old) (λ made. of_new (Some locn) given way.allowed was made) way.shows
+    of_some locn given was stored way = ⊎_elim (λ old. of_text locn given was stored old) (λ made. of_new (Some locn) given made.1 was made.0) way.shows
 
     by_entry : (entry : Entry) → IsMdaFound (base pv (extent.offset / 512)) extent header → IsEntry (base pv (extent.offset / 512)) extent.offset extent.size entry → IsGiven (base pv) own entry before.reading → IsRead bare before.reading
         → ((held : Area × Option Locn) → held_by own entry ≡ Some held → IsOnTheWay text base image may held) → HasHeader text pv base image (found_with entry) → Reads

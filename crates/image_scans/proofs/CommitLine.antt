@@ -1,18 +1,19 @@
 -- A line that commits a group: what is found on its way, and once all is written.
-use Rattle.std.proofs.Common.{◌≡◌, ◌<◌, ◌⊎◌, ℕ, ◌+◌, ◌^◌, true, List, [], ◌++◌, length, get_or, map, Option, Some, None, inl, sym, ap, subst, arith, false}
+use Rattle.std.proofs.Common.{◌≡◌, ◌<◌, ◌⊎◌, ℕ, ◌+◌, ◌^◌, true, List, [], ◌++◌, length, get_or, map, take, Option, Some, None, inl, sym, ap, subst, ◌∙◌, arith, false}
 use Rattle.std.specs.Prelude.{All}
 use Rattle.std.proofs.lemmas.List.{take_all}
 use Rattle.std.proofs.lemmas.List.Elements.{All-filter, filter_passes}
 use Rattle.conf_text.specs.Printed.{printed}
 use Rattle.disk_batch.specs.InTurn.{HasFirstBatches, Put, with_batches}
+use Rattle.disk_batch.proofs.InTurn.{of_submitted}
 use Rattle.disk_model.specs.Steps.{Image}
 use Rattle.lvm_script.specs.declared.line.Line.{Line}
 use Rattle.mda_header.specs.declared.header.Locn.{Locn}
 use Rattle.mda_ring.specs.declared.area.Area.{Area}
 use Rattle.meta_model.specs.declared.group.Group.{Group}
 use Rattle.meta_print.specs.Layout.{tree_of}
-use Rattle.scan_rules.specs.Decision.{AreaReading, Copy, SameHeaders, first_misplaced, is_held, lists}
-use Rattle.vg_commit.specs.SectorReading.{ShowsBy, new_reading}
+use Rattle.scan_rules.specs.Decision.{AreaReading, Copy, SameHeaders, decide_scan, first_misplaced, is_held, lists}
+use Rattle.vg_commit.specs.SectorReading.{ShowsBy, new_reading, old_reading}
 use Rattle.vg_found.specs.declared.found.Found.{Found}
 use Rattle.vg_found.specs.Disks.{shapes}
 use Rattle.vg_scan.specs.Readings.{IsDiskReading}
@@ -27,17 +28,17 @@ use Rattle.group_ops.specs.declared.state.Change.{Change}
 use Rattle.group_ops.specs.declared.state.GroupState.{GroupState}
 use Rattle.vg_change.specs.Batches.{areas_of, batch_if, batches_of, commit_batches, label_put, new_area_puts}
 use Rattle.vg_change.specs.CarryingOut.{sizes_of}
-use Rattle.vg_change.specs.Laws.{AreasKeptBy, HasLabel, HoldsAfter, IsKeptOrNew, ShowsEntries}
+use Rattle.vg_change.specs.Laws.{AreasKeptBy, HasLabel, HoldsAfter, IsKeptOrNew, ShowsEntries, text_in}
 use Rattle.vg_change.specs.Sound.{CanMake, CanTakeText, LiesOn}
 use Rattle.vg_change.proofs.DiskSets.{of_set}
 use Rattle.vg_change.proofs.Sound.{can_make, lies_on}
 use Rattle.image_scans.specs.Laws.{CanCarryOut, none_out, version_of}
 use Rattle.image_scans.specs.Versions.{FindsVersion, version_in}
-use Rattle.image_scans.proofs.Again.{again_give}
+use Rattle.image_scans.proofs.Again.{again_give, as_before}
 use Rattle.image_scans.proofs.AreaAgain.{NotRefused}
 use Rattle.image_scans.proofs.BaseEntries.{entries_shown}
-use Rattle.image_scans.proofs.CommitOnTheWay.{each_again}
-use Rattle.image_scans.proofs.CommitScans.{IsNext, either_found, new_found}
+use Rattle.image_scans.proofs.CommitOnTheWay.{each_again, each_reads}
+use Rattle.image_scans.proofs.CommitScans.{IsNext, either_found, new_found, same_version}
 use Rattle.image_scans.proofs.CommitWrites.{no_area}
 use Rattle.image_scans.proofs.DiskAgain.{AllAgain, DiskAgain, all_again, none_refused}
 use Rattle.image_scans.proofs.FoundAreas.{IsHeldOn, all_held}
@@ -137,6 +138,29 @@ module _ (base : Image) (sizes : List ℕ) (found : Found) (names : List (List �
           (shows 0 no_area fits.committed.some)
           in
           new_found image sizes found p.shape p.whole p.scan.readings p.scan.are.sizes_xl headers settled group text copy next placed makes.there change.disk_of makes.disks_xl again held
+
+    -- until the headers are published each disk reads as it did
+    module _ (image : Image) (n : ℕ) (less : n < length (batches_of state line now)) (h : HasFirstBatches (take n (batches_of state line now)) base image) where
+      unpublished : HasFirstBatches (batches_with (Some group)) base image
+      unpublished = subst (λ (g : Option Group). HasFirstBatches (batches_with g) base image) makes.made (of_submitted n (batches_of state line now) base image h)
+
+      stays : All (ShowsBy (old_reading (text_in base)) image) state.areas
+      stays = p.keeps.unpublished base image n group shown makes.made less h
+
+      as_it_was : AllAgain image found.unread 0 (λ id. false) (λ id r. false) new found.disks p.scan.readings
+      as_it_was =
+          all_again base image found.unread 0 (λ id. false) (λ id r. false) new found.disks p.scan.readings p.scan.are.each
+          (λ k disk reading at_disk at_reading is.
+          let zero_less : 0 + k ≡ k = omega arith in
+          subst (λ (n : ℕ). DiskAgain n (image n) (λ id. false) (λ id r. false) new disk reading) (sym zero_less)
+          (each_reads state is_state change group makes text fits can.labels lies.differ base ends image unpublished (λ id. false) [] copy (λ id listed j d within. inl (stays j d within)) k disk reading at_disk
+          (subst (λ (n : ℕ). IsDiskReading n (base n) disk reading) zero_less is)
+          (none_refused (λ id r. false) reading.pv (gives_at NotRefused p.scan.readings k reading (settled_read p.scan.readings found settled) at_reading))))
+
+      pub before_publishing : FindsVersion sizes image none_out (version_in found)
+      before_publishing =
+          same_version image sizes found p.whole p.scan.readings p.scan.answer as_it_was.there as_it_was.read (as_it_was.sizes_xl ∙ p.scan.are.sizes_xl) as_it_was.are
+          (ap decide_scan (as_before new p.scan.readings as_it_was.read as_it_was.again)) as_it_was.ids
 
     pub at_the_end : FindsVersion sizes (with_batches (batches_of state line now) base) none_out (Some (version_of group change))
     at_the_end =

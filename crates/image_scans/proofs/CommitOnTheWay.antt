@@ -1,11 +1,11 @@
 -- An image on the way of a change that commits a group: each disk reads again, but for areas that give the new text.
-use Rattle.std.proofs.Common.{◌≡◌, ◌≢◌, ◌≤◌, ◌<◌, ◌⊎◌, ℕ, ◌+◌, ◌/◌, Bool, true, false, cond, List, [], ◌∷◌, ◌++◌, length, get_or, map, filter, Option, Some, None, inl, inr, ⊎_elim, refl, sym, ap, subst, ◌∙◌, arith}
+use Rattle.std.proofs.Common.{◌≡◌, ◌≢◌, ◌≤◌, ◌<◌, ◌⊎◌, ℕ, ◌+◌, ◌/◌, Bool, true, false, List, [], ◌∷◌, ◌++◌, length, get_or, map, Option, Some, None, inl, inr, ⊎_elim, refl, sym, ap, subst, ◌∙◌, arith}
 use Rattle.std.specs.Prelude.{All, slice_get}
 use Rattle.std.specs.FinSet as set
 use Rattle.std.specs.List.{AllByRecursion as Each}
 use Rattle.std.specs.Option.{option_and_then}
 use Rattle.std.proofs.lemmas.Bool.{cases_Bool, true≢false}
-use Rattle.std.proofs.lemmas.List.Elements.{All-cons, All-filter, All-head, All-map, All-nil, All-tail, filter_passes, recursion_from_All}
+use Rattle.std.proofs.lemmas.List.Elements.{All-cons, All-filter, All-map, All-nil, filter_passes, recursion_from_All}
 use Rattle.std.proofs.lemmas.Option.{same_Some}
 use Rattle.disk_model.specs.Steps.{Image}
 use Rattle.disk_batch.specs.InTurn.{HasFirstBatches, Put, with_batches}
@@ -46,7 +46,7 @@ use Rattle.vg_change.proofs.DiskSets.{of_set}
 use Rattle.vg_change.proofs.FarAreas.{IsFar, areas_far}
 use Rattle.vg_change.proofs.LabelPuts.{AreApart, label_where, labels_there, with_if}
 use Rattle.vg_change.proofs.LabelsRead.{label_read}
-use Rattle.image_scans.proofs.AreaAgain.{HasHeader, IsKnown, IsOnTheWay}
+use Rattle.image_scans.proofs.AreaAgain.{HasHeader, IsKeptOrMade, IsKnown, IsOnTheWay, kept_or_made}
 use Rattle.image_scans.proofs.CommitWrites.{IsAreaWrite, commit_writes, no_area}
 use Rattle.image_scans.proofs.DiskAgain.{DiskAgain, LabelStands, PvMayBeRefused, disk_again, disk_same}
 use Rattle.image_scans.proofs.FoundAreas.{IsHeldOn, IsPlaced, all_held, areas_placed, entry_kept, of_held}
@@ -56,14 +56,6 @@ use Rattle.image_scans.proofs.MadeGroup.{IsAddedOn, IsListedOn, MakesGroup}
 use Rattle.image_scans.proofs.MetAreas.{header_met}
 
 -- ---- lists
-
-of_passed : {X : Type 0} (p : X → Bool) (Q : X → Type 0) (xs : List X) → All Q (filter p xs) → All (λ (x : X). p x ≡ true → Q x) xs
-of_passed p Q [] all = All-nil (λ x. p x ≡ true → Q x)
-of_passed p Q (x ∷ xs) all = step (λ later. of_passed p Q xs later) (p x) refl all
-  where
-    step : (All Q (filter p xs) → All (λ y. p y ≡ true → Q y) xs) → (b : Bool) → p x ≡ b → All Q (cond b (x ∷ filter p xs) (filter p xs)) → All (λ y. p y ≡ true → Q y) (x ∷ xs)
-    step rest true is here = All-cons (λ y. p y ≡ true → Q y) x xs (λ _. All-head Q x (filter p xs) here) (rest (All-tail Q x (filter p xs) here))
-    step rest false is here = All-cons (λ y. p y ≡ true → Q y) x xs (λ yes. absurd (true≢false (sym yes ∙ is))) (rest here)
 
 each_back : {X : Type 0} (P : X → Type 0) (xs ys : List X) → Each P (xs ++ ys) → Each P ys
 each_back P [] ys all = all
@@ -79,14 +71,6 @@ header_whole (Whole label own areas) header is = (label, areas, ap (λ (h : PvHe
 pub header_read : (contents : Option PvFound) (header : PvHeader) → header_on contents ≡ Some header → (label : ℕ) × (areas : List AreaFound) × (contents ≡ Some (Whole label header areas))
 header_read None header is = absurd cc
 header_read (Some contents) header is = let w = header_whole contents header is in (w.0, w.1, ap (λ (c : PvFound). Some c) w.2)
-
--- a label that is written again on a disk is that of the physical volume there
-same_label : (label : ℕ) (header : PvHeader) (areas : List AreaFound) (contents : Option PvFound) (added : Added) → contents ≡ Some (Whole label header areas) → option_and_then pv_in contents ≡ Some (added.label, added.header)
-    → (label ≡ added.label) × (header ≡ added.header)
-same_label label header areas contents added is found =
-    let both : ◌≡◌ {A = Option (ℕ × PvHeader)} (Some (label, header)) (Some (added.label, added.header)) = sym (ap (option_and_then pv_in) is) ∙ found in
-    let pair : (label, header) ≡ (added.label, added.header) = same_Some (label, header) (added.label, added.header) both in
-    (ap (λ (p : ℕ × PvHeader). p.0) pair, ap (λ (p : ℕ × PvHeader). p.1) pair)
 
 -- some label, where a list has none
 some_label : NewLabel
@@ -274,7 +258,7 @@ module _ (state : GroupState) (is_state : IsState state) (change : Change) (grou
           (writes pv sector (image pv sector) by))
           (front_or batches base image pv sector h)
 
-      module _ (kept : All (IsKeptOrNew text base image) state.areas) (on_group : set.contains (set_of change.disk_of) pv ≡ true) (may : Bool) (allowed : may ≡ true) where
+      module _ (may : Bool) (kept : All (IsKeptOrMade text base image may) state.areas) (on_group : set.contains (set_of change.disk_of) pv ≡ true) where
         abbrev OnWay : Area × Option Locn → Type 0
         OnWay held = lies_on (set_of change.disk_of) held ≡ true → IsOnTheWay text base image may held
 
@@ -282,7 +266,6 @@ module _ (state : GroupState) (is_state : IsState state) (change : Change) (grou
         ways k d within on = record {
           shows = kept k d within;
           take = areas_take state is_state k d within;
-          allowed = allowed;
         }
 
         known : All (IsKnown text pv base image may (λ r. false)) areas
@@ -297,25 +280,31 @@ module _ (state : GroupState) (is_state : IsState state) (change : Change) (grou
           headers k d within,
         )
 
-    module _ (passed : List (List ℕ)) (copy : IsCopyOf text group passed) (kept : All (IsKeptOrNew text base image) state.areas) where
+    -- where the areas of a listed physical volume show what they showed, or the new text if it may
+    module _ (may : List ℕ → Bool) (passed : List (List ℕ)) (copy : IsCopyOf text group passed) (kept : (id : List ℕ) → lists group id ≡ true → All (IsKeptOrMade text base image (may id)) state.areas) where
       abbrev new : AreaReading
       new = Copy group text passed
 
       disk_on : (pv : ℕ) (disk : Disk) (reading : Reading) → slice_get state.disks pv ≡ Some disk → IsDiskReading pv (base pv) disk reading → PvMayBeRefused (λ id r. false) reading.pv → set.contains (set_of change.disk_of) pv ≡ true
-          → DiskAgain pv (image pv) (lists group) (λ id r. false) new disk reading
+          → DiskAgain pv (image pv) may (λ id r. false) new disk reading
       disk_on pv disk reading there read given on =
           let listed : IsListedOn group state.disks pv = of_set (IsListedOn group state.disks) change.disk_of makes.listed pv on in
           let same : disk ≡ listed.disk = same_Some disk listed.disk (sym there ∙ listed.there) in
           let w = header_read disk.contents listed.header (ap (λ (x : Disk). header_on x.contents) same ∙ listed.is) in
           let stands = subst (λ (c : Option PvFound). ContentsCanStand pv disk.sectors c) w.2 (is_state.disks pv disk there).contents in
-          subst (λ (n : ℕ). DiskAgain pv (image pv) (lists group) (λ id r. false) new disk (record { sectors = n; pv = reading.pv })) (sym read.sectors_xl)
-          (disk_again text group passed copy (lists group) (λ id r. false) pv base image disk.sectors disk.contents reading.pv read.contents read.pv_xl given w.0 listed.header w.1 w.2
+          subst (λ (n : ℕ). DiskAgain pv (image pv) may (λ id r. false) new disk (record { sectors = n; pv = reading.pv })) (sym read.sectors_xl)
+          (disk_again text group passed copy may (λ id r. false) pv base image disk.sectors disk.contents reading.pv read.contents read.pv_xl given w.0 listed.header w.1 w.2
           (label_stands pv disk there w.0 listed.header w.1 w.2 stands.0)
-          (recursion_from_All (IsKnown text pv base image (lists group listed.header.id) (λ r. false)) w.1 (known pv disk there w.0 listed.header w.1 w.2 stands.0 kept on (lists group listed.header.id) listed.listed)))
+          (recursion_from_All (IsKnown text pv base image (may listed.header.id) (λ r. false)) w.1 (known pv disk there w.0 listed.header w.1 w.2 stands.0 (may listed.header.id) (kept listed.header.id listed.listed) on)))
 
-      pub each_again : (pv : ℕ) (disk : Disk) (reading : Reading) → slice_get state.disks pv ≡ Some disk → IsDiskReading pv (base pv) disk reading → PvMayBeRefused (λ id r. false) reading.pv → DiskAgain pv (image pv) (lists group) (λ id r. false) new disk reading
-      each_again pv disk reading there read given =
+      pub each_reads : (pv : ℕ) (disk : Disk) (reading : Reading) → slice_get state.disks pv ≡ Some disk → IsDiskReading pv (base pv) disk reading → PvMayBeRefused (λ id r. false) reading.pv → DiskAgain pv (image pv) may (λ id r. false) new disk reading
+      each_reads pv disk reading there read given =
           ⊎_elim
           (λ on. disk_on pv disk reading there read given on)
-          (λ off. disk_same pv (base pv) (image pv) (lists group) (λ id r. false) new disk reading (off_disk pv off) read)
+          (λ off. disk_same pv (base pv) (image pv) may (λ id r. false) new disk reading (off_disk pv off) read)
           (cases_Bool (set.contains (set_of change.disk_of) pv))
+
+    -- where each area shows what it showed, or the new text
+    pub each_again : (passed : List (List ℕ)) → IsCopyOf text group passed → All (IsKeptOrNew text base image) state.areas → (pv : ℕ) (disk : Disk) (reading : Reading) → slice_get state.disks pv ≡ Some disk → IsDiskReading pv (base pv) disk reading
+        → PvMayBeRefused (λ id r. false) reading.pv → DiskAgain pv (image pv) (lists group) (λ id r. false) (Copy group text passed) disk reading
+    each_again passed copy kept = each_reads (lists group) passed copy (λ id listed k d within. kept_or_made text base image (lists group id) listed (get_or state.areas k d) (kept k d within))

@@ -1,5 +1,5 @@
 -- What a scan finds of the base, in every image on the way of a line, and once all is written.
-use Rattle.std.proofs.Common.{◌≡◌, ℕ, List, [], ◌++◌, map, Option, None, refl, sym, subst}
+use Rattle.std.proofs.Common.{◌≡◌, ◌<◌, ℕ, List, [], ◌++◌, length, map, take, Option, Some, None, refl, sym, subst, ◌∙◌}
 use Rattle.disk_batch.specs.InTurn.{HasFirstBatches, Put, with_batches}
 use Rattle.disk_batch.proofs.FrontBatches.{none_front}
 use Rattle.disk_model.specs.Steps.{Image}
@@ -16,7 +16,7 @@ use Rattle.group_ops.specs.declared.state.NewLabel.{NewLabel}
 use Rattle.vg_change.specs.Batches.{areas_of, batch_if, batches_of, commit_batches, label_put, new_area_puts}
 use Rattle.image_scans.specs.Laws.{CanCarryOut, FindsAtEnd, FindsOnTheWay, is_labelled, none_out}
 use Rattle.image_scans.specs.Versions.{FindsVersion, version_in}
-use Rattle.image_scans.proofs.CommitLine.{all_written, at_the_end, on_the_way}
+use Rattle.image_scans.proofs.CommitLine.{all_written, at_the_end, before_publishing, on_the_way}
 use Rattle.image_scans.proofs.CommitScans.{none_unread}
 use Rattle.image_scans.proofs.Lines.{LineMakes, line_makes, makes_nothing, makes_pv, makes_version}
 use Rattle.image_scans.proofs.NewPv.{without_disk}
@@ -53,6 +53,15 @@ module _ (base : Image) (sizes : List ℕ) (found : Found) (names : List (List �
       by (makes_nothing none labels) =
           subst (FindsOnTheWay sizes image found change) (sym none)
           (subst (λ (l : List NewLabel). FindsVersion sizes image (is_labelled l) (version_in found)) (sym labels) (nothing_written image h none labels))
+
+  pub unpublished_scans : (image : Image) (n : ℕ) → n < length (batches_of state line now) → HasFirstBatches (take n (batches_of state line now)) base image → (group : Group) → change.group ≡ Some group
+      → FindsVersion sizes image none_out (version_in found)
+  unpublished_scans image n less h group is = by (line_makes base sizes found names line now p)
+    where
+      by : LineMakes found state change → FindsVersion sizes image none_out (version_in found)
+      by (makes_version c) = before_publishing base sizes found names line now p c.group c.makes c.next image n less h
+      by (makes_pv m) = absurd (let e : None ≡ Some group = sym m.none ∙ is in cc)
+      by (makes_nothing none labels) = absurd (let e : None ≡ Some group = sym none ∙ is in cc)
 
   pub last_scans : FindsAtEnd sizes (with_batches (batches_of state line now) base) found change change.group
   last_scans = by (line_makes base sizes found names line now p)

@@ -115,9 +115,6 @@ module _ (group : Group) where
   quiet_placed as' bs but none = placed_from 0 as' bs but none
 
   -- an id of the group is on none of the disks that aren't listed
-  same_sides : (a b : List ℕ) → same_bytes a b ≡ true → same_bytes b a ≡ true
-  same_sides a b is = same_bytes_to b a (sym (same_bytes_tells a b is))
-
   on_listed : (pv : List ℕ × Pv) → list_any (λ (p : List ℕ × Pv). same_bytes p.1.id pv.1.id) group.pvs ≡ true → (o : Option Found) → unwrap_or (option_map (λ (x : Found). same_bytes x.id pv.1.id) o) false ≡ true
       → unwrap_or (option_map (λ (x : Found). lists group x.id) o) false ≡ true
   on_listed pv among None is = absurd (false≢true is)

@@ -1,5 +1,5 @@
 -- What a scan of the disks finds in every image on the way of a line's change, and that volumes keep their contents.
-use Rattle.std.specs.Prelude.{◌≡◌, ◌<◌, ◌⊎◌, ℕ, ◌^◌, ◌*◌, ◌==◌, Bool, true, false, if◌then◌else◌, List, [], length, slice_index, filter_map, flat_map, map, option_map, All, Option, None, Some}
+use Rattle.std.specs.Prelude.{◌≡◌, ◌<◌, ◌⊎◌, ℕ, ◌^◌, ◌*◌, ◌==◌, Bool, true, false, if◌then◌else◌, List, [], length, take, slice_index, filter_map, flat_map, map, option_map, All, Option, None, Some}
 use Rattle.std.specs.FinSet as set
 use Rattle.std.specs.List.{enumerate_from, list_any, range_with_len}
 use Rattle.sector_base.specs.declared.places.At.{At}
@@ -77,6 +77,13 @@ ImagesScan =
     (base image : Image) (sizes : List ℕ) (found : Found) (names : List (List ℕ)) (line : Line) (now : ℕ) → CanCarryOut base sizes found names line now
     → HasFirstBatches (batches_of (state_in found names) line now) base image
     → FindsOnTheWay sizes image found (change_of (state_in found names) line) (change_of (state_in found names) line).group
+
+-- every image of a commit whose last batch wasn't begun has the version that was found
+abbrev pub UnpublishedScans : Type 0
+UnpublishedScans =
+    (base image : Image) (sizes : List ℕ) (found : Found) (names : List (List ℕ)) (line : Line) (now n : ℕ) (group : Group) → CanCarryOut base sizes found names line now
+    → (change_of (state_in found names) line).group ≡ Some group → n < length (batches_of (state_in found names) line now) → HasFirstBatches (take n (batches_of (state_in found names) line now)) base image
+    → FindsVersion sizes image none_out (version_in found)
 
 -- the image with all of them
 abbrev pub LastScans : Type 0

@@ -1,12 +1,13 @@
 //! What holds of the images on the way of a line: each function does nothing, and its clauses are proved.
-ghost use Rattle.image_scans.specs.Laws.{BaseScans, ImagesScan, LastScans, PlacesAreKept, PlacesAreOutside, ViewIsKept};
+ghost use Rattle.image_scans.specs.Laws.{BaseScans, ImagesScan, LastScans, PlacesAreKept, PlacesAreOutside, UnpublishedScans, ViewIsKept};
 
-/// A scan of an image on the way of a line finds the version of the group that was found before or the new one, and once all
-/// is written the new one. Where the line makes a new physical volume it finds the version that was found, on the way with
+/// A scan of an image on the way of a line finds the version of the group that was found before or the new one: the former
+/// until the last batch of its commit is begun, and once all is written the new one. Where the line makes a new physical volume it finds the version that was found, on the way with
 /// that disk left out, and at the end without leaving it out.
 pub fn change_scans()
     ensures base { BaseScans }
     ensures on_the_way { ImagesScan }
+    ensures unpublished { UnpublishedScans }
     ensures at_the_end { LastScans }
 {}
 

@@ -1,10 +1,10 @@
 -- Once a commit is done, each copy on any disk is that of the new group, so no set of disks finds another.
-use Rattle.std.proofs.Common.{◌≡◌, ◌<◌, ℕ, ◌+◌, ◌^◌, Bool, true, false, cond, List, [], ◌∷◌, ◌++◌, filter, get_or, map, Option, Some, None, ⊎_elim, refl, sym, ap, subst, ◌∙◌, arith}
+use Rattle.std.proofs.Common.{◌≡◌, ◌<◌, ℕ, ◌+◌, ◌^◌, true, false, List, [], ◌∷◌, ◌++◌, get_or, map, Option, Some, None, ⊎_elim, refl, sym, ap, subst, ◌∙◌, arith}
 use Rattle.std.specs.Prelude.{All, slice_get}
 use Rattle.std.specs.FinSet as set
 use Rattle.std.specs.Ordering.{nat_cmp}
-use Rattle.std.proofs.lemmas.Bool.{cases_Bool, false≢true, true≢false}
-use Rattle.std.proofs.lemmas.List.Elements.{All-cons, All-head, All-nil, All-tail, recursion_from_All}
+use Rattle.std.proofs.lemmas.Bool.{cases_Bool, false≢true}
+use Rattle.std.proofs.lemmas.List.Elements.{recursion_from_All}
 use Rattle.std.proofs.lemmas.Option.{same_Some}
 use Rattle.conf_text.specs.Printed.{printed}
 use Rattle.disk_batch.specs.InTurn.{HasFirstBatches, Put, with_batches}
@@ -30,6 +30,7 @@ use Rattle.group_ops.specs.Planning.{change_of}
 use Rattle.group_ops.specs.declared.state.Change.{Change}
 use Rattle.group_ops.specs.declared.state.GroupState.{GroupState}
 use Rattle.vg_change.specs.Batches.{areas_of, batch_if, batches_of, commit_batches, label_put, new_area_puts}
+use Rattle.vg_change.proofs.KeptImages.{of_passed}
 use Rattle.vg_change.specs.Laws.{AreasKeptBy, HasLabel, HoldsAfter, IsKeptOrNew}
 use Rattle.image_scans.proofs.Again.{again_give}
 use Rattle.image_scans.proofs.AreaAgain.{NotRefused}
@@ -50,15 +51,6 @@ use Rattle.repair_scans.proofs.RepairEnd.{OneReading}
 use Rattle.line_history.proofs.EachSetAreas.{GivesOnly, IsOf, IsShown, pv_only}
 use Rattle.line_history.proofs.EachSetDisks.{OneRead, SetRead, set_read}
 use Rattle.line_history.proofs.EachSetListed.{nothing_off}
-
--- what holds of all elements that pass a test
-of_passed : {X : Type 0} (p : X → Bool) (Q : X → Type 0) (xs : List X) → All Q (filter p xs) → All (λ (x : X). p x ≡ true → Q x) xs
-of_passed p Q [] all = All-nil (λ x. p x ≡ true → Q x)
-of_passed p Q (x ∷ xs) all = step (λ later. of_passed p Q xs later) (p x) refl all
-  where
-    step : (All Q (filter p xs) → All (λ y. p y ≡ true → Q y) xs) → (b : Bool) → p x ≡ b → All Q (cond b (x ∷ filter p xs) (filter p xs)) → All (λ y. p y ≡ true → Q y) (x ∷ xs)
-    step rest true is here = All-cons (λ y. p y ≡ true → Q y) x xs (λ _. All-head Q x (filter p xs) here) (rest (All-tail Q x (filter p xs) here))
-    step rest false is here = All-cons (λ y. p y ≡ true → Q y) x xs (λ yes. absurd (true≢false (sym yes ∙ is))) (rest here)
 
 none_given : (group : Group) (r : AreaReading) → IsNone r → GivesOnly group r
 none_given group r is = subst (GivesOnly group) (sym is) tt

@@ -55,7 +55,7 @@ use Rattle.vg_repair.proofs.HeldAreas.{each_far, stale_all, stale_held}
 use Rattle.vg_repair.proofs.RepairedShape.{rooms}
 use Rattle.vg_repair.proofs.StrayLabels.{labels_can, labels_differ}
 use Rattle.repair_scans.specs.Laws.{CanRepair}
-use Rattle.image_scans.proofs.AreaAgain.{HasHeader, IsCleared, IsKnown, IsOnTheWay, MayBeRefused}
+use Rattle.image_scans.proofs.AreaAgain.{HasHeader, IsCleared, IsKnown, IsOnTheWay, MayBeRefused, kept_or_made}
 use Rattle.image_scans.proofs.BaseEntries.{entries_shown}
 use Rattle.image_scans.proofs.CommitWrites.{IsAreaWrite, commit_writes, no_area}
 use Rattle.image_scans.proofs.DiskAgain.{DiskAgain, LabelStands, PvMayBeRefused, disk_again, pv_same}
@@ -501,7 +501,7 @@ module _ (base : Image) (sizes : List ℕ) (found : Found) (p : CanRepair base s
               (cases_Bool (list_any (is_place b) stale))
             where
               way_of : (x : Area × Option Locn) → held_area pv area ≡ Some x → IsKeptOrNew text base image x → IsOnTheWay text base image true x
-              way_of x some shows = record { shows = shows; take = (in_base x some).0; allowed = refl }
+              way_of x some shows = record { shows = kept_or_made text base image true refl x shows; take = (in_base x some).0 }
 
               same_any : (x : Area × Option Locn) → held_area pv area ≡ Some x → list_any (is_place b) stale ≡ true → list_any (is_place x) stale ≡ true
               same_any x some any = subst (λ (y : Area × Option Locn). list_any (is_place y) stale ≡ true) (same_Some b x (sym is_held ∙ some)) any

@@ -1,6 +1,7 @@
 //! What a scan of the disks finds in every image that a crash may leave while a repair is carried out.
 //!
-//! There is no code here: that each such image has the version that was found, with the same text, is said by laws.
+//! There is no code here: that each such image has the version that was found, with the same text, and the last one exactly
+//! what the repair says, is said by laws.
 #![tactic(auto)]
 
 mod laws;

@@ -1,14 +1,14 @@
 -- What every image on the way of a change keeps of areas and labels, and what areas show once all is written.
-use Rattle.std.proofs.Common.{◌≡◌, ◌≢◌, ◌≤◌, ◌<◌, ◌⊎◌, ℕ, ◌+◌, ◌/◌, Bool, true, false, cond, List, [], ◌∷◌, ◌++◌, length, map, flat_map, get_or, Option, None, Some, inl, inr, ⊎_elim, refl, sym, ap, subst, ◌∙◌, arith}
-use Rattle.std.specs.Prelude.{All, filter}
+use Rattle.std.proofs.Common.{◌≡◌, ◌≢◌, ◌≤◌, ◌<◌, ◌⊎◌, ℕ, ◌+◌, ◌/◌, Bool, true, false, cond, List, [], ◌∷◌, ◌++◌, length, map, flat_map, get_or, Option, None, Some, inl, inr, ⊎_elim, refl, sym, ap, subst, ◌∙◌, append_assoc, arith}
+use Rattle.std.specs.Prelude.{All, filter, take as front_of}
 use Rattle.std.specs.FinSet.{contains}
 use Rattle.std.proofs.lemmas.Bool.{cases_Bool, true≢false}
-use Rattle.std.proofs.lemmas.List.Elements.{All-append, All-cons, All-filter, All-head, All-nil, All-tail, filter_passes}
+use Rattle.std.proofs.lemmas.List.Elements.{All-append, All-cons, All-filter, All-head, All-nil, All-tail, All-take, filter_passes}
 use Rattle.conf_text.specs.Printed.{printed}
 use Rattle.sector_base.specs.Spans.{covers}
 use Rattle.disk_model.specs.Steps.{Image}
 use Rattle.disk_batch.specs.InTurn.{HasFirstBatches, Put, with_batches}
-use Rattle.disk_batch.proofs.FrontBatches.{KeepsSector, batches_kept, first_or_more, front_kept}
+use Rattle.disk_batch.proofs.FrontBatches.{KeepsSector, batches_kept, but_last, first_or_more, front_kept}
 use Rattle.disk_batch.proofs.InTurn.{batches_append}
 use Rattle.mda_header.specs.declared.header.Locn.{Locn}
 use Rattle.mda_ring.specs.declared.area.Area.{Area}
@@ -19,7 +19,7 @@ use Rattle.meta_print.specs.Layout.{tree_of}
 use Rattle.vg_commit.specs.Plans.{HeadersRead}
 use Rattle.vg_commit.specs.SectorReading.{AllShow, AreSized, Reading, ShowsBy, new_reading, old_reading}
 use Rattle.vg_commit.specs.Written.{area_span, area_writes, headers_of, publish_of, texts_of}
-use Rattle.vg_commit.proofs.CommitImages.{commit_keeps, commit_shows, commit_shown}
+use Rattle.vg_commit.proofs.CommitImages.{commit_keeps, commit_shows, commit_shown, commit_unpublished}
 use Rattle.group_ops.specs.Judging.{lies_on, set_of}
 use Rattle.group_ops.specs.declared.state.Change.{Change}
 use Rattle.group_ops.specs.declared.state.NewLabel.{NewLabel}
@@ -31,7 +31,7 @@ use Rattle.vg_change.proofs.FarAreas.{IsFar}
 use Rattle.vg_change.proofs.LabelPuts.{AreApart, all_if, labels_after, labels_keep_far, labels_keep_other, labels_kept}
 
 -- what holds of all elements that pass a test
-of_passed : {X : Type 0} (p : X → Bool) (Q : X → Type 0) (xs : List X) → All Q (filter p xs) → All (λ (x : X). p x ≡ true → Q x) xs
+pub of_passed : {X : Type 0} (p : X → Bool) (Q : X → Type 0) (xs : List X) → All Q (filter p xs) → All (λ (x : X). p x ≡ true → Q x) xs
 of_passed p Q [] all = All-nil (λ x. p x ≡ true → Q x)
 of_passed p Q (x ∷ xs) all = step (λ later. of_passed p Q xs later) (p x) refl all
   where
@@ -134,6 +134,40 @@ module _ (areas : List (Area × Option Locn)) (take : All CanTake areas) (far : 
         (λ in_commit. kept_commit image in_commit k d within (lies_on (set_of change.disk_of) (get_or areas k d)) refl)
         (first_or_more (batch_if [] ++ batch_if label_puts) commit base image h)
 
+    -- ---- until the headers are published
+
+    abbrev written_first : List (List Put)
+    written_first = texts_of (map (area_writes text) own) ∷ headers_of (map (area_writes text) own) ∷ []
+
+    unpublished_commit : (image : Image) → HasFirstBatches written_first first image → (k : ℕ) (d : Area × Option Locn) (within : k < length areas)
+        → (b : Bool) → lies_on (set_of change.disk_of) (get_or areas k d) ≡ b → ShowsBy old image (get_or areas k d)
+    unpublished_commit image h k d within true on =
+        of_passed (lies_on (set_of change.disk_of)) (ShowsBy old image) areas
+        (commit_unpublished text own (set_of change.disk_of) fits.committed fits.room read (text_in base) first first_shows own_sized image h) k d within on
+    unpublished_commit image h k d within false off =
+        let pv : ℕ = (get_or areas k d).0.pv in
+        alike image k d within (λ sector behind.
+        front_kept written_first first image pv sector
+        (All-take (KeepsSector pv sector) 2 commit (commit_keeps text own (set_of change.disk_of) fits.committed fits.room read pv sector (outside pv sector off))) h
+        ∙ first_far pv sector behind)
+
+    unpublished_some : (image : Image) → HasFirstBatches (batch_if [] ++ batch_if label_puts ++ written_first) base image → AllShow old areas image
+    unpublished_some image h k d within =
+        ⊎_elim
+        (λ in_labels. alike image k d within (λ sector behind.
+        front_kept (batch_if [] ++ batch_if label_puts) base image (get_or areas k d).0.pv sector (far_kept (get_or areas k d).0.pv sector behind) in_labels))
+        (λ in_commit. unpublished_commit image in_commit k d within (lies_on (set_of change.disk_of) (get_or areas k d)) refl)
+        (first_or_more (batch_if [] ++ batch_if label_puts) written_first base image h)
+
+    split : batch_if [] ++ batch_if label_puts ++ commit ≡ batch_if [] ++ batch_if label_puts ++ written_first ++ publish_of (map (area_writes text) own) ∷ []
+    split = sym (append_assoc (batch_if [] ++ batch_if label_puts) written_first (publish_of (map (area_writes text) own) ∷ []))
+
+    shown_unpublished : (image : Image) (n : ℕ) → n < length (batch_if [] ++ batch_if label_puts ++ commit) → HasFirstBatches (front_of n (batch_if [] ++ batch_if label_puts ++ commit)) base image → AllShow old areas image
+    shown_unpublished image n less h =
+        unpublished_some image
+        (but_last (batch_if [] ++ batch_if label_puts ++ written_first) (publish_of (map (area_writes text) own)) n base image
+        (subst (λ (l : List (List Put)). n < length l) split less) (subst (λ (l : List (List Put)). HasFirstBatches (front_of n l) base image) split h))
+
     -- the areas of the group show its text at the end
     shown_some : AllShow (new_reading text) own (with_batches (batch_if [] ++ batch_if label_puts ++ commit) base)
     shown_some =
@@ -191,3 +225,7 @@ module _ (areas : List (Area × Option Locn)) (take : All CanTake areas) (far : 
 
     pub areas_shown : (group : Group) → change.group ≡ Some group → AllShow (new_reading (printed (tree_of group now))) (areas_of change areas) (with_batches (batches (Some group)) base)
     areas_shown group is = shown_some (printed (tree_of group now)) (fits group is) (read group is)
+
+    -- until its headers are published
+    pub areas_unpublished : (group : Group) → change.group ≡ Some group → (image : Image) (n : ℕ) → n < length (batches (Some group)) → HasFirstBatches (front_of n (batches (Some group))) base image → AllShow old areas image
+    areas_unpublished group is = shown_unpublished (printed (tree_of group now)) (fits group is) (read group is)

@@ -1,5 +1,5 @@
 -- What every image on the way of a line keeps, and what is found once it is done.
-use Rattle.std.proofs.Common.{◌≡◌, ◌<◌, ℕ, List, [], ◌++◌, length, map, get_or, Option, None, Some, refl, sym, subst}
+use Rattle.std.proofs.Common.{◌≡◌, ◌<◌, ℕ, List, [], ◌++◌, length, map, take, get_or, Option, None, Some, refl, sym, subst}
 use Rattle.disk_model.specs.Steps.{Image}
 use Rattle.disk_batch.specs.InTurn.{HasFirstBatches, Put, with_batches}
 use Rattle.meta_model.specs.declared.group.Group.{Group}
@@ -17,7 +17,7 @@ use Rattle.vg_change.specs.CarryingOut.{KeepsImages, sizes_of}
 use Rattle.vg_change.specs.Laws.{AreasAreKept, HasLabel, HoldsAfter, IsFoundAfter, ShowsEntries}
 use Rattle.vg_change.specs.Sound.{CanMake, IsReadAgain, LiesOn}
 use Rattle.vg_change.proofs.FarAreas.{areas_far}
-use Rattle.vg_change.proofs.KeptImages.{areas_shown, change_kept, labels_stand}
+use Rattle.vg_change.proofs.KeptImages.{areas_shown, areas_unpublished, change_kept, labels_stand}
 use Rattle.vg_change.proofs.LabelsRead.{header_found, label_read}
 use Rattle.vg_change.proofs.LineLabels.{headers_found, new_empty, new_labels_are, new_near}
 use Rattle.vg_change.proofs.Sound.{can_make, lies_on}
@@ -61,7 +61,12 @@ found_after state line now sizes is planned can lies again base names = record {
   areas = holds state line now sizes is can lies again base names (change_of state line).group refl;
 }
 
--- both, of a line that no row refuses, whose change is written so that it is read again as it is
+-- its batches, where this group is committed
+abbrev batches_with : GroupState → Line → ℕ → Option Group → List (List Put)
+batches_with state line now g =
+    batch_if (new_area_puts g (change_of state line).labels) ++ batch_if (map label_put (change_of state line).labels) ++ commit_batches g now (areas_of (change_of state line) state.areas)
+
+-- all of it, of a line that no row refuses, whose change is written so that it is read again as it is
 pub keeps_images : (state : GroupState) (line : Line) (now : ℕ) → IsState state → IsPlanned line.id line.command → refusal_of state line now ≡ None
     → (made : Change) → made ≡ change_of state line → IsReadAgain state.areas made now → KeepsImages state line now
 keeps_images state line now is planned none made same again =
@@ -70,5 +75,8 @@ keeps_images state line now is planned none made same again =
     let read : IsReadAgain state.areas (change_of state line) now = subst (λ (c : Change). IsReadAgain state.areas c now) same again in
     record {
       kept = λ base image names h. areas_kept state line now (sizes_of state.disks) is can lies read base image names h;
+      unpublished = λ base image n group names made' less h.
+          areas_unpublished state.areas (areas_take state is) (areas_far state is) (change_of state line) can.labels lies.differ base names now (λ none'. new_near (change_of state line).labels (new_labels_are state line none')) can.commit read.commit group made'
+          image n (subst (λ (g : Option Group). n < length (batches_with state line now g)) made' less) (subst (λ (g : Option Group). HasFirstBatches (take n (batches_with state line now g)) base image) made' h);
       found = λ base names. found_after state line now (sizes_of state.disks) is planned can lies read base names;
     }

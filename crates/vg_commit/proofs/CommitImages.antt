@@ -22,7 +22,7 @@ use Rattle.vg_commit.specs.Preparing.{AreCommitted, area_disks}
 use Rattle.vg_commit.specs.TooLarge.{first_too_large}
 use Rattle.vg_commit.proofs.AreaPuts.{entry_inside, is_placed}
 use Rattle.vg_commit.proofs.AreasCommit.{header_area, make_commit, one_header, publish_area, rooms, text_area}
-use Rattle.vg_commit.proofs.CommitInTurn.{all_new, in_turn}
+use Rattle.vg_commit.proofs.CommitInTurn.{all_new, in_turn, unpublished}
 use Rattle.vg_commit.proofs.Disks.{headers_on, texts_on}
 use Rattle.vg_commit.proofs.ShownSectors.{HasOneHeader, image_shows, images_show_either, shows_reads}
 
@@ -107,6 +107,12 @@ module _ (text : List ℕ) (areas : List (Area × Option Locn)) (flush : FinSet 
         (λ all k d within. inl (image_shows (old_reading bytes) areas image committed.take sized all k d within))
         (λ all. image_shows_either (old_reading bytes) (new_reading text) areas (written_at headers) committed.take sized sized_new one image all)
         (in_turn Old New texts headers publish (disks_in flush) (disks_in (area_disks areas)) make base olds image h)
+
+    -- before the headers are published each shows these
+    pub commit_unpublished : (image : Image) → HasFirstBatches (texts ∷ headers ∷ []) base image → AllShow (old_reading bytes) areas image
+    commit_unpublished image h =
+        image_shows (old_reading bytes) areas image committed.take sized
+        (unpublished Old New texts headers publish (disks_in flush) (disks_in (area_disks areas)) make base olds image h)
 
     -- and the new one once all is written
     pub commit_shown : AllShow (new_reading text) areas (with_batches batches base)

@@ -92,3 +92,20 @@ module _ (Old New : ℕ → ℕ → List ℕ → Type 0) (texts headers publish 
     -- in every image on the way each reads as the old one, or each as it does since the headers are published
     pub in_turn : (image : Image) → HasFirstBatches batches base image → AllOld image ⊎ AllPublished image
     in_turn image h = by_count image h.count h.either
+
+    -- before the headers are published each reads as the old one
+    unpublished_by : (image : Image) (count : ℕ)
+        → ((pv sector : ℕ) → (image pv sector ≡ with_batches (take count (texts ∷ headers ∷ [])) base pv sector) ⊎ (image pv sector ≡ with_batches (take (suc count) (texts ∷ headers ∷ [])) base pv sector)) → AllOld image
+    unpublished_by image zero h pv sector =
+        ⊎_elim (λ e. subst (Old pv sector) (sym e) (olds pv sector)) (λ e. subst (Old pv sector) (sym e) (texts_there base pv sector (olds pv sector)).0) (h pv sector)
+    unpublished_by image (suc zero) h pv sector =
+        ⊎_elim (λ e. subst (Old pv sector) (sym e) (texts_there base pv sector (olds pv sector)).0) (λ e. subst (Old pv sector) (sym e) (headers_there base pv sector (olds pv sector)).0) (h pv sector)
+    unpublished_by image (suc (suc count)) h pv sector =
+        let whole : (n : ℕ) → 2 ≤ n → with_batches (take n (texts ∷ headers ∷ [])) base pv sector ≡ with_batches (texts ∷ headers ∷ []) base pv sector =
+        λ n most. ap (λ (l : List (List Put)). with_batches l base pv sector) (take_all n (texts ∷ headers ∷ []) most) in
+        let e : image pv sector ≡ with_batches (texts ∷ headers ∷ []) base pv sector =
+        ⊎_elim (λ x. x ∙ whole (suc (suc count)) (omega arith)) (λ x. x ∙ whole (suc (suc (suc count))) (omega arith)) (h pv sector) in
+        subst (Old pv sector) (sym e) (headers_there base pv sector (olds pv sector)).0
+
+    pub unpublished : (image : Image) → HasFirstBatches (texts ∷ headers ∷ []) base image → AllOld image
+    unpublished image h = unpublished_by image h.count h.either
