@@ -83,7 +83,7 @@ nothing_of_flushes (o ∷ os) (d ∷ disks) e =
     let rest : OnlyFlushes os disks = cc in
     writes_nothing_append (submissions os) (Submitted o.tag o.work ∷ []) (nothing_of_flushes os disks rest) (subst (λ (w : Work). WritesNothing (Submitted o.tag w ∷ [])) (sym work) tt)
 
-writes_of_nothing : (steps : List Step) → WritesNothing steps → writes_submitted steps ≡ []
+pub writes_of_nothing : (steps : List Step) → WritesNothing steps → writes_submitted steps ≡ []
 writes_of_nothing [] none = refl
 writes_of_nothing (Submitted tag (Writing span sectors) ∷ steps) none = absurd none
 writes_of_nothing (Submitted tag (Reading span) ∷ steps) none = writes_of_nothing steps none
