@@ -1,7 +1,6 @@
 -- The group that a line gives is accepted, where no row refuses.
-use Rattle.std.proofs.Common.{◌≡◌, ◌≢◌, ◌≤◌, ◌<◌, ◌⊎◌, ℕ, suc, ◌+◌, ◌%◌, ◌^◌, Bool, true, false, not, ◌||◌, ◌==◌, cond, List, [], ◌∷◌, ◌++◌, length, get_or, map, Option, Some, None, inl, inr, refl, sym, ap, subst, ◌∙◌, arith}
-use Rattle.std.specs.Prelude.{All, IfSome, find, slice_get}
-use Rattle.std.specs.Option.{option_or}
+use Rattle.std.proofs.Common.{◌≡◌, ◌≢◌, ◌≤◌, ◌<◌, ℕ, ◌+◌, ◌%◌, ◌^◌, Bool, true, false, not, ◌||◌, ◌==◌, cond, List, [], ◌∷◌, ◌++◌, length, get_or, map, Option, Some, None, inl, inr, refl, sym, ap, subst, ◌∙◌, arith}
+use Rattle.std.specs.Prelude.{find}
 use Rattle.std.specs.List.{AllByRecursion as Each, list_any}
 use Rattle.std.specs.FinSet as set
 use Rattle.std.specs.Ordering.{nat_cmp}
@@ -23,12 +22,11 @@ use Rattle.meta_print.proofs.ReadAgain.{has_tree}
 use Rattle.pv_header.proofs.Overlaps.{All-from_find}
 use Rattle.scan_rules.specs.Decision.{same_bytes}
 use Rattle.scan_rules.proofs.Scanning.{same_bytes_to}
-use Rattle.vg_found.specs.declared.disk.Disk.{Disk}
 use Rattle.vg_found.specs.Disks.{disk_with, disks_of, has_header_id, header_on}
 use Rattle.volume_rules.specs.Rules.{IsAccepted, ids_of}
 use Rattle.volume_rules.specs.declared.rule.Rule.TheVariants.{Numbers, Volumes}
 use Rattle.group_ops.proofs.AddedFacts.{IsFoundOn, all_found}
-use Rattle.group_ops.proofs.Disks.{HasHeader, disk_with_own, has_own, ids_apart}
+use Rattle.group_ops.proofs.Disks.{disk_with_own, has_own, ids_apart}
 use Rattle.group_ops.proofs.EmptyGroup.{empty_base, empty_printable}
 use Rattle.group_ops.proofs.ExtendedGroup.{AreApart, Fits, IdApart, IsFresh, IsGood, count_added, good_added}
 use Rattle.group_ops.proofs.Inserted.{none_at, none_passes}
@@ -36,7 +34,7 @@ use Rattle.group_ops.proofs.Passed.{DiskApart, DisksApart, IsUnused, absent, bot
 use Rattle.group_ops.proofs.PushedPrintable.{printable_version}
 use Rattle.group_ops.proofs.PushedRules.{accepted_base, base_accepted, base_version}
 use Rattle.group_ops.proofs.StateFacts.{listed_are}
-use Rattle.group_ops.specs.Added.{IsAdded, added_of, data_end, data_start, disks_added}
+use Rattle.group_ops.specs.Added.{added_of, data_end, data_start, disks_added}
 use Rattle.group_ops.specs.Ids.{has_lv_id, has_other_id}
 use Rattle.group_ops.specs.Judging.{area_row, first_refusal, lies_on, many_row, refused_if, set_of, small_row, stands_on_disk, used_row}
 use Rattle.group_ops.specs.NewGroup.{extended}

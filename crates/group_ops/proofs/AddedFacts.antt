@@ -1,6 +1,6 @@
 -- What is known of the physical volumes that a line adds.
-use Rattle.std.proofs.Common.{◌≡◌, ◌≢◌, ◌≤◌, ◌<◌, ℕ, zero, suc, ◌+◌, ◌*◌, ◌^◌, Bool, true, false, cond, List, [], ◌∷◌, ◌++◌, length, map, Option, Some, None, refl, sym, ap, subst, ◌∙◌, arith}
-use Rattle.std.specs.Prelude.{All, filter_map, option_map, slice_get}
+use Rattle.std.proofs.Common.{◌≡◌, ◌<◌, ℕ, ◌+◌, ◌*◌, Bool, true, false, cond, List, [], ◌∷◌, length, Option, Some, None, refl, sym, ap, subst, arith}
+use Rattle.std.specs.Prelude.{All, option_map, slice_get}
 use Rattle.std.specs.Option.{option_and_then}
 use Rattle.std.specs.Str.{bytes_eq}
 use Rattle.std.specs.Cmp.Lexicographic.{same_text}
@@ -21,7 +21,7 @@ use Rattle.vg_found.specs.Shape.{ContentsCanStand, IsDisk}
 use Rattle.group_ops.proofs.Contents.{disk_name-content}
 use Rattle.group_ops.proofs.DataPlaces.{data_ends, data_starts}
 use Rattle.group_ops.proofs.Disks.{HasHeader}
-use Rattle.group_ops.specs.Added.{IsAdded, added_at, added_named, added_of, added_on, data_end, data_start, pv_in}
+use Rattle.group_ops.specs.Added.{IsAdded, added_at, added_named, added_of, added_on, pv_in}
 use Rattle.group_ops.specs.State.{IsState}
 use Rattle.group_ops.specs.declared.added.Added.{Added}
 use Rattle.group_ops.specs.declared.state.GroupState.{GroupState}

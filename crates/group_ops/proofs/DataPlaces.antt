@@ -1,6 +1,6 @@
 -- Data areas that lie on a disk begin and end there.
-use Rattle.std.proofs.Common.{◌≡◌, ◌≤◌, ◌<◌, ℕ, ◌+◌, ◌*◌, ◌/◌, Bool, true, false, cond, eqb, ltb, List, [], ◌∷◌, ◌++◌, map, Option, Some, None, min, max, refl, ap, arith}
-use Rattle.std.specs.Prelude.{All, filter, find, unwrap_or}
+use Rattle.std.proofs.Common.{◌≡◌, ◌≤◌, ℕ, ◌+◌, ◌*◌, Bool, true, false, cond, eqb, ltb, List, [], ◌∷◌, ◌++◌, map, None, min, arith}
+use Rattle.std.specs.Prelude.{filter, find, unwrap_or}
 use Rattle.std.specs.List.{AllByRecursion as Each, fold, reduce}
 use Rattle.std.proofs.lemmas.Bool.Decides.{nat_tests}
 use Rattle.std.proofs.lemmas.List.Elements.{recursion_from_All}

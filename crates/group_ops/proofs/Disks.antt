@@ -1,7 +1,7 @@
 -- Disks by the ids in their headers: where no id stands on two, a disk is found by its own.
 use Rattle.std.proofs.Common.{◌≡◌, ◌<◌, ℕ, zero, suc, ◌+◌, Bool, true, false, cond, List, [], ◌∷◌, Option, Some, None, refl, sym, ap, subst, ◌∙◌, add-one, arith}
 use Rattle.std.specs.Prelude.{find, option_map, slice_get, unwrap_or}
-use Rattle.std.proofs.lemmas.Bool.{false≢true, true≢false}
+use Rattle.std.proofs.lemmas.Bool.{true≢false}
 use Rattle.std.proofs.lemmas.Option.{same_Some}
 use Rattle.pv_header.specs.declared.header.PvHeader.{PvHeader}
 use Rattle.scan_rules.specs.Decision.{Found as PvOf, first_duplicate, ids_from, same_bytes}

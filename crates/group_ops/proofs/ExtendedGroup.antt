@@ -1,8 +1,8 @@
 -- A group to which physical volumes are added keeps all rules, and can be printed.
-use Rattle.std.proofs.Common.{◌≡◌, ◌≢◌, ◌≤◌, ◌<◌, ℕ, suc, ◌+◌, ◌-◌, ◌*◌, ◌/◌, ◌^◌, Bool, true, false, ◌||◌, List, [], ◌∷◌, ◌++◌, length, map, refl, sym, ap, subst, ◌∙◌, length-append, arith}
+use Rattle.std.proofs.Common.{◌≡◌, ◌≢◌, ◌≤◌, ◌<◌, ℕ, ◌+◌, ◌-◌, ◌*◌, ◌/◌, ◌^◌, Bool, true, false, ◌||◌, List, [], ◌∷◌, ◌++◌, length, map, refl, sym, subst, ◌∙◌, length-append, arith}
 use Rattle.std.specs.Prelude.{All, nat_eq}
 use Rattle.std.specs.Cmp.Lexicographic.{pointwise}
-use Rattle.std.specs.List.{AllByRecursion as Each, list_any}
+use Rattle.std.specs.List.{AllByRecursion as Each}
 use Rattle.std.proofs.Math.Nat.{div-le_self, div-mul-le_self}
 use Rattle.std.proofs.lemmas.List.Elements.{All-from_recursion, recursion_from_All}
 use Rattle.std.proofs.lemmas.List.Folds.{list_any-append}
@@ -20,7 +20,7 @@ use Rattle.group_ops.proofs.FreeNames.{free, names_length, pv_name-named}
 use Rattle.group_ops.proofs.Inserted.{each_inserted}
 use Rattle.group_ops.proofs.Pushed.{pushed}
 use Rattle.group_ops.proofs.PushedPrintable.{printable_pushed}
-use Rattle.group_ops.proofs.PushedRules.{IsBase, MayJoin, base_pushed, ids_of-pushed}
+use Rattle.group_ops.proofs.PushedRules.{IsBase, base_pushed, ids_of-pushed}
 use Rattle.group_ops.specs.Added.{IsAdded, data_end, data_start, pv_of}
 use Rattle.group_ops.specs.NewGroup.{free_number, names_in, pv_name, with_added}
 use Rattle.group_ops.specs.declared.added.Added.{Added}

@@ -1,15 +1,15 @@
 -- What the rows tell where none refuses.
-use Rattle.std.proofs.Common.{◌≡◌, ◌≢◌, ◌≤◌, ◌<◌, ℕ, suc, ◌+◌, ◌^◌, Bool, true, false, not, ◌||◌, ◌&&◌, ◌==◌, cond, eqb, ltb, List, [], ◌∷◌, ◌++◌, length, map, Option, Some, None, refl, sym, ap, subst, ◌∙◌, arith}
-use Rattle.std.specs.Prelude.{All, find, option_map, slice_get}
+use Rattle.std.proofs.Common.{◌≡◌, ◌≢◌, ◌≤◌, ℕ, ◌+◌, Bool, true, false, not, ◌||◌, ◌&&◌, ◌==◌, cond, eqb, ltb, List, [], ◌∷◌, Option, Some, None, refl, sym, ap, ◌∙◌}
+use Rattle.std.specs.Prelude.{find, option_map}
 use Rattle.std.specs.Option.{option_or}
-use Rattle.std.specs.List.{AllByRecursion as Each, list_any}
+use Rattle.std.specs.List.{AllByRecursion as Each}
 use Rattle.std.specs.FinSet as set
 use Rattle.std.specs.Cmp.{nat_cmp_total, unsigned_tied}
 use Rattle.std.specs.Ordering.{nat_cmp}
 use Rattle.std.proofs.lemmas.Bool.{eq-eqb, eqb-true, ltb-false, true≢false}
 use Rattle.std.proofs.lemmas.List.Elements.{recursion_from_All}
 use Rattle.pv_header.proofs.Overlaps.{All-from_find}
-use Rattle.group_ops.specs.Added.{data_end, data_start, disks_added}
+use Rattle.group_ops.specs.Added.{data_end, data_start}
 use Rattle.group_ops.specs.Judging.{first_used, is_small, many_row, small_row, used_row, set_of, with_all}
 use Rattle.group_ops.specs.declared.added.Added.{Added}
 use Rattle.lvm_script.specs.declared.op_refusal.OpRefusal.{OpRefusal}

@@ -1,6 +1,6 @@
 -- A group with one more physical volume keeps the rules that it kept.
-use Rattle.std.proofs.Common.{◌≡◌, ◌≢◌, ◌≤◌, ◌<◌, ℕ, suc, ◌+◌, List, [], ◌∷◌, ◌++◌, length, map, Some, refl, sym, ap, subst, ◌∙◌, append_assoc, arith}
-use Rattle.std.specs.Prelude.{slice_get, All, AllPairs, Contains}
+use Rattle.std.proofs.Common.{◌≡◌, ◌≢◌, ◌≤◌, ℕ, suc, ◌+◌, List, [], ◌∷◌, ◌++◌, length, map, Some, refl, sym, ap, subst, ◌∙◌, append_assoc, arith}
+use Rattle.std.specs.Prelude.{slice_get, All, AllPairs}
 use Rattle.std.specs.List.{AllByRecursion as Each}
 use Rattle.std.proofs.lemmas.List.{map-append}
 use Rattle.std.proofs.lemmas.List.Elements.{All-weaker, recursion_from_All}
@@ -9,8 +9,8 @@ use Rattle.meta_model.specs.declared.lv.Lv.{Lv}
 use Rattle.meta_model.specs.declared.pv.Pv.{Pv}
 use Rattle.meta_model.specs.declared.segment.On.{On}
 use Rattle.meta_model.specs.declared.segment.On.TheVariants as on
-use Rattle.volume_rules.specs.Legs.{IsWayDown, LegRun, LiesOn, runs_of}
-use Rattle.volume_rules.specs.Rules.{DepthIsAtMostThree, FitsDevice, IsAccepted, IsMove, IsMoving, Keeps, LiesWithin, NumbersAreAllowed, PvIsSmall, PvmoveIsAllowed, SegmentsAreFew, VolumesAreFew, ids_of, number_of}
+use Rattle.volume_rules.specs.Legs.{IsWayDown, LegRun, runs_of}
+use Rattle.volume_rules.specs.Rules.{FitsDevice, IsAccepted, IsMove, IsMoving, Keeps, LiesWithin, PvIsSmall, VolumesAreFew, ids_of, number_of}
 use Rattle.volume_rules.specs.declared.rule.Rule.{Rule}
 use Rattle.volume_rules.specs.declared.rule.Rule.TheVariants.{Numbers, Ids, Volumes, Segments, Extents, Follows, Stripes, Mirrors, Within, Apart, Depth, Moved, Pvmove, Locked}
 use Rattle.group_ops.proofs.Inserted.{all_pushed, pairs_inserted, slice_get-pushed}

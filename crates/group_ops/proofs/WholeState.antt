@@ -1,5 +1,5 @@
 -- Lines may be judged against what was found, where it is whole.
-use Rattle.std.proofs.Common.{◌≡◌, ◌<◌, ℕ, zero, suc, List, [], ◌∷◌, length, get_or, Option, Some, None, refl, sym, ap, subst, ◌∙◌, arith}
+use Rattle.std.proofs.Common.{◌≡◌, ◌<◌, ℕ, zero, suc, List, [], ◌∷◌, length, get_or, Option, Some, None, refl, sym, subst, ◌∙◌, arith}
 use Rattle.std.specs.Prelude.{All, IfSome, slice_get}
 use Rattle.std.proofs.lemmas.List.{length-map}
 use Rattle.std.proofs.lemmas.Option.{get_or_from_slice_get}
@@ -10,10 +10,7 @@ use Rattle.vg_found.proofs.HeaderDisks.{there}
 use Rattle.vg_found.specs.declared.disk.Disk.{Disk}
 use Rattle.vg_found.specs.declared.found.Found.{Found}
 use Rattle.vg_found.specs.Disks.{disk_with, disks_of, shapes}
-use Rattle.vg_found.specs.Shape.{HasShape}
-use Rattle.vg_found.specs.Whole.{IsWhole}
-use Rattle.group_ops.specs.Laws.{WholeIsState, state_in}
-use Rattle.group_ops.specs.State.{IsState}
+use Rattle.group_ops.specs.Laws.{WholeIsState}
 
 -- each physical volume of the group is on one of the disks
 one_there : (disks : List Disk) (group : Group) → missing_of (shapes disks) group.pvs ≡ [] → (k : ℕ) (d : ℕ) (pv : List ℕ × Pv) → slice_get group.pvs k ≡ Some pv → get_or (disks_of group disks) k d < length disks

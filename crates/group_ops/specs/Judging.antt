@@ -1,12 +1,12 @@
 -- How a line is judged: by refusals in their order, each of which holds or doesn't.
-use Rattle.std.specs.Prelude.{◌≡◌, ℕ, ◌+◌, ◌-◌, ◌^◌, ◌&&◌, ◌==◌, Bool, not, nat_le, nat_lt, if◌then◌else◌, List, [], ◌∷◌, length, min, find, Option, None, Some, is_none, option_map, Result, MatchResult}
+use Rattle.std.specs.Prelude.{◌≡◌, ℕ, ◌+◌, ◌-◌, ◌^◌, ◌&&◌, ◌==◌, Bool, not, nat_lt, if◌then◌else◌, List, [], ◌∷◌, length, min, find, Option, None, Some, is_none, option_map, Result, MatchResult}
 use Rattle.std.specs.Option.{option_or}
 use Rattle.std.specs.List.{list_any}
 use Rattle.std.specs.FinSet as set
 use Rattle.std.specs.Ordering.{nat_cmp}
 use Rattle.conf_text.specs.Printed.{printed}
 use Rattle.lvm_script.specs.declared.op_refusal.OpRefusal.{OpRefusal}
-use Rattle.lvm_script.specs.declared.op_refusal.OpRefusal.TheVariants.{IdTaken, NoArea, PvUsed, TooLarge, TooMany, TooSmall, UnknownPv}
+use Rattle.lvm_script.specs.declared.op_refusal.OpRefusal.TheVariants.{NoArea, PvUsed, TooLarge, TooMany, TooSmall, UnknownPv}
 use Rattle.mda_header.specs.declared.header.Locn.{Locn}
 use Rattle.mda_ring.specs.declared.area.Area.{Area}
 use Rattle.mda_ring.specs.Ring.{need, room}

@@ -1,5 +1,5 @@
 -- What a line may be judged against.
-use Rattle.std.specs.Prelude.{◌≡◌, ◌≤◌, ◌<◌, ℕ, true, None, Some, List, length, slice_get, All, IfSome}
+use Rattle.std.specs.Prelude.{◌≡◌, ◌≤◌, ◌<◌, ℕ, true, None, Some, length, slice_get, All, IfSome}
 use Rattle.lvm_script.specs.Values.{is_disk_name}
 use Rattle.scan_rules.specs.Decision.{first_duplicate, ids_from}
 use Rattle.vg_found.specs.declared.disk.Disk.{Disk}

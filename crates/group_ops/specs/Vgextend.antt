@@ -1,5 +1,5 @@
 -- vgextend(8): the rows of its refusals, and its change.
-use Rattle.std.specs.Prelude.{ℕ, ◌+◌, ◌==◌, not, List, [], ◌∷◌, ◌++◌, length, find, Option, None, Some, option_map}
+use Rattle.std.specs.Prelude.{ℕ, ◌+◌, ◌==◌, not, List, [], ◌∷◌, ◌++◌, length, find, Option, Some, option_map}
 use Rattle.std.specs.Option.{option_map_or}
 use Rattle.lvm_script.specs.declared.op_refusal.OpRefusal.{OpRefusal}
 use Rattle.lvm_script.specs.declared.op_refusal.OpRefusal.TheVariants.{IdTaken, NotResizeable, ReadOnly, SeqnoEnd, UnknownGroup}

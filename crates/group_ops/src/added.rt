@@ -141,7 +141,12 @@ fn added_on(
     }
 }
 
-fn copied_header(alloc: Global, header: &PvHeader) -> Result<PvHeader, AllocError>
+/// The same header again.
+///
+/// # Errors
+///
+/// Where memory is wanting.
+pub fn copied_header(alloc: Global, header: &PvHeader) -> Result<PvHeader, AllocError>
     ensures { IfOk result (λ copy. copy ≡ header.now) }
 {
     Ok(PvHeader {

@@ -18,7 +18,7 @@ mod state;
 mod vgcreate;
 mod vgextend;
 
-pub use added::Added;
+pub use added::{Added, copied_header};
 pub use laws::{change_is_placed, whole_is_state};
 pub use planning::plan;
 pub use refusal::PlanRefusal;

@@ -13,6 +13,7 @@ use Rattle.mda_ring.specs.declared.area.Area.{Area}
 use Rattle.meta_model.specs.declared.group.Group.{Group}
 use Rattle.meta_print.specs.Layout.{tree_of}
 use Rattle.scan_rules.specs.Decision.{AreaReading, Copy, SameHeaders, decide_scan, first_misplaced, is_held, lists}
+use Rattle.vg_commit.proofs.Disks.{no_area}
 use Rattle.vg_commit.specs.SectorReading.{ShowsBy, new_reading, old_reading}
 use Rattle.vg_found.specs.declared.found.Found.{Found}
 use Rattle.vg_found.specs.Disks.{shapes}
@@ -39,7 +40,6 @@ use Rattle.image_scans.proofs.AreaAgain.{NotRefused}
 use Rattle.image_scans.proofs.BaseEntries.{entries_shown}
 use Rattle.image_scans.proofs.CommitOnTheWay.{each_again, each_reads}
 use Rattle.image_scans.proofs.CommitScans.{IsNext, either_found, new_found, same_version}
-use Rattle.image_scans.proofs.CommitWrites.{no_area}
 use Rattle.image_scans.proofs.DiskAgain.{AllAgain, DiskAgain, all_again, none_refused}
 use Rattle.image_scans.proofs.FoundAreas.{IsHeldOn, all_held}
 use Rattle.image_scans.proofs.HeldText.{text_held}

@@ -23,6 +23,7 @@ use Rattle.disk_contents.specs.declared.contents.PvFound.{PvFound}
 use Rattle.disk_contents.specs.declared.contents.PvFound.TheVariants.{NoLabel, NoHeader, Whole}
 use Rattle.disk_contents.specs.Standing.{area_on}
 use Rattle.scan_rules.specs.Decision.{AreaReading, Copy, Reading, lists}
+use Rattle.vg_commit.proofs.Disks.{no_area}
 use Rattle.vg_commit.specs.Written.{area_writes, headers_of, publish_of, texts_of}
 use Rattle.vg_commit.proofs.AreasCommit.{rooms}
 use Rattle.vg_found.specs.declared.disk.Disk.{Disk}
@@ -47,7 +48,7 @@ use Rattle.vg_change.proofs.FarAreas.{IsFar, areas_far}
 use Rattle.vg_change.proofs.LabelPuts.{AreApart, label_where, labels_there, with_if}
 use Rattle.vg_change.proofs.LabelsRead.{label_read}
 use Rattle.image_scans.proofs.AreaAgain.{HasHeader, IsKeptOrMade, IsKnown, IsOnTheWay, kept_or_made}
-use Rattle.image_scans.proofs.CommitWrites.{IsAreaWrite, commit_writes, no_area}
+use Rattle.image_scans.proofs.CommitWrites.{IsAreaWrite, commit_writes}
 use Rattle.image_scans.proofs.DiskAgain.{DiskAgain, LabelStands, PvMayBeRefused, disk_again, disk_same}
 use Rattle.image_scans.proofs.FoundAreas.{IsHeldOn, IsPlaced, all_held, areas_placed, entry_kept, of_held}
 use Rattle.image_scans.proofs.Front.{AnyWrites, any_append, any_if, batches_or, front_or}

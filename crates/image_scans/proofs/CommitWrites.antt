@@ -1,8 +1,7 @@
 -- What the batches of a commit write: sectors of its areas, and their headers before and after the text is published.
-use Rattle.std.proofs.Common.{◌≡◌, ◌≤◌, ◌<◌, ◌⊎◌, ℕ, suc, ◌+◌, ◌-◌, ◌/◌, IsTrue, List, [], ◌∷◌, length, map, get_or, Option, None, inl, inr, sym, ap, ◌∙◌, arith}
-use Rattle.std.specs.Prelude.{All, slice_index_or}
+use Rattle.std.proofs.Common.{◌≡◌, ◌≤◌, ◌<◌, ◌⊎◌, ℕ, ◌+◌, ◌-◌, ◌/◌, IsTrue, List, [], ◌∷◌, length, map, get_or, Option, inl, inr, sym, arith}
+use Rattle.std.specs.Prelude.{All}
 use Rattle.sector_base.specs.Spans.{covers}
-use Rattle.disk_model.specs.Steps.{value_at}
 use Rattle.disk_batch.specs.Writes.{IsWrittenBy}
 use Rattle.mda_header.specs.declared.header.Locn.{Locn}
 use Rattle.mda_header.specs.HeaderBytes.{header_bytes}
@@ -12,12 +11,9 @@ use Rattle.mda_ring.specs.Ring.{need, room}
 use Rattle.mda_ring.proofs.SpanLaws.{covers_tells}
 use Rattle.vg_commit.specs.Written.{area_writes, header_after, header_before, header_span, headers_of, publish_of, texts_of}
 use Rattle.vg_commit.proofs.AreaPuts.{IsTextPut, is_placed, text_put}
-use Rattle.vg_commit.proofs.AreasCommit.{text_where}
+use Rattle.vg_commit.proofs.AreasCommit.{header_value, header_where, publish_where, text_where}
+use Rattle.vg_commit.proofs.Disks.{no_area}
 use Rattle.image_scans.proofs.Front.{AnyWrites}
-
--- some area, where a list has none
-pub no_area : Area × Option Locn
-no_area = (record { pv = 0; start = 0; size = 0 }, None)
 
 -- the sector is one of the area's ring, or its header with one of these two values
 abbrev pub IsRingOrHeader : List ℕ → Area × Option Locn → ℕ → List ℕ → Type 0
@@ -32,23 +28,6 @@ pub record IsAreaWrite (text : List ℕ) (areas : List (Area × Option Locn)) (p
   pub from : (get_or areas number no_area).0.start / 512 ≤ sector
   pub to : sector < (get_or areas number no_area).0.start / 512 + (get_or areas number no_area).0.size / 512
   pub is : IsRingOrHeader text (get_or areas number no_area) sector value
-
-module _ (text : List ℕ) where
-  header_where : (areas : List (Area × Option Locn)) (d : Area × Option Locn) (pv sector : ℕ) (value : List ℕ) → IsWrittenBy (headers_of (map (area_writes text) areas)) pv sector value
-      → (k : ℕ) × (k < length areas) × IsTrue (covers (header_span (get_or areas k d).0) pv sector) × (value ≡ value_at (header_span (get_or areas k d).0) (header_bytes (header_before text (get_or areas k d)) ∷ []) sector)
-  header_where [] d pv sector value h = absurd h
-  header_where (a ∷ areas) d pv sector value (inl here) = (0, omega arith, here.0, here.1)
-  header_where (a ∷ areas) d pv sector value (inr later) = let w = header_where areas d pv sector value later in (suc w.0, omega (arith, w.1), w.2, w.3)
-
-  publish_where : (areas : List (Area × Option Locn)) (d : Area × Option Locn) (pv sector : ℕ) (value : List ℕ) → IsWrittenBy (publish_of (map (area_writes text) areas)) pv sector value
-      → (k : ℕ) × (k < length areas) × IsTrue (covers (header_span (get_or areas k d).0) pv sector) × (value ≡ value_at (header_span (get_or areas k d).0) (header_bytes (header_after text (get_or areas k d)) ∷ []) sector)
-  publish_where [] d pv sector value h = absurd h
-  publish_where (a ∷ areas) d pv sector value (inl here) = (0, omega arith, here.0, here.1)
-  publish_where (a ∷ areas) d pv sector value (inr later) = let w = publish_where areas d pv sector value later in (suc w.0, omega (arith, w.1), w.2, w.3)
-
--- the one sector of a header
-one_value : (a : Area) (bytes value : List ℕ) (sector : ℕ) → a.start / 512 ≡ sector → value ≡ value_at (header_span a) (bytes ∷ []) sector → value ≡ bytes
-one_value a bytes value sector at is = is ∙ (let front : sector - a.start / 512 ≡ 0 = omega (arith, at) in ap (λ (k : ℕ). slice_index_or (bytes ∷ []) k []) front)
 
 module _ (text : List ℕ) (areas : List (Area × Option Locn)) (take : All CanTake areas) (rooms : All (λ (a : Area × Option Locn). need (length text + 1) ≤ room a.0.size a.1) areas) where
   texts_write : (pv sector : ℕ) (value : List ℕ) → IsWrittenBy (texts_of (map (area_writes text) areas)) pv sector value → IsAreaWrite text areas pv sector value
@@ -68,14 +47,14 @@ module _ (text : List ℕ) (areas : List (Area × Option Locn)) (take : All CanT
       let w = header_where text areas no_area pv sector value by in
       let a : Area × Option Locn = get_or areas w.0 no_area in
       let at = header_writes a (take w.0 no_area w.1) pv sector w.2 in
-      record { number = w.0; among = w.1; disk = at.0; from = omega (arith, at.1); to = at.2; is = inr (sym at.1, inl (one_value a.0 (header_bytes (header_before text a)) value sector at.1 w.3)) }
+      record { number = w.0; among = w.1; disk = at.0; from = omega (arith, at.1); to = at.2; is = inr (sym at.1, inl (header_value a.0 (header_bytes (header_before text a)) value sector at.1 w.3)) }
 
   publish_write : (pv sector : ℕ) (value : List ℕ) → IsWrittenBy (publish_of (map (area_writes text) areas)) pv sector value → IsAreaWrite text areas pv sector value
   publish_write pv sector value by =
       let w = publish_where text areas no_area pv sector value by in
       let a : Area × Option Locn = get_or areas w.0 no_area in
       let at = header_writes a (take w.0 no_area w.1) pv sector w.2 in
-      record { number = w.0; among = w.1; disk = at.0; from = omega (arith, at.1); to = at.2; is = inr (sym at.1, inr (one_value a.0 (header_bytes (header_after text a)) value sector at.1 w.3)) }
+      record { number = w.0; among = w.1; disk = at.0; from = omega (arith, at.1); to = at.2; is = inr (sym at.1, inr (header_value a.0 (header_bytes (header_after text a)) value sector at.1 w.3)) }
 
   pub commit_writes : (pv sector : ℕ) (value : List ℕ)
       → AnyWrites (texts_of (map (area_writes text) areas) ∷ headers_of (map (area_writes text) areas) ∷ publish_of (map (area_writes text) areas) ∷ []) pv sector value → IsAreaWrite text areas pv sector value

@@ -14,7 +14,8 @@ use Rattle.vg_found.specs.declared.disk.Disk.{Disk}
 use Rattle.vg_found.specs.Disks.{areas_on, held_area}
 use Rattle.vg_found.specs.Shape.{IsDisk}
 use Rattle.image_scans.proofs.AreaAgain.{IsWritten}
-use Rattle.image_scans.proofs.CommitWrites.{IsAreaWrite, no_area}
+use Rattle.image_scans.proofs.CommitWrites.{IsAreaWrite}
+use Rattle.vg_commit.proofs.Disks.{no_area}
 use Rattle.image_scans.proofs.FoundAreas.{IsHeldOn, IsPlaced, LieBeside, areas_placed, entry_kept}
 
 module _ (disks : List Disk) (are : (pv : ℕ) (disk : Disk) → slice_get disks pv ≡ Some disk → IsDisk pv disk) (pv : ℕ) (disk : Disk) (there : slice_get disks pv ≡ Some disk) (label : ℕ) (header : PvHeader) (areas : List AreaFound)

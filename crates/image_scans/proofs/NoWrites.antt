@@ -50,11 +50,12 @@ use Rattle.image_scans.specs.Laws.{CanCarryOut, IsOutside, place_of, places_in, 
 use Rattle.image_scans.proofs.CommitCommands.{Commits}
 use Rattle.image_scans.proofs.CommitLine.{can, is_state, lies, settled}
 use Rattle.image_scans.proofs.CommitOnTheWay.{header_read, writes}
-use Rattle.image_scans.proofs.CommitWrites.{IsAreaWrite, no_area}
+use Rattle.image_scans.proofs.CommitWrites.{IsAreaWrite}
 use Rattle.image_scans.proofs.FoundAreas.{IsHeldOn, all_held, entry_kept}
 use Rattle.image_scans.proofs.Front.{AnyWrites}
 use Rattle.image_scans.proofs.Lines.{LineMakes, MakesPv, line_makes, makes_nothing, makes_pv, makes_version}
 use Rattle.image_scans.proofs.Placed.{IsInExtents, IsPlaceOn, place_beside, primary_in_extents}
+use Rattle.vg_commit.proofs.Disks.{no_area}
 use Rattle.image_scans.proofs.SettledBase.{IsSettledScan, settled_none, settled_some}
 
 -- ---- lists
@@ -64,7 +65,7 @@ none_any [] pv sector none = All-nil (KeepsSector pv sector)
 none_any (batch ∷ batches) pv sector none =
     All-cons (KeepsSector pv sector) batch batches (keeps_sector batch pv sector (λ value by. none value (inl by))) (none_any batches pv sector (λ value by. none value (inr by)))
 
-each_area : (P : Extent → Type 0) (founds : List AreaFound) (n : ℕ) (found : AreaFound) → Each P (map (λ (f : AreaFound). f.area) founds) → slice_get founds n ≡ Some found → P found.area
+pub each_area : (P : Extent → Type 0) (founds : List AreaFound) (n : ℕ) (found : AreaFound) → Each P (map (λ (f : AreaFound). f.area) founds) → slice_get founds n ≡ Some found → P found.area
 each_area P [] n found all there = absurd cc
 each_area P (first ∷ founds) zero found all there = subst (λ (f : AreaFound). P f.area) (same_Some first found there) all.0
 each_area P (first ∷ founds) (suc n) found all there = each_area P founds n found all.1 there

@@ -1,5 +1,5 @@
 -- A primary place of the group lies in no metadata area of its disk.
-use Rattle.std.proofs.Common.{◌≡◌, ◌≤◌, ◌<◌, ◌⊎◌, ℕ, zero, suc, ◌+◌, ◌/◌, List, [], ◌∷◌, map, Option, Some, ⊎_elim, sym, ap, subst, ◌∙◌, arith}
+use Rattle.std.proofs.Common.{◌≡◌, ◌≤◌, ◌<◌, ◌⊎◌, ℕ, ◌+◌, ◌/◌, List, Option, Some, ⊎_elim, sym, ap, subst, ◌∙◌, arith}
 use Rattle.std.specs.Prelude.{slice_get}
 use Rattle.std.specs.List.{AllByRecursion as Each}
 use Rattle.std.proofs.lemmas.Option.{same_Some}
@@ -14,16 +14,12 @@ use Rattle.vg_found.specs.Disks.{areas_on}
 use Rattle.vg_found.specs.Shape.{ContentsCanStand, IsDisk}
 use Rattle.image_scans.proofs.CommitOnTheWay.{header_read}
 use Rattle.image_scans.proofs.FoundAreas.{IsHeldOn, entry_kept}
+use Rattle.image_scans.proofs.NoWrites.{each_area}
 use Rattle.image_scans.proofs.Placed.{IsPlaceOn}
 
 -- the sector is before the area or behind it
 abbrev IsBesideArea : ℕ → Extent → Type 0
 IsBesideArea sector area = (sector < area.offset / 512) ⊎ (area.offset / 512 + area.size / 512 ≤ sector)
-
-each_area : (P : Extent → Type 0) (founds : List AreaFound) (n : ℕ) (found : AreaFound) → Each P (map (λ (f : AreaFound). f.area) founds) → slice_get founds n ≡ Some found → P found.area
-each_area P [] n found all there = absurd cc
-each_area P (first ∷ founds) zero found all there = subst (λ (f : AreaFound). P f.area) (same_Some first found there) all.0
-each_area P (first ∷ founds) (suc n) found all there = each_area P founds n found all.1 there
 
 pub beside_areas : (disks : List Disk) → ((pv : ℕ) (disk : Disk) → slice_get disks pv ≡ Some disk → IsDisk pv disk) → (number sector : ℕ) → IsPlaceOn disks number sector → (b : Area × Option Locn) → IsHeldOn disks b → b.0.pv ≡ number
     → b.0.start / 512 ≤ sector → sector < b.0.start / 512 + b.0.size / 512 → ⊥

@@ -13,6 +13,7 @@ use Rattle.disk_model.specs.Submitting.{writes_at}
 use Rattle.mda_header.specs.HeaderBytes.{header_bytes}
 use Rattle.mda_header.specs.declared.header.Locn.{Locn}
 use Rattle.mda_ring.specs.declared.area.Area.{Area}
+use Rattle.vg_commit.proofs.Disks.{no_area}
 use Rattle.vg_commit.specs.Written.{area_writes, header_after, header_span, headers_of, publish_of, texts_of}
 use Rattle.vg_commit.proofs.AreasCommit.{header_covers, one_area}
 use Rattle.vg_found.specs.declared.found.Found.{Found}
@@ -26,7 +27,6 @@ use Rattle.vg_repair.proofs.HeldAreas.{stale_held}
 use Rattle.vg_repair.proofs.StaleOthers.{stale_elsewhere}
 use Rattle.vg_repair.proofs.StrayLabels.{labels_can}
 use Rattle.repair_scans.specs.Laws.{CanRepair}
-use Rattle.image_scans.proofs.CommitWrites.{no_area}
 use Rattle.image_scans.proofs.Front.{any_if, batches_or}
 use Rattle.repair_scans.proofs.RepairOnTheWay.{IsClearWrite, clear_writes, some_label, stale_far}
 use Rattle.repair_scans.proofs.StraysApart.{strays_apart}

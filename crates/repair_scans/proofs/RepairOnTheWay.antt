@@ -29,6 +29,7 @@ use Rattle.disk_contents.specs.declared.contents.PvFound.TheVariants.{NoLabel, N
 use Rattle.disk_contents.specs.Contents.{IsFound}
 use Rattle.disk_contents.specs.Standing.{area_on}
 use Rattle.scan_rules.specs.Decision.{Area as AreaOf, AreaReading, Copy, Found as PvOf, HoldsNone, Reading, Refused, gives, lists}
+use Rattle.vg_commit.proofs.Disks.{no_area}
 use Rattle.vg_commit.specs.SectorReading.{IsSized, ShowsBy, old_reading}
 use Rattle.vg_commit.specs.Written.{header_of, header_span}
 use Rattle.vg_found.specs.declared.disk.Disk.{Disk}
@@ -57,7 +58,7 @@ use Rattle.vg_repair.proofs.StrayLabels.{labels_can, labels_differ}
 use Rattle.repair_scans.specs.Laws.{CanRepair}
 use Rattle.image_scans.proofs.AreaAgain.{HasHeader, IsCleared, IsKnown, IsOnTheWay, MayBeRefused, kept_or_made}
 use Rattle.image_scans.proofs.BaseEntries.{entries_shown}
-use Rattle.image_scans.proofs.CommitWrites.{IsAreaWrite, commit_writes, no_area}
+use Rattle.image_scans.proofs.CommitWrites.{IsAreaWrite, commit_writes}
 use Rattle.image_scans.proofs.DiskAgain.{DiskAgain, LabelStands, PvMayBeRefused, disk_again, pv_same}
 use Rattle.image_scans.proofs.FoundAreas.{IsHeldOn, IsPlaced, all_held, entry_kept, of_held}
 use Rattle.image_scans.proofs.Front.{AnyWrites, any_append, any_if, batches_or, front_or}

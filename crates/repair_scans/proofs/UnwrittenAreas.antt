@@ -23,12 +23,12 @@ use Rattle.vg_repair.specs.Batches.{repair_batches, stray_areas, stray_labels}
 use Rattle.vg_repair.specs.Stale.{is_among, stale_areas}
 use Rattle.vg_repair.proofs.StrayLabels.{labels_can}
 use Rattle.repair_scans.specs.Laws.{CanRepair}
-use Rattle.image_scans.proofs.CommitWrites.{no_area}
 use Rattle.image_scans.proofs.FoundAreas.{IsPlaced}
 use Rattle.image_scans.proofs.Front.{batches_or}
 use Rattle.image_scans.proofs.MetAreas.{all_placed, area_met}
 use Rattle.repair_scans.proofs.NumberedAreas.{stale_number}
 use Rattle.repair_scans.proofs.RepairOnTheWay.{are_disks, cleared_on_disks, some_label, stale_on_disks, writes}
+use Rattle.vg_commit.proofs.Disks.{no_area}
 use Rattle.repair_scans.proofs.StraysApart.{in_at}
 
 module _ (base : Image) (sizes : List ℕ) (found : Found) (p : CanRepair base sizes found) (pv : ℕ) (disk : Disk) (there : slice_get found.disks pv ≡ Some disk) (label : ℕ) (header : PvHeader) (areas : List AreaFound)

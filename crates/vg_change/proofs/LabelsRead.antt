@@ -1,5 +1,5 @@
 -- A label sector is read as the label and the header behind it, and the header of a new area as that of an empty one.
-use Rattle.std.proofs.Common.{◌≡◌, ◌≢◌, ◌<◌, ℕ, ◌^◌, false, List, [], ◌++◌, drop, replicate, codes, None, refl, sym, ap, subst, arith}
+use Rattle.std.proofs.Common.{◌≡◌, ◌≢◌, ◌<◌, ℕ, ◌^◌, false, List, [], ◌++◌, replicate, codes, None, refl, sym, ap, subst, arith}
 use Rattle.std.specs.Prelude.{All}
 use Rattle.std.proofs.lemmas.List.{drop_at}
 use Rattle.lvm_id.specs.LvmId.{IsId}

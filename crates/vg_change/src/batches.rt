@@ -165,8 +165,14 @@ fn push_commit(
     Ok(())
 }
 
-// The commit of the text, which has room in each of the areas.
-fn prepared(alloc: Global, areas: &Areas, flush: PvSet, text: &Text) -> Result<Prepared, AllocError>
+/// The commit of the text, which has room in each of the areas, with flushes of these disks behind the texts. Only memory can be
+/// wanting.
+pub fn prepared(
+    alloc: Global,
+    areas: &Areas,
+    flush: PvSet,
+    text: &Text,
+) -> Result<Prepared, AllocError>
     requires committed { AreCommitted areas.now flush }
     requires room { first_too_large text.now areas.now ≡ None }
     ensures { IfOk result (λ prepared. IsPrepared prepared areas.now flush text.now) }

@@ -5,8 +5,8 @@
 //! the first so many of them whole, and of the next one each sector old or new. `specs/Batches` has the batches of a change,
 //! `specs/CarryingOut` what is promised, and `specs/Laws` what follows of the metadata areas and labels in every image.
 //!
-//! `flush_all` flushes each disk and writes nothing (`specs/Flushing`). `label_writes`, `area_write` and `push_batch` make
-//! writes and batches of them for other changes of the disks (`specs/Building`).
+//! `flush_all` flushes each disk and writes nothing (`specs/Flushing`). `label_writes`, `area_write`, `push_batch` and `prepared`
+//! make writes and batches of them for other changes of the disks (`specs/Building`).
 #![tactic(auto)]
 
 mod batches;
@@ -15,7 +15,7 @@ mod fault;
 mod flushing;
 mod label_sector;
 
-pub use batches::{label_writes, push_batch};
+pub use batches::{label_writes, prepared, push_batch};
 pub use carrying::carry_out;
 pub use fault::ChangeFault;
 pub use flushing::flush_all;

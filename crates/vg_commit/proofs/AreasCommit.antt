@@ -112,13 +112,13 @@ module _ (text : List ℕ) where
       step rest (inr later) = let w = rest later in (suc w.0, omega (arith, w.1), w.2)
 
   -- of which area a write of a header is
-  header_where : (areas : List (Area × Option Locn)) (d : Area × Option Locn) (pv sector : ℕ) (value : List ℕ) → IsWrittenBy (headers_of (map (area_writes text) areas)) pv sector value
+  pub header_where : (areas : List (Area × Option Locn)) (d : Area × Option Locn) (pv sector : ℕ) (value : List ℕ) → IsWrittenBy (headers_of (map (area_writes text) areas)) pv sector value
       → (k : ℕ) × (k < length areas) × IsTrue (covers (header_span (get_or areas k d).0) pv sector) × (value ≡ value_at (header_span (get_or areas k d).0) (header_bytes (header_before text (get_or areas k d)) ∷ []) sector)
   header_where [] d pv sector value h = absurd h
   header_where (a ∷ areas) d pv sector value (inl here) = (0, omega arith, here.0, here.1)
   header_where (a ∷ areas) d pv sector value (inr later) = let w = header_where areas d pv sector value later in (suc w.0, omega (arith, w.1), w.2, w.3)
 
-  publish_where : (areas : List (Area × Option Locn)) (d : Area × Option Locn) (pv sector : ℕ) (value : List ℕ) → IsWrittenBy (publish_of (map (area_writes text) areas)) pv sector value
+  pub publish_where : (areas : List (Area × Option Locn)) (d : Area × Option Locn) (pv sector : ℕ) (value : List ℕ) → IsWrittenBy (publish_of (map (area_writes text) areas)) pv sector value
       → (k : ℕ) × (k < length areas) × IsTrue (covers (header_span (get_or areas k d).0) pv sector) × (value ≡ value_at (header_span (get_or areas k d).0) (header_bytes (header_after text (get_or areas k d)) ∷ []) sector)
   publish_where [] d pv sector value h = absurd h
   publish_where (a ∷ areas) d pv sector value (inl here) = (0, omega arith, here.0, here.1)
@@ -147,7 +147,7 @@ module _ (text : List ℕ) where
 header_sector : (a : Area) (pv sector : ℕ) → covers (header_span a) pv sector ≡ true → (a.pv ≡ pv) × (a.start / 512 ≡ sector)
 header_sector a pv sector h = let t : (a.pv ≡ pv) × (a.start / 512 ≤ sector) × (sector < a.start / 512 + 1) = covers_tells (header_span a) pv sector h in (t.0, omega (arith, t.1, t.2))
 
-header_value : (a : Area) (bytes value : List ℕ) (sector : ℕ) → a.start / 512 ≡ sector → value ≡ value_at (header_span a) (bytes ∷ []) sector → value ≡ bytes
+pub header_value : (a : Area) (bytes value : List ℕ) (sector : ℕ) → a.start / 512 ≡ sector → value ≡ value_at (header_span a) (bytes ∷ []) sector → value ≡ bytes
 header_value a bytes value sector at is = let first : sector - a.start / 512 ≡ 0 = omega arith in is ∙ ap (λ (k : ℕ). get_or (bytes ∷ []) k []) first
 
 pub header_covers : (a : Area) (pv sector : ℕ) → IsArea a → covers (header_span a) pv sector ≡ true → covers (area_span a) pv sector ≡ true

@@ -23,7 +23,7 @@ use Rattle.vg_commit.specs.TooLarge.{first_too_large}
 use Rattle.vg_commit.proofs.AreaPuts.{entry_inside, is_placed}
 use Rattle.vg_commit.proofs.AreasCommit.{header_area, make_commit, one_header, publish_area, rooms, text_area}
 use Rattle.vg_commit.proofs.CommitInTurn.{all_new, in_turn, unpublished}
-use Rattle.vg_commit.proofs.Disks.{headers_on, texts_on}
+use Rattle.vg_commit.proofs.Disks.{headers_on, no_area, texts_on}
 use Rattle.vg_commit.proofs.ShownSectors.{HasOneHeader, image_shows, images_show_either, shows_reads}
 
 -- what an image shows is read in each of its sectors
@@ -43,10 +43,6 @@ image_shows_either old new areas header take fits_old fits_new one image reads =
     images_show_either old new areas header take fits_old fits_new one (record { opened = image; steps = [] })
     (λ pv sector. record { each = λ write value may. subst (Published header (AllRead old areas) (AllRead new areas) pv sector) (sym may.1) (reads pv sector) })
     image (λ pv sector. (None, (refl, refl)))
-
--- some area, where a list has none
-no_area : Area × Option Locn
-no_area = (record { pv = 0; start = 0; size = 0 }, None)
 
 module _ (text : List ℕ) (areas : List (Area × Option Locn)) (flush : FinSet nat_cmp) (committed : AreCommitted areas flush) (room : first_too_large text areas ≡ None) (read : All (HeadersRead text) areas) where
   abbrev texts : List Put

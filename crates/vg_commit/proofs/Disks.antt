@@ -25,7 +25,8 @@ stays_in : (areas : List (Area × Option Locn)) (disks : FinSet nat_cmp) (pv : �
 stays_in [] disks pv h = h
 stays_in (a ∷ areas) disks pv h = stays_in areas (insert disks a.0.pv) pv (inserted disks a.0.pv pv ∙ or_right (pv == a.0.pv) (contains disks pv) h)
 
-each_in : (areas : List (Area × Option Locn)) (disks : FinSet nat_cmp) → All (λ (a : Area × Option Locn). contains (with_disks disks areas) a.0.pv ≡ true) areas
+-- each area's disk is among those of the areas
+pub each_in : (areas : List (Area × Option Locn)) (disks : FinSet nat_cmp) → All (λ (a : Area × Option Locn). contains (with_disks disks areas) a.0.pv ≡ true) areas
 each_in [] disks = All-nil (λ (a : Area × Option Locn). contains disks a.0.pv ≡ true)
 each_in (a ∷ areas) disks =
     All-cons (λ (b : Area × Option Locn). contains (with_disks (insert disks a.0.pv) areas) b.0.pv ≡ true) a areas

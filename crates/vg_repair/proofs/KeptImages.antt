@@ -18,6 +18,7 @@ use Rattle.mda_ring.specs.declared.area.Area.{Area}
 use Rattle.mda_ring.proofs.SpanLaws.{covers_tells}
 use Rattle.pv_header.specs.PvHeader.{IsPvHeader}
 use Rattle.pv_label.specs.Label.{IsLabel}
+use Rattle.vg_commit.proofs.Disks.{no_area}
 use Rattle.vg_commit.specs.SectorReading.{AllShow, new_reading}
 use Rattle.vg_commit.specs.Showing.{Names, sectors_of}
 use Rattle.vg_commit.specs.Written.{area_span, header_of, header_span}
@@ -43,9 +44,6 @@ use Rattle.vg_repair.proofs.StrayLabels.{labels_can, labels_differ, labels_found
 
 no_label : NewLabel
 no_label = record { disk = 0; sector = 0; header = record { id = []; device_bytes = 0; data_areas = []; areas = []; version = 0; flags = 0 } }
-
-no_area : Area × Option Locn
-no_area = (record { pv = 0; start = 0; size = 0 }, None)
 
 module _ (found : Found) (shape : HasShape found) (others : StraysAreOthers found) (fit : Fit (text_of found) (stale_areas found)) where
   abbrev stale : List (Area × Option Locn)

@@ -1,5 +1,5 @@
 -- Once a repair is done, the header of each area names the entry that is found then.
-use Rattle.std.proofs.Common.{◌≡◌, ◌≢◌, ◌≤◌, ◌<◌, ◌⊎◌, ℕ, ◌+◌, ◌/◌, ◌%◌, Bool, true, false, cond, List, [], ◌∷◌, ◌++◌, length, map, get_or, Option, Some, None, inl, inr, ⊎_elim, refl, sym, ap, subst, ◌∙◌, arith}
+use Rattle.std.proofs.Common.{◌≡◌, ◌≢◌, ◌≤◌, ◌⊎◌, ℕ, ◌+◌, ◌/◌, ◌%◌, Bool, true, false, cond, List, [], ◌∷◌, ◌++◌, length, map, get_or, Option, Some, None, inl, inr, ⊎_elim, refl, sym, ap, subst, ◌∙◌, arith}
 use Rattle.std.specs.Prelude.{All, AllPairs, option_map, take}
 use Rattle.std.specs.List.{cons_option, enumerate_from, filter_map, flat_map}
 use Rattle.std.specs.Option.{option_map_or}
@@ -7,11 +7,10 @@ use Rattle.std.specs.Ordering.{nat_cmp}
 use Rattle.std.specs.FinSet as set
 use Rattle.std.proofs.lemmas.Bool.{cases_Bool, true≢false}
 use Rattle.std.proofs.lemmas.List.{map-append, take_all}
-use Rattle.std.proofs.lemmas.List.Elements.{All-map, All-weaker, filter_passes}
+use Rattle.std.proofs.lemmas.List.Elements.{All-map, filter_passes}
 use Rattle.sector_base.specs.Spans.{covers}
 use Rattle.disk_model.specs.Steps.{Image}
 use Rattle.disk_batch.specs.InTurn.{HasFirstBatches, Put, with_batches}
-use Rattle.mda_header.specs.Header.{IsHeader}
 use Rattle.mda_header.specs.declared.header.Locn.{Locn}
 use Rattle.mda_ring.specs.Areas.{CanTake, LieApart}
 use Rattle.mda_ring.specs.declared.area.Area.{Area}
@@ -22,7 +21,7 @@ use Rattle.disk_contents.specs.declared.contents.PvFound.{PvFound}
 use Rattle.disk_contents.specs.declared.contents.PvFound.TheVariants.{NoLabel, NoHeader, Whole}
 use Rattle.vg_commit.specs.SectorReading.{ShowsBy, new_reading}
 use Rattle.vg_commit.specs.Showing.{Names, sectors_of}
-use Rattle.vg_commit.specs.Written.{area_span, header_of, header_span, new_entry}
+use Rattle.vg_commit.specs.Written.{area_span, header_span, new_entry}
 use Rattle.vg_found.specs.Disks.{areas_on, held_area, held_areas}
 use Rattle.vg_found.specs.Shape.{HasShape}
 use Rattle.vg_found.specs.declared.disk.Disk.{Disk}
@@ -32,7 +31,7 @@ use Rattle.vg_change.specs.Laws.{ShowsEntries}
 use Rattle.vg_change.proofs.FarAreas.{IsFar}
 use Rattle.vg_repair.specs.Batches.{repair_batches, stray_areas}
 use Rattle.vg_repair.specs.Laws.{IsEmpty, IsRight, KeepsImages}
-use Rattle.vg_repair.specs.Repaired.{repaired_area, repaired_contents, repaired_disk, repaired_disks, repaired_held, repaired_of, with_entry}
+use Rattle.vg_repair.specs.Repaired.{repaired_area, repaired_contents, repaired_disk, repaired_held, repaired_of, with_entry}
 use Rattle.vg_repair.specs.Stale.{is_among, stale_areas, stale_in, stale_on, text_of}
 use Rattle.vg_repair.proofs.Flagged.{Either, WithMarked, each_of_all, each_of_filtered, each_of_marked, if_marked, marked, unmarked, unmarked_with}
 use Rattle.vg_repair.proofs.HeldAreas.{each_far, stale_held}

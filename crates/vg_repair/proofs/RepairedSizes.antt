@@ -1,5 +1,5 @@
 -- A repair leaves the disks as many and as large as they are.
-use Rattle.std.proofs.Common.{◌≡◌, ℕ, length, refl}
+use Rattle.std.proofs.Common.{◌≡◌, length, refl}
 use Rattle.vg_change.specs.CarryingOut.{sizes_of}
 use Rattle.vg_found.specs.declared.disk.Disk.{Disk}
 use Rattle.vg_found.specs.declared.found.Found.{Found}

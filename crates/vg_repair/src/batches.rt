@@ -1,7 +1,6 @@
 //! The batches of a repair.
-ghost use Rattle.std.specs.Prelude.{◌≡◌, ◌<◌, All, IfOk, MatchResult, None, unwrap_or};
-ghost use Rattle.vg_commit.specs.Preparing.{AreCommitted, IsPrepared, area_disks};
-ghost use Rattle.vg_commit.specs.TooLarge.{first_too_large};
+ghost use Rattle.std.specs.Prelude.{◌≡◌, ◌<◌, All, MatchResult, unwrap_or};
+ghost use Rattle.vg_commit.specs.Preparing.{area_disks};
 ghost use Rattle.vg_found.specs.Shape.{HasShape};
 ghost use Rattle.vg_repair.specs.Building.{AreHeld, IsMade, IsTextAdded};
 ghost use Rattle.vg_repair.specs.Stale.{IsCause, stale_areas, text_of};
@@ -12,9 +11,8 @@ use crate::strays::{clear_writes, unused_labels};
 use disk_batch::Batch;
 use mda_ring::Areas;
 use sector_base::{PvSet, Text};
-use std::alloc::{AllocError, Global};
-use vg_change::{label_writes, push_batch};
-use vg_commit::{CommitRefusal, Prepared, prepare_text};
+use std::alloc::Global;
+use vg_change::{label_writes, prepared, push_batch};
 use vg_found::Found;
 
 // The batches of the repair of what was found. The error is `TooLarge` exactly where a stale area can't take the text; else
@@ -64,19 +62,6 @@ fn push_text(
     batches.push(headers)?;
     batches.push(publish)?;
     Ok(())
-}
-
-// The commit of the text, which has room in each of the areas.
-fn prepared(alloc: Global, areas: &Areas, flush: PvSet, text: &Text) -> Result<Prepared, AllocError>
-    requires committed { AreCommitted areas.now flush }
-    requires room { first_too_large text.now areas.now ≡ None }
-    ensures { IfOk result (λ prepared. IsPrepared prepared areas.now flush text.now) }
-{
-    match prepare_text(alloc, areas, flush, text) {
-        Ok(prepared) => Ok(prepared),
-        Err(CommitRefusal::NoMemory) => Err(AllocError),
-        Err(CommitRefusal::TooLarge { .. }) => unreachable!(),
-    }
 }
 
 // The disks of the areas.

@@ -4,11 +4,11 @@ ghost use Rattle.group_ops.specs.Judging.{lies_on};
 ghost use Rattle.vg_repair.specs.Batches.{clear_put, unused, unused_label, unused_labels};
 
 use disk_contents::PvFound;
-use group_ops::NewLabel;
+use group_ops::{NewLabel, copied_header};
 use mda_header::Locn;
 use mda_ring::Area;
-use pv_header::{Extent, Extents, PvHeader};
-use sector_base::{ItemList, PvSet, Sectors, Span};
+use pv_header::{Extent, PvHeader};
+use sector_base::{PvSet, Sectors, Span};
 use std::alloc::{AllocError, Global};
 use vg_change::area_write;
 use vg_found::Disk;
@@ -73,25 +73,6 @@ pub(crate) fn unused(header: PvHeader) -> PvHeader
         version: 2,
         flags: flags - flags % 2,
     }
-}
-
-fn copied_header(alloc: Global, header: &PvHeader) -> Result<PvHeader, AllocError>
-    ensures { IfOk result (λ copy. copy ≡ header.now) }
-{
-    Ok(PvHeader {
-        id: header.id,
-        device_bytes: header.device_bytes,
-        data_areas: copied_areas(alloc, &header.data_areas)?,
-        areas: copied_areas(alloc, &header.areas)?,
-        version: header.version,
-        flags: header.flags,
-    })
-}
-
-fn copied_areas(alloc: Global, areas: &Extents) -> Result<Extents, AllocError>
-    ensures { IfOk result (λ copy. copy ≡ areas.now) }
-{
-    Ok(ItemList::from_vec(Vec::from_slice(alloc, areas.as_slice())?))
 }
 
 // The writes of empty headers to the areas on strays.

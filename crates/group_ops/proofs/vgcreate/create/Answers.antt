@@ -1,9 +1,9 @@
 -- The parts of the rows, one after another.
-use Rattle.std.proofs.Common.{◌≡◌, List, [], ◌∷◌, ◌++◌, Some, None, Result, Err, refl, sym, ap, subst, ◌∙◌, arith}
+use Rattle.std.proofs.Common.{◌≡◌, List, [], ◌∷◌, ◌++◌, None, sym, subst, ◌∙◌, arith}
 use Rattle.std.proofs.lemmas.Result.{err_from_is_err_and}
 use Rattle.group_ops.proofs.Accepted.{created_few, created_whole}
 use Rattle.group_ops.proofs.Chained.{none_both, none_row, one_row, plans_back, refused_back, refused_front}
-use Rattle.group_ops.proofs.StateFacts.{added_below, areas_take, both_below}
+use Rattle.group_ops.proofs.StateFacts.{added_below, areas_take}
 use Rattle.group_ops.proofs.AddedFacts.{all_added}
 use Rattle.group_ops.specs.Added.{IsAdded, added_of}
 use Rattle.std.specs.Prelude.{All}

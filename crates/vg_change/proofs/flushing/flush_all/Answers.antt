@@ -3,7 +3,7 @@ use Rattle.std.proofs.lemmas.Result.{err_from_is_err_and}
 use Rattle.disk_model.specs.Since.{BetweenTold}
 use Rattle.disk_model.proofs.LastFault.{same_faults_both}
 use Rattle.vg_change.specs.Flushing.{FlushesAll}
-use Rattle.vg_change.proofs.EachFlushed.{flushes_stopped, none_flushed, one_more_flushed}
+use Rattle.vg_change.proofs.EachFlushed.{flushes_stopped, one_more_flushed}
 use Rattle.vg_change.proofs.flushing.flush_all.Goals as goal
 
 pub loop-pv-preserved : goal.loop-pv-preserved
