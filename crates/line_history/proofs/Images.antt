@@ -1,7 +1,8 @@
 -- What every image has at every moment of a run of one line.
-use Rattle.std.proofs.Common.{◌≡◌, ◌≤◌, ◌⊎◌, ℕ, Bool, true, false, IsTrue, List, length, inl, inr, refl, sym, ap, subst, arith}
+use Rattle.std.proofs.Common.{◌≡◌, ◌≤◌, ◌⊎◌, ℕ, Bool, true, false, IsTrue, List, length, take, inl, inr, refl, sym, ap, subst, arith}
 use Rattle.disk_batch.specs.InTurn.{HasFirstBatches, Put, WritesInTurn, with_batches}
 use Rattle.disk_batch.proofs.FrontBatches.{none_front}
+use Rattle.disk_batch.proofs.InTurn.{of_submitted}
 use Rattle.disk_model.proofs.Bringing.{every_moment, only_leaves}
 use Rattle.disk_model.proofs.EveryMoment.{since_join, since_weaken}
 use Rattle.disk_model.proofs.Ordered.{writes_nothing_brings}
@@ -58,8 +59,8 @@ module _ (g : Given) (stage : Stage) (start ended : Told) (r : RunsLine g stage 
       joined r.opened start r.repair.since r.repair.steps (length g.handed.steps) IsBefore handed_first
       (since_weaken r.opened (length g.handed.steps) (length g.handed.steps) (λ image. IsSame image g.base) IsBefore (omega arith) (λ image same. inl same)
       (quiet_images g.handed r.opened r.since r.opening r.nothing g.base r.given.base))
-      (since_weaken start (length r.opened.steps) (length r.opened.steps) (HasFirstBatches (batches_if (repair_begun stage) (repairs_in g)) g.base) IsBefore (omega arith)
-      (λ image has. front_if (repair_begun stage) (repairs_in g) g.base image has) (r.repair.every_image g.base opened_base))
+      (since_weaken start (length r.opened.steps) (length r.opened.steps) (HasFirstBatches (take r.repair.submitted (batches_if (repair_begun stage) (repairs_in g))) g.base) IsBefore (omega arith)
+      (λ image has. front_if (repair_begun stage) (repairs_in g) g.base image (of_submitted r.repair.submitted (batches_if (repair_begun stage) (repairs_in g)) g.base image has)) (r.repair.every_image g.base opened_base))
 
 -- what comes first was begun
 pub begun_repair : (s : Stage) → is_repaired s ≡ true → repair_begun s ≡ true
@@ -81,10 +82,14 @@ module _ (g : Given) (stage : Stage) (start ended : Told) (r : RunsLine g stage 
   pub start_base : IsBase start (with_batches (repairs_in g) g.base)
   start_base = subst (λ (l : List (List Put)). IsBase start (with_batches l g.base)) repairs_all (r.repair.lasting repaired g.base (opened_base g stage start ended r))
 
+  -- from the start on an image is on the way of the line's batches that were submitted
+  pub submitted_after : EveryImageSince (length start.steps) ended (HasFirstBatches (take line.submitted (batches_if (line_begun stage) (batches_in g))) (with_batches (repairs_in g) g.base))
+  submitted_after = line.every_image (with_batches (repairs_in g) g.base) start_base
+
   pub after_start : EveryImageSince (length start.steps) ended (IsAfter g stage start ended r)
   after_start =
-      since_weaken ended (length start.steps) (length start.steps) (HasFirstBatches (batches_if (line_begun stage) (batches_in g)) (with_batches (repairs_in g) g.base)) (IsAfter g stage start ended r) (omega arith)
-      (λ image has. front_if (line_begun stage) (batches_in g) (with_batches (repairs_in g) g.base) image has) (line.every_image (with_batches (repairs_in g) g.base) start_base)
+      since_weaken ended (length start.steps) (length start.steps) (HasFirstBatches (take line.submitted (batches_if (line_begun stage) (batches_in g))) (with_batches (repairs_in g) g.base)) (IsAfter g stage start ended r) (omega arith)
+      (λ image has. front_if (line_begun stage) (batches_in g) (with_batches (repairs_in g) g.base) image (of_submitted line.submitted (batches_if (line_begun stage) (batches_in g)) (with_batches (repairs_in g) g.base) image has)) submitted_after
 
   pub start_last : length start.steps ≤ length ended.steps
   start_last = steps_more start ended line.since line.steps

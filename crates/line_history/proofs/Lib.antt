@@ -2,6 +2,7 @@ pub mod KeptPlaces
 pub mod KeepsVolumes
 pub mod Untouched
 pub mod Seen
+pub mod Settled
 pub mod Images
 pub mod Finding
 pub mod Origins

@@ -1,6 +1,6 @@
 -- What the parts of a run of one line give for its history, by how far it came.
-use Rattle.std.proofs.Common.{◌≡◌, ◌≤◌, ℕ, ◌-◌, ◌&&◌, Bool, true, false, if◌then◌else◌, List, [], ◌++◌, length, Option, Some, None, inl, inr, ⊎_elim, refl, sym, ap, subst, ◌∙◌, arith}
-use Rattle.disk_batch.specs.InTurn.{Put, WritesInTurn, with_batches}
+use Rattle.std.proofs.Common.{◌≡◌, ◌≤◌, ◌<◌, ℕ, ◌-◌, ◌&&◌, Bool, true, false, if◌then◌else◌, List, [], ◌++◌, length, take, Option, Some, None, inl, inr, ⊎_elim, refl, sym, ap, subst, ◌∙◌, arith}
+use Rattle.disk_batch.specs.InTurn.{HasFirstBatches, Put, WritesInTurn, with_batches}
 use Rattle.disk_model.proofs.EveryMoment.{since_weaken}
 use Rattle.disk_model.proofs.NowStands.{now_base}
 use Rattle.disk_model.proofs.StepsSince.{steps_joined}
@@ -12,7 +12,7 @@ use Rattle.group_ops.specs.Laws.{state_in}
 use Rattle.group_ops.specs.Planning.{change_of}
 use Rattle.group_ops.specs.declared.state.Change.{Change}
 use Rattle.image_scans.proofs.CommitScans.{none_unread}
-use Rattle.image_scans.proofs.LineScans.{images_scan, last_scans}
+use Rattle.image_scans.proofs.LineScans.{images_scan, last_scans, unpublished_scans}
 use Rattle.image_scans.specs.Laws.{FindsAtEnd, FindsOnTheWay, none_out, version_of}
 use Rattle.image_scans.specs.Versions.{FindsVersion, Version, version_in}
 use Rattle.meta_model.specs.declared.group.Group.{Group}
@@ -29,7 +29,7 @@ use Rattle.volume_history.specs.Placed.{volumes_of}
 use Rattle.volume_history.specs.Quiet.{AllUntouched}
 use Rattle.volume_history.specs.Single.{CommitLaw, DoneLaw, IsStill, KeepsVolumes, StaysLaw, begun_entries, end_of}
 use Rattle.line_history.proofs.Finding.{KeepsPlaces, can_carry_out, finds_before, finds_start, found_before, kept_after, kept_before, on_the_way, one_image, repaired_base, same_version, scan_repaired, stays_after}
-use Rattle.line_history.proofs.Images.{IsAfter, IsBefore, after_start, before_start, joined, start_base, start_last}
+use Rattle.line_history.proofs.Images.{IsAfter, IsBefore, after_start, before_start, joined, start_base, start_last, submitted_after}
 use Rattle.line_history.proofs.KeepsVolumes.{commit_keeps_volumes}
 use Rattle.line_history.proofs.Untouched.{places_untouched}
 use Rattle.line_history.proofs.Origins.{now_start, origin, still}
@@ -149,7 +149,7 @@ module _ (scans : RepairedScans) (g : Given) (stage : Stage) (start ended : Told
             subst (λ (v : Option Version). KeepsVolumes g.line.command v next) (same_version scans g stage start ended r repaired)
             (commit_keeps_volumes (repaired_base g) g.sizes (repaired_of g.found) g.names g.line g.clock (can_carry_out scans g stage start ended r repaired begun) group made)
 
-        none_created : created_disk g.names g.line.command ≡ None
+        pub none_created : created_disk g.names g.line.command ≡ None
         none_created = (keeps_by g.line.command version next keeps).creates g.names
 
         -- no disk is left out once it was begun
@@ -185,6 +185,16 @@ module _ (scans : RepairedScans) (g : Given) (stage : Stage) (start ended : Told
               (λ old. inl (subst (λ (v : Option Version). FindsVersion g.sizes image none_out v) (same_version scans g stage start ended r repaired) old))
               (λ new. inr new)
               (subst (λ (o : Option Group). FindsOnTheWay g.sizes image (repaired_of g.found) change o) made (way_at m ge le image is));
+        }
+
+        -- where its last batch wasn't begun the version that stood is in force
+        pub stays_unpublished : line.submitted < length (batches_in g) → StaysLaw origin_repaired
+        stays_unpublished less = record {
+          still = is_still;
+          after = λ m ge le image is.
+              subst (λ (v : Option Version). FindsVersion g.sizes image none_out v) (same_version scans g stage start ended r repaired)
+              (unpublished_scans (repaired_base g) g.sizes (repaired_of g.found) g.names g.line g.clock (can_carry_out scans g stage start ended r repaired begun) image line.submitted less
+              (subst (λ (l : List (List Put)). HasFirstBatches (take line.submitted l) (repaired_base g) image) line_batches (submitted_after g stage start ended r repaired m ge le image is)) group made);
         }
 
         pub finds_next : FindsVersion g.sizes done_image none_out next

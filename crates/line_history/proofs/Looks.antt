@@ -1,4 +1,5 @@
 -- A run that only looks at its disks has its history.
+use Rattle.std.specs.Prelude.{is_some}
 use Rattle.std.proofs.Common.{◌≡◌, ◌≤◌, ℕ, zero, suc, ◌-◌, true, false, List, [], ◌∷◌, length, drop, take, Some, refl, sym, ap, subst, ◌∙◌, arith}
 use Rattle.disk_model.specs.CrashValues.{IsImage}
 use Rattle.disk_model.specs.Durability.{IsBase}
@@ -12,17 +13,19 @@ use Rattle.lvm_script.specs.declared.answer.Answer.{Answer}
 use Rattle.lvm_script.specs.declared.answer.Answer.TheVariants as answer
 use Rattle.lvm_script.specs.declared.line.Line.{Line}
 use Rattle.volume_history.proofs.SingleLines.{done_line, no_line, undone_line}
-use Rattle.volume_history.specs.Chronicles.{Origin, has_written}
+use Rattle.volume_history.specs.Chronicles.{Entry, Origin, has_written, pending}
 use Rattle.volume_history.specs.Commands.{commits, is_good}
 use Rattle.volume_history.specs.Placed.{Place, PlacedVolume, volumes_of}
 use Rattle.volume_history.specs.Quiet.{AllUntouched, AreUntouched, is_quiet}
-use Rattle.volume_history.specs.Runs.{HasHistory}
-use Rattle.volume_history.specs.Single.{LeavesDisk, StaysLaw}
+use Rattle.volume_history.specs.Laws.{Tells}
+use Rattle.volume_history.specs.Runs.{journal_of, lines_of}
+use Rattle.volume_history.specs.Single.{LeavesDisk, StaysLaw, answered_entries, taken_entries}
 use Rattle.line_history.proofs.Finding.{one_image}
 use Rattle.line_history.proofs.Images.{quiet_base}
 use Rattle.line_history.proofs.Origins.{origin, still}
 use Rattle.line_history.proofs.Seen.{part, part_then, steps_more, told_then}
-use Rattle.line_history.specs.Histories.{IsFineOrBad, LooksAlone, journal_of_line, run_from}
+use Rattle.line_history.proofs.Settled.{none_pending}
+use Rattle.line_history.specs.Histories.{HasRunHistory, IsFineOrBad, LooksAlone, journal_of_line}
 
 -- older steps of some that write nothing do neither
 nothing_older : (k : ℕ) (steps : List Step) → WritesNothing steps → WritesNothing (drop k steps)
@@ -80,24 +83,28 @@ module _ (handed : Told) (sizes : List ℕ) (names : List Word) (clock : ℕ) (e
       ∙ ap (λ (s : List Step). has_written s disk) (part_then handed ended l.since l.steps (length ended.steps) more (omega arith))
       ∙ none_written (drop (length ended.steps - length ended.steps) l.since) disk (nothing_older (length ended.steps - length ended.steps) l.since l.nothing)
 
-  pub looks : HasHistory (run_from handed sizes names clock ended) [] []
-  looks = no_line origin_is stays
+  -- what has no pending command at its end
+  told_so : (es : List Entry) → Tells origin_is es → is_some (pending es) ≡ false → HasRunHistory handed l.base sizes names clock ended (journal_of es) (lines_of es es)
+  told_so es = none_pending handed l.base sizes names clock ended (length handed.steps) l.version es
+
+  pub looks : HasRunHistory handed l.base sizes names clock ended [] []
+  looks = told_so [] (no_line origin_is stays) refl
 
   module _ (line : Line) (quiet : is_quiet line.command ≡ true) (none : commits line.command ≡ false) where
-    undone : (said : Answer) → is_good said ≡ false → HasHistory (run_from handed sizes names clock ended) (journal_of_line (length handed.steps) (length ended.steps) said) ((line, Some said) ∷ [])
+    undone : (said : Answer) → is_good said ≡ false → HasRunHistory handed l.base sizes names clock ended (journal_of_line (length handed.steps) (length ended.steps) said) ((line, Some said) ∷ [])
     undone answer.Fine bad = cc
     undone (answer.Read sectors) bad = cc
     undone (answer.Listed volumes) bad = cc
-    undone (answer.Refused refusal) bad = undone_line origin_is line stays quiet (leaves line) (answer.Refused refusal) bad
-    undone (answer.ReadFailed pv) bad = undone_line origin_is line stays quiet (leaves line) (answer.ReadFailed pv) bad
-    undone (answer.PvFailed pv) bad = undone_line origin_is line stays quiet (leaves line) (answer.PvFailed pv) bad
-    undone (answer.Fenced pv) bad = undone_line origin_is line stays quiet (leaves line) (answer.Fenced pv) bad
-    undone (answer.Stopped pv) bad = undone_line origin_is line stays quiet (leaves line) (answer.Stopped pv) bad
-    undone answer.Aborted bad = undone_line origin_is line stays quiet (leaves line) answer.Aborted bad
-    undone answer.NoMemory bad = undone_line origin_is line stays quiet (leaves line) answer.NoMemory bad
+    undone (answer.Refused refusal) bad = told_so (answered_entries origin_is line (answer.Refused refusal)) (undone_line origin_is line stays quiet (leaves line) (answer.Refused refusal) bad) refl
+    undone (answer.ReadFailed pv) bad = told_so (answered_entries origin_is line (answer.ReadFailed pv)) (undone_line origin_is line stays quiet (leaves line) (answer.ReadFailed pv) bad) refl
+    undone (answer.PvFailed pv) bad = told_so (answered_entries origin_is line (answer.PvFailed pv)) (undone_line origin_is line stays quiet (leaves line) (answer.PvFailed pv) bad) refl
+    undone (answer.Fenced pv) bad = told_so (answered_entries origin_is line (answer.Fenced pv)) (undone_line origin_is line stays quiet (leaves line) (answer.Fenced pv) bad) refl
+    undone (answer.Stopped pv) bad = told_so (answered_entries origin_is line (answer.Stopped pv)) (undone_line origin_is line stays quiet (leaves line) (answer.Stopped pv) bad) refl
+    undone answer.Aborted bad = told_so (answered_entries origin_is line answer.Aborted) (undone_line origin_is line stays quiet (leaves line) answer.Aborted bad) refl
+    undone answer.NoMemory bad = told_so (answered_entries origin_is line answer.NoMemory) (undone_line origin_is line stays quiet (leaves line) answer.NoMemory bad) refl
 
-    pub reports : (said : Answer) → IsFineOrBad said → HasHistory (run_from handed sizes names clock ended) (journal_of_line (length handed.steps) (length ended.steps) said) ((line, Some said) ∷ [])
-    reports answer.Fine may = done_line origin_is line stays quiet (leaves line) none
+    pub reports : (said : Answer) → IsFineOrBad said → HasRunHistory handed l.base sizes names clock ended (journal_of_line (length handed.steps) (length ended.steps) said) ((line, Some said) ∷ [])
+    reports answer.Fine may = told_so (taken_entries origin_is line) (done_line origin_is line stays quiet (leaves line) none) refl
     reports (answer.Read sectors) may = undone (answer.Read sectors) may
     reports (answer.Listed volumes) may = undone (answer.Listed volumes) may
     reports (answer.Refused refusal) may = undone (answer.Refused refusal) may

@@ -11,8 +11,9 @@ use Rattle.disk_model.specs.Submitting.{writes_at}
 use Rattle.mda_header.specs.declared.header.Locn.{Locn}
 use Rattle.mda_ring.specs.declared.area.Area.{Area}
 use Rattle.mda_ring.proofs.SpanLaws.{covers_from}
+use Rattle.vg_commit.proofs.Disks.{no_area}
 use Rattle.vg_commit.specs.Written.{area_span, in_areas}
-use Rattle.image_scans.proofs.CommitWrites.{IsAreaWrite, no_area}
+use Rattle.image_scans.proofs.CommitWrites.{IsAreaWrite}
 use Rattle.image_scans.proofs.Front.{AnyWrites}
 use Rattle.line_history.specs.Places.{BatchesWrite}
 

@@ -1,9 +1,11 @@
 -- The history of a run of one line: its journal and its answers, by what the line came to.
-use Rattle.std.specs.Prelude.{◌≡◌, ℕ, true, false, List, [], ◌∷◌, length, Option, Some}
+use Rattle.std.specs.Prelude.{◌≡◌, ℕ, true, false, List, [], ◌∷◌, ◌++◌, flat_map, is_some, length, Option, Some}
 use Rattle.disk_model.specs.Durability.{IsBase}
 use Rattle.disk_model.specs.Order.{WritesNothing}
 use Rattle.disk_model.specs.Record.{IsRecord}
+use Rattle.disk_model.specs.Since.{writes_submitted}
 use Rattle.disk_model.specs.Steps.{Image, Step, Told, steps_on}
+use Rattle.group_ops.specs.Laws.{state_in}
 use Rattle.image_scans.specs.Laws.{none_out}
 use Rattle.image_scans.specs.Versions.{FindsVersion, Version}
 use Rattle.line_table.specs.declared.journal.EntryKind.{EntryKind}
@@ -13,6 +15,12 @@ use Rattle.lvm_script.specs.Options.{Word}
 use Rattle.lvm_script.specs.declared.answer.Answer.{Answer}
 use Rattle.lvm_script.specs.declared.answer.Answer.TheVariants as answer
 use Rattle.lvm_script.specs.declared.line.Line.{Line}
+use Rattle.vg_change.specs.Batches.{batches_of}
+use Rattle.vg_found.specs.declared.found.Found.{Found}
+use Rattle.vg_repair.specs.Batches.{repair_batches}
+use Rattle.vg_repair.specs.Repaired.{repaired_of}
+use Rattle.vg_scan.specs.Scans.{IsScanOf}
+use Rattle.volume_history.specs.Chronicles.{pending}
 use Rattle.volume_history.specs.Commands.{commits, is_good}
 use Rattle.volume_history.specs.Quiet.{is_quiet}
 use Rattle.volume_history.specs.Runs.{HasHistory, Run, zero_piece}
@@ -38,11 +46,35 @@ MayAnswer Writing (answer.PvFailed pv) = Unit {0}
 MayAnswer Done answer.Fine = Unit {0}
 MayAnswer _ _ = ⊥
 
+-- all was submitted that the repair of what a scan of the base finds and this line write
+pub record HasSubmittedAll (handed : Told) (base : Image) (sizes : List ℕ) (names : List Word) (clock : ℕ) (line : Line) (ended : Told) : Type 0 where
+  pub found : Found
+  pub scan : IsScanOf base sizes found
+  pub since : List Step
+  pub steps : ended ≡ steps_on since handed
+  pub writes : writes_submitted since ≡ flat_map (λ batch. batch) (repair_batches found ++ batches_of (state_in (repaired_of found) names) line clock)
+
+-- a run of one line had come to its last batch
+abbrev pub IsAtLast : Told → Image → List ℕ → List Word → ℕ → List (Line × Option Answer) → Told → Type 0
+IsAtLast handed base sizes names clock ((line, said) ∷ []) ended = HasSubmittedAll handed base sizes names clock line ended
+IsAtLast handed base sizes names clock lines ended = ⊥
+
+-- A run has its history, where each sector had one possible value when the disks were handed in, that of the base. A command is
+-- pending at its end only where the run had come to its last batch: a commit that failed earlier is given up, and the version
+-- that stood is in force.
+pub record HasRunHistory (handed : Told) (base : Image) (sizes : List ℕ) (names : List Word) (clock : ℕ) (ended : Told) (journal : List JournalEntry) (lines : List (Line × Option Answer)) : Type 0 where
+  pub history : HasHistory (run_from handed sizes names clock ended) journal lines
+  pub last : is_some (pending history.chronicle.entries) ≡ true → IsAtLast handed base sizes names clock lines ended
+
+-- the same of what was given
+abbrev pub HasHistoryOf : Given → Told → List JournalEntry → List (Line × Option Answer) → Type 0
+HasHistoryOf g ended journal lines = HasRunHistory g.handed g.base g.sizes g.names g.clock ended journal lines
+
 -- a run whose line was begun has its history
 abbrev pub LinesHaveHistories : Type 0
 LinesHaveHistories =
     (g : Given) (stage : Stage) (start ended : Told) (said : Answer) → RunsLine g stage start ended → MayAnswer stage said
-    → HasHistory (run_from g.handed g.sizes g.names g.clock ended) (journal_of_line (length start.steps) (length ended.steps) said) ((g.line, Some said) ∷ [])
+    → HasHistoryOf g ended (journal_of_line (length start.steps) (length ended.steps) said) ((g.line, Some said) ∷ [])
 
 -- nothing of the line was written
 abbrev pub IsBeforeLine : Stage → Type 0
@@ -53,8 +85,7 @@ IsBeforeLine _ = Unit {0}
 -- so has one whose line wasn't begun
 abbrev pub EndsHaveHistories : Type 0
 EndsHaveHistories =
-    (g : Given) (stage : Stage) (start ended : Told) → RunsLine g stage start ended → IsBeforeLine stage
-    → HasHistory (run_from g.handed g.sizes g.names g.clock ended) [] []
+    (g : Given) (stage : Stage) (start ended : Told) → RunsLine g stage start ended → IsBeforeLine stage → HasHistoryOf g ended [] []
 
 -- the disks were only looked at: each sector had one possible value when they were handed in, of which a scan finds this version,
 -- and nothing was written
@@ -71,7 +102,7 @@ pub record LooksAlone (handed : Told) (sizes : List ℕ) (ended : Told) : Type 0
 -- a run that only looked at its disks, and began no line, has its history
 abbrev pub LooksHaveHistories : Type 0
 LooksHaveHistories =
-    (handed : Told) (sizes : List ℕ) (names : List Word) (clock : ℕ) (ended : Told) → LooksAlone handed sizes ended → HasHistory (run_from handed sizes names clock ended) [] []
+    (handed : Told) (sizes : List ℕ) (names : List Word) (clock : ℕ) (ended : Told) (l : LooksAlone handed sizes ended) → HasRunHistory handed l.base sizes names clock ended [] []
 
 -- the answer is ok, or none that is given for something done
 abbrev pub IsFineOrBad : Answer → Type 0
@@ -81,6 +112,6 @@ IsFineOrBad said = is_good said ≡ false
 -- so has one whose line commits nothing
 abbrev pub ReportsHaveHistories : Type 0
 ReportsHaveHistories =
-    (handed : Told) (sizes : List ℕ) (names : List Word) (clock : ℕ) (ended : Told) (line : Line) (said : Answer) → LooksAlone handed sizes ended
+    (handed : Told) (sizes : List ℕ) (names : List Word) (clock : ℕ) (ended : Told) (line : Line) (said : Answer) (l : LooksAlone handed sizes ended)
     → is_quiet line.command ≡ true → commits line.command ≡ false → IsFineOrBad said
-    → HasHistory (run_from handed sizes names clock ended) (journal_of_line (length handed.steps) (length ended.steps) said) ((line, Some said) ∷ [])
+    → HasRunHistory handed l.base sizes names clock ended (journal_of_line (length handed.steps) (length ended.steps) said) ((line, Some said) ∷ [])

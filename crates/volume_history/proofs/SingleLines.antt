@@ -28,10 +28,13 @@ use Rattle.lvm_script.specs.declared.answer.Answer.TheVariants as answer
 tells : (o : Origin) (es : List Entry) → IsStill o → last_moment o.start es ≤ end_of o → AllOrdered o.start es → AllFaithful o es
     → ((m : ℕ) → o.first ≤ m → m ≤ end_of o → IsConsistentMoment (record { origin = o; entries = es }) m) → Tells o es
 tells o es still told ordered faithful moments = record {
-  chronicle = record { origin = o; entries = es };
-  of_run = record { told = refl; first = refl; sizes = refl; names = refl; clock = refl; journal_xl = refl; lines_xl = refl };
-  legal = record { opening = still.found; told = told; ordered = ordered; faithful = faithful };
-  consistent = moments;
+  history = record {
+    chronicle = record { origin = o; entries = es };
+    of_run = record { told = refl; first = refl; sizes = refl; names = refl; clock = refl; journal_xl = refl; lines_xl = refl };
+    legal = record { opening = still.found; told = told; ordered = ordered; faithful = faithful };
+    consistent = moments;
+  };
+  entries_xl = refl;
 }
 
 -- which disks a scan leaves out, by the disk that the line is to create

@@ -81,8 +81,9 @@ abbrev pub run_of : Origin → Run
 run_of o = record { told = o.told; first = o.first; sizes = o.sizes; names = o.names; clock = o.clock }
 
 -- its history has these entries
-abbrev pub Tells : Origin → List Entry → Type 0
-Tells o es = HasHistory (run_of o) (journal_of es) (lines_of es es)
+pub record Tells (o : Origin) (es : List Entry) : Type 0 where
+  pub history : HasHistory (run_of o) (journal_of es) (lines_of es es)
+  pub entries_xl : history.chronicle.entries ≡ es
 
 -- a run that ended before its line
 abbrev pub NoLine : Type 0

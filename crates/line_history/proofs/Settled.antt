@@ -1,0 +1,19 @@
+-- A run at whose end no command is pending.
+use Rattle.std.proofs.Common.{◌≡◌, ℕ, false, List, Option, sym, ap, ◌∙◌}
+use Rattle.std.proofs.lemmas.Bool.{true≢false}
+use Rattle.std.specs.Prelude.{is_some}
+use Rattle.disk_model.specs.Steps.{Image, Told}
+use Rattle.image_scans.specs.Versions.{Version}
+use Rattle.lvm_script.specs.Options.{Word}
+use Rattle.volume_history.specs.Chronicles.{Entry, pending}
+use Rattle.volume_history.specs.Laws.{Tells}
+use Rattle.volume_history.specs.Runs.{journal_of, lines_of}
+use Rattle.line_history.proofs.Origins.{origin_of}
+use Rattle.line_history.specs.Histories.{HasRunHistory}
+
+pub none_pending : (handed : Told) (base : Image) (sizes : List ℕ) (names : List Word) (clock : ℕ) (ended : Told) (start : ℕ) (version : Option Version) (es : List Entry)
+    → Tells (origin_of handed start sizes names clock version ended) es → is_some (pending es) ≡ false → HasRunHistory handed base sizes names clock ended (journal_of es) (lines_of es es)
+none_pending handed base sizes names clock ended start version es told none = record {
+  history = told.history;
+  last = λ some. absurd (true≢false (sym some ∙ (ap (λ (l : List Entry). is_some (pending l)) told.entries_xl ∙ none)));
+}
