@@ -1,9 +1,16 @@
 -- What a run enters of the line that was asked for.
-use Rattle.std.proofs.Common.{◌≡◌, ℕ, List, [], ◌∷◌, Option, Some, None, ⊎_elim, refl, sym, ap, subst, ◌∙◌}
+use Rattle.std.proofs.Common.{◌≡◌, ℕ, Bool, true, false, List, [], ◌∷◌, ◌++◌, Option, Some, None, ⊎_elim, refl, sym, ap, subst, ◌∙◌}
+use Rattle.std.proofs.lemmas.List.{append-nil}
+use Rattle.std.specs.Prelude.{codes, decimal}
+use Rattle.std.specs.Bool.{MatchBool}
 use Rattle.disk_model.specs.State.{State}
 use Rattle.std.specs.Option.{option_map_or}
+use Rattle.lvm_report.specs.AnswerLines.{answers_text}
+use Rattle.lvm_script.specs.Answers.{answer_text}
 use Rattle.lvm_script.specs.Options.{Word}
 use Rattle.lvm_script.specs.declared.answer.Answer.{Answer}
+use Rattle.lvm_script.specs.declared.answer.Answer.TheVariants as answer
+use Rattle.lvm_script.specs.declared.command.Command.{Command}
 use Rattle.lvm_script.specs.declared.request.Request.{Request}
 use Rattle.lvm_script.specs.declared.request.Request.TheVariants.{One, Session, Demo}
 use Rattle.lvm_script.specs.Lines.{line_of}
@@ -13,11 +20,15 @@ use Rattle.lvm_words.specs.CommandLines.{command_line_of, request_in, task_of}
 use Rattle.lvm_words.specs.declared.asked.Task.{Task}
 use Rattle.lvm_words.specs.declared.asked.Task.TheVariants as task
 use Rattle.lvm_words.specs.declared.command_line.CommandLine.{CommandLine}
-use Rattle.lvm_cli.specs.History.{KeepsPromise, Said, answers_of, journal_by, lines_asked, lines_of_task, lines_of_words, said_of}
-use Rattle.lvm_cli.specs.Runs.{IsRefused, RunsRequest, RunsWords, names_of}
+use Rattle.lvm_cli.specs.CommandSpec.{CommandSpec, Context}
+use Rattle.lvm_cli.specs.Commands.{is_built, spec_of}
+use Rattle.lvm_cli.specs.History.{KeepsPromise, Said, answers_of, is_answer, journal_by, lines_asked, lines_of_task, lines_of_words, said_of}
+use Rattle.lvm_cli.specs.Meets.{IsCause, Meets}
+use Rattle.lvm_cli.specs.Outcomes.{IsOfLineOne, output_of}
+use Rattle.lvm_cli.specs.Runs.{IsRefused, RunsLine, RunsRequest, RunsWords, context_with, names_of}
 use Rattle.lvm_cli.specs.declared.ending.Ending.{Ending}
 use Rattle.lvm_cli.specs.declared.outcome.Outcome.{Outcome}
-use Rattle.lvm_cli.specs.declared.outcome.Outcome.TheVariants.{Ended}
+use Rattle.lvm_cli.specs.declared.outcome.Outcome.TheVariants.{Ended, Answered, Reported}
 use Rattle.lvm_cli.proofs.Promised.{IsTold, kept_undone}
 
 -- what is asked for is what the task is
@@ -79,7 +90,7 @@ answers_by line (Some said) = refl
 refused_says : (old : State) (outcome : Outcome) (new : State) → IsRefused old outcome new → said_of outcome ≡ None
 refused_says old outcome new refused = ⊎_elim (λ is. ap said_of is) (λ is. ap said_of is) refused.0
 
-abbrev ByOutcome : Outcome → List (ℕ × Option Answer)
+abbrev pub ByOutcome : Outcome → List (ℕ × Option Answer)
 ByOutcome outcome = option_map_or (λ (said : Answer). (1, Some said) ∷ []) (said_of outcome) []
 
 none_by : (outcome : Outcome) → said_of outcome ≡ None → [] ≡ ByOutcome outcome
@@ -97,3 +108,54 @@ entered_answers words now ids old outcome after new runs = by (command_line_of w
     by : (o : Option CommandLine) → command_line_of words ≡ o → answers_of (option_map_or (λ (l : CommandLine). lines_asked l.request ids outcome) o []) ≡ ByOutcome outcome
     by None is = none_by outcome (refused_says old outcome new (runs.refused is).0)
     by (Some line) is = request_answers line.names line.request ids now old outcome new (runs.lines line is)
+
+-- ---- the outcome is that of line 1, and where a line has answered its answers are what is printed
+
+cause_first : (spec : CommandSpec) (context : Context) (old new : State) (outcome : Outcome) → IsCause spec context old new outcome → IsOfLineOne outcome
+cause_first spec context old new (Ended ending) cause = tt
+cause_first spec context old new (Answered n answer.Fine) cause = cause.0
+cause_first spec context old new (Answered n (answer.Refused refusal)) cause = cause.0
+cause_first spec context old new (Answered n (answer.PvFailed pv)) cause = cause.0
+cause_first spec context old new (Answered n answer.NoMemory) cause = cause.0
+cause_first spec context old new (Answered n _) cause = absurd cause
+cause_first spec context old new (Reported text whole) cause = tt
+
+refused_first : (old : State) (outcome : Outcome) (new : State) → IsRefused old outcome new → IsOfLineOne outcome
+refused_first old outcome new refused = ⊎_elim (λ is. subst IsOfLineOne (sym is) tt) (λ is. subst IsOfLineOne (sym is) tt) refused.0
+
+line_first : (names : List Word) (command : Command) (id : Option (List ℕ)) (now : ℕ) (old : State) (outcome : Outcome) (new : State) → RunsLine names command id now old outcome new → IsOfLineOne outcome
+line_first names command id now old outcome new = by (is_built command)
+  where
+    by : (built : Bool) → MatchBool built (Meets (spec_of command) (context_with names id now old) old outcome new) (IsRefused old outcome new) → IsOfLineOne outcome
+    by true meets = cause_first (spec_of command) (context_with names id now old) old new outcome meets.cause
+    by false refused = refused_first old outcome new refused
+
+request_first : (names : List Word) (request : Request) (ids : ℕ → List ℕ) (now : ℕ) (old : State) (outcome : Outcome) (new : State) → RunsRequest names request ids now old outcome new → IsOfLineOne outcome
+request_first names (One command) ids now old outcome new runs = line_first names command (line_of 1 command ids).id now old outcome new runs
+request_first names (Session group workers) ids now old outcome new runs = refused_first old outcome new runs
+request_first names (Demo seed count workers) ids now old outcome new runs = refused_first old outcome new runs
+
+pub words_first : (words : List Word) (now : ℕ) (ids : ℕ → List ℕ) (old : State) (outcome : Outcome) (after : ℕ → List ℕ) (new : State) → RunsWords words now ids old outcome after new → IsOfLineOne outcome
+words_first words now ids old outcome after new runs = by (command_line_of words) refl
+  where
+    by : (o : Option CommandLine) → command_line_of words ≡ o → IsOfLineOne outcome
+    by None is = refused_first old outcome new (runs.refused is).0
+    by (Some line) is = request_first line.names line.request ids now old outcome new (runs.lines line is)
+
+-- the text of one answer
+one_text : (names : List Word) (number : ℕ) (said : Answer) → number ≡ 1 → output_of names (Answered number said) ≡ answers_text names ((1, Some said) ∷ [])
+one_text names number said first = ap (λ (n : ℕ). decimal n ++ codes ": " ++ answer_text names said ++ codes "\n") first ∙ sym (append-nil (decimal 1 ++ codes ": " ++ answer_text names said ++ codes "\n"))
+
+pub printed_answers : (names : List Word) (outcome : Outcome) → IsOfLineOne outcome → is_answer outcome ≡ true → output_of names outcome ≡ answers_text names (ByOutcome outcome)
+printed_answers names (Ended ending) first is = absurd cc
+printed_answers names (Answered n answer.Fine) first is = one_text names n answer.Fine first
+printed_answers names (Answered n (answer.Read sectors)) first is = one_text names n (answer.Read sectors) first
+printed_answers names (Answered n (answer.Listed volumes)) first is = one_text names n (answer.Listed volumes) first
+printed_answers names (Answered n (answer.Refused refusal)) first is = one_text names n (answer.Refused refusal) first
+printed_answers names (Answered n (answer.ReadFailed pv)) first is = one_text names n (answer.ReadFailed pv) first
+printed_answers names (Answered n (answer.PvFailed pv)) first is = one_text names n (answer.PvFailed pv) first
+printed_answers names (Answered n (answer.Fenced pv)) first is = one_text names n (answer.Fenced pv) first
+printed_answers names (Answered n (answer.Stopped pv)) first is = one_text names n (answer.Stopped pv) first
+printed_answers names (Answered n answer.Aborted) first is = one_text names n answer.Aborted first
+printed_answers names (Answered n answer.NoMemory) first is = absurd cc
+printed_answers names (Reported text whole) first is = absurd cc

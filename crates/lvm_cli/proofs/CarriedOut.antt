@@ -1,7 +1,8 @@
 -- Each exit of a command that changes something.
-use Rattle.std.proofs.Common.{◌≡◌, ◌<◌, ℕ, Bool, true, false, List, length, Option, Some, None, refl, sym, ap, subst, ◌∙◌, arith}
+use Rattle.std.proofs.Common.{◌≡◌, ◌<◌, ℕ, Bool, true, false, List, length, take, Option, Some, None, refl, sym, ap, subst, ◌∙◌, arith}
 use Rattle.std.specs.FinSet as set
 use Rattle.std.specs.Prelude.{Result, Ok, Err, MatchResult}
+use Rattle.disk_batch.proofs.InTurn.{of_submitted}
 use Rattle.disk_batch.specs.InTurn.{HasFirstBatches, Put, WritesInTurn, with_batches}
 use Rattle.disk_model.specs.Durability.{IsBase}
 use Rattle.disk_model.specs.Record.{IsRecord}
@@ -20,7 +21,6 @@ use Rattle.group_ops.specs.Planning.{refusal_of}
 use Rattle.group_ops.specs.declared.state.GroupState.{GroupState}
 use Rattle.lvm_script.specs.Options.{Word}
 use Rattle.lvm_script.specs.declared.answer.Answer.{Answer}
-use Rattle.lvm_script.specs.declared.answer.Answer.TheVariants.{Fine, PvFailed}
 use Rattle.lvm_script.specs.declared.answer.Answer.TheVariants as answer
 use Rattle.lvm_script.specs.declared.command.Command.{Command}
 use Rattle.lvm_script.specs.declared.line.Line.{Line}
@@ -239,8 +239,8 @@ module _ (names : List Word) (command : Command) (id : Option (List ℕ)) (time 
         module _ (images : KeepsImages state here time) (before : Told) (is : old.told ≡ Some before) (after : Told) (well : Bool) (w : WritesInTurn (start before is) batches well after) where
           kept : (base : Image) → IsBase (start before is) base → EveryImageSince (length (start before is).steps) after ((changing command).keeps context (Some found) base)
           kept base base_is =
-              since_weaken after (length (start before is).steps) (length (start before is).steps) (HasFirstBatches batches base) ((changing command).keeps context (Some found) base) (omega arith)
-              (λ image has. (found, refl, images.kept base image (entries_base before is (record_start (start before is) (start_told before is)) base base_is) has))
+              since_weaken after (length (start before is).steps) (length (start before is).steps) (HasFirstBatches (take w.submitted batches) base) ((changing command).keeps context (Some found) base) (omega arith)
+              (λ image has. (found, refl, images.kept base image (entries_base before is (record_start (start before is) (start_told before is)) base base_is) (of_submitted w.submitted batches base image has)))
               (w.every_image base base_is)
 
           found_there : well ≡ true → (changing command).finds context (Some found) (now_after after.opened after.steps)

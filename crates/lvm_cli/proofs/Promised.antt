@@ -1,7 +1,7 @@
 -- A run keeps the promise, by what it did to the disks.
 use Rattle.std.proofs.Common.{◌≡◌, ◌<◌, ℕ, ◌^◌, Bool, true, false, List, [], ◌∷◌, length, Option, Some, None, refl, sym, ap, subst, ◌∙◌}
 use Rattle.std.proofs.lemmas.Option.{same_Some}
-use Rattle.std.specs.Prelude.{All, MatchResult, Result, Ok, Err}
+use Rattle.std.specs.Prelude.{All, IsTrue, MatchResult, Result, Ok, Err}
 use Rattle.disk_batch.specs.InTurn.{WritesInTurn}
 use Rattle.disk_model.proofs.NowStands.{now_base}
 use Rattle.disk_model.proofs.WhereTold.{told_at}
@@ -18,8 +18,8 @@ use Rattle.image_scans.specs.Laws.{none_out}
 use Rattle.image_scans.specs.Versions.{FindsVersion, Version}
 use Rattle.line_history.proofs.Looks.{looks}
 use Rattle.line_history.specs.EachSet.{DoneSetsAgree}
-use Rattle.line_history.specs.Histories.{EndsHaveHistories, LinesHaveHistories, LooksAlone, journal_of_line, run_from}
-use Rattle.line_history.specs.LineRun.{Given, IsGiven, RunsLine, Opened, Repairing, Repaired, Writing, Done}
+use Rattle.line_history.specs.Histories.{EndsHaveHistories, HasRunHistory, LinesHaveHistories, LooksAlone, journal_of_line}
+use Rattle.line_history.specs.LineRun.{Given, IsGiven, RunsLine, Stage, Opened, Repairing, Repaired, Writing, Done, batches_if, is_done, is_repaired, line_begun, repair_begun}
 use Rattle.lvm_script.specs.Options.{Word}
 use Rattle.lvm_script.specs.Values.{is_disk_name}
 use Rattle.lvm_script.specs.declared.answer.Answer.{Answer}
@@ -41,7 +41,6 @@ use Rattle.vg_repair.specs.Stale.{too_large}
 use Rattle.vg_repair.specs.declared.fault.RepairFault.{RepairFault}
 use Rattle.vg_repair.specs.declared.fault.RepairFault.TheVariants as repair
 use Rattle.vg_scan.specs.Scans.{HoldsNow, IsScanOf}
-use Rattle.volume_history.specs.Runs.{HasHistory, Run}
 use Rattle.lvm_cli.specs.Changing.{GoesOn, IsCarriedOut, IsChanged, IsWholeAgain, ending_of, outcome_of}
 use Rattle.lvm_cli.specs.History.{KeepsPromise, Said, journal_by, lines_by}
 use Rattle.lvm_cli.specs.Scan.{IsOpened, OpensDisks}
@@ -63,13 +62,15 @@ told_of state law = record {
 }
 
 -- the moments of a journal as the shelf counts them
-pub counted : (run : Run) (said : Answer) (all : List Said) (a b n m : ℕ) → n ≡ a → m ≡ b → HasHistory run (journal_of_line a b said) all → HasHistory run (journal_of_line n m said) all
-counted run said all a b n m begun ended has =
-    subst (λ (k : ℕ). HasHistory run (journal_of_line k m said) all) (sym begun) (subst (λ (k : ℕ). HasHistory run (journal_of_line a k said) all) (sym ended) has)
+pub counted : (handed : Told) (base : Image) (sizes : List ℕ) (names : List Word) (now : ℕ) (ended : Told) (said : Answer) (all : List Said) (a b n m : ℕ) → n ≡ a → m ≡ b
+    → HasRunHistory handed base sizes names now ended (journal_of_line a b said) all → HasRunHistory handed base sizes names now ended (journal_of_line n m said) all
+counted handed base sizes names now ended said all a b n m begun at_end has =
+    subst (λ (k : ℕ). HasRunHistory handed base sizes names now ended (journal_of_line k m said) all) (sym begun)
+    (subst (λ (k : ℕ). HasRunHistory handed base sizes names now ended (journal_of_line a k said) all) (sym at_end) has)
 
 -- ---- where nothing was written
 
-same_told : (o : Option Told) (a b : Told) → o ≡ Some a → o ≡ Some b → a ≡ b
+pub same_told : (o : Option Told) (a b : Told) → o ≡ Some a → o ≡ Some b → a ≡ b
 same_told o a b is also = same_Some a b (sym is ∙ also)
 
 -- the steps since write nothing
@@ -77,7 +78,7 @@ abbrev pub WroteNothing : Told → Told → Type 0
 WroteNothing old new = (since : List Step) × (new ≡ steps_on since old) × WritesNothing since
 
 -- so they were looked at alone
-pub looked_alone : (old new : State) → IsTold new → BetweenTold WroteNothing old.told new.told → (handed : Told) → old.told ≡ Some handed → (base : Image) → IsBase handed base → (version : Option Version) → FindsVersion old.sizes base none_out version
+abbrev pub looked_alone : (old new : State) → IsTold new → BetweenTold WroteNothing old.told new.told → (handed : Told) → old.told ≡ Some handed → (base : Image) → IsBase handed base → (version : Option Version) → FindsVersion old.sizes base none_out version
     → (ended : Told) → new.told ≡ Some ended → LooksAlone handed old.sizes ended
 looked_alone old new told between handed there base base_is version finds ended at_end =
     let w = between handed there in
@@ -144,106 +145,50 @@ module _ (lines : LinesHaveHistories) (ends : EndsHaveHistories) (agree : DoneSe
     look_told : mid.told ≡ Some look
     look_told = (opens handed there).1
 
-    -- nothing was written at all
-    opened_alone : (ended : Told) → ended ≡ look → IsRecord ended.steps → RunsLine given Opened look ended
-    opened_alone ended same record_is = record {
+    -- as far as it came
+    run_at : (stage : Stage) (start ended : Told) → WritesInTurn look (batches_if (repair_begun stage) (repair_batches found)) (is_repaired stage) start → (IsTrue (repair_begun stage) → (too_large found ≡ None) × RepairKeepsImages found)
+        → (IsTrue (is_repaired stage) → HasShape (repaired_of found) × IsWhole (repaired_of found))
+        → (IsTrue (is_repaired stage) → WritesInTurn start (batches_if (line_begun stage) (batches_of (state_in (repaired_of found) names) line now)) (is_done stage) ended) → (is_repaired stage ≡ false → ended ≡ start)
+        → (IsTrue (line_begun stage) → (refusal_of (state_in (repaired_of found) names) line now ≡ None) × KeepsImages (state_in (repaired_of found) names) line now) → IsRecord ended.steps → RunsLine given stage start ended
+    run_at stage start ended repair repairs repaired written unrepaired carried record_is = record {
       given = is_given;
       opened = look;
       since = (opens handed there).2.since;
       opening = (opens handed there).2.steps;
       nothing = (opens handed there).2.nothing;
-      repair = none_in_turn look false;
-      fits = λ begun. cc;
-      repair_keeps = λ begun. cc;
-      repaired_shape = λ repaired. cc;
-      repaired_whole = λ repaired. cc;
-      written = λ repaired. cc;
-      unrepaired = λ e. same;
-      passes = λ begun. cc;
-      keeps = λ begun. cc;
+      repair = repair;
+      fits = λ begun. (repairs begun).0;
+      repair_keeps = λ begun. (repairs begun).1;
+      repaired_shape = λ e. (repaired e).0;
+      repaired_whole = λ e. (repaired e).1;
+      written = written;
+      unrepaired = unrepaired;
+      passes = λ begun. (carried begun).0;
+      keeps = λ begun. (carried begun).1;
       record_is = record_is;
     }
 
+    -- nothing was written at all
+    opened_alone : (ended : Told) → ended ≡ look → IsRecord ended.steps → RunsLine given Opened look ended
+    opened_alone ended same record_is = run_at Opened look ended (none_in_turn look false) (λ begun. cc) (λ repaired. cc) (λ repaired. cc) (λ e. same) (λ begun. cc) record_is
+
     -- the repair failed
     repair_failed : (start ended : Told) → WritesInTurn look (repair_batches found) false start → too_large found ≡ None → RepairKeepsImages found → ended ≡ start → IsRecord ended.steps → RunsLine given Repairing start ended
-    repair_failed start ended repaired fits keeps same record_is = record {
-      given = is_given;
-      opened = look;
-      since = (opens handed there).2.since;
-      opening = (opens handed there).2.steps;
-      nothing = (opens handed there).2.nothing;
-      repair = repaired;
-      fits = λ begun. fits;
-      repair_keeps = λ begun. keeps;
-      repaired_shape = λ repaired. cc;
-      repaired_whole = λ repaired. cc;
-      written = λ repaired. cc;
-      unrepaired = λ e. same;
-      passes = λ begun. cc;
-      keeps = λ begun. cc;
-      record_is = record_is;
-    }
+    repair_failed start ended repaired fits keeps same record_is = run_at Repairing start ended repaired (λ begun. (fits, keeps)) (λ repaired. cc) (λ repaired. cc) (λ e. same) (λ begun. cc) record_is
 
     -- all was repaired
     module _ (start ended : Told) (repaired : WritesInTurn look (repair_batches found) true start) (fits : too_large found ≡ None) (keeps : RepairKeepsImages found)
         (shape : HasShape (repaired_of found)) (whole : IsWhole (repaired_of found)) (record_is : IsRecord ended.steps) where
       unwritten : ended ≡ start → RunsLine given Repaired start ended
-      unwritten same = record {
-        given = is_given;
-        opened = look;
-        since = (opens handed there).2.since;
-        opening = (opens handed there).2.steps;
-        nothing = (opens handed there).2.nothing;
-        repair = repaired;
-        fits = λ begun. fits;
-        repair_keeps = λ begun. keeps;
-        repaired_shape = λ e. shape;
-        repaired_whole = λ e. whole;
-        written = λ e. subst (λ (t : Told). WritesInTurn start [] false t) (sym same) (none_in_turn start false);
-        unrepaired = λ e. cc;
-        passes = λ begun. cc;
-        keeps = λ begun. cc;
-        record_is = record_is;
-      }
+      unwritten same =
+          run_at Repaired start ended repaired (λ begun. (fits, keeps)) (λ e. (shape, whole)) (λ e. subst (λ (t : Told). WritesInTurn start [] false t) (sym same) (none_in_turn start false)) (λ e. cc) (λ begun. cc) record_is
 
       module _ (passes : refusal_of (state_in (repaired_of found) names) line now ≡ None) (images : KeepsImages (state_in (repaired_of found) names) line now) where
         failed : WritesInTurn start (batches_of (state_in (repaired_of found) names) line now) false ended → RunsLine given Writing start ended
-        failed written = record {
-          given = is_given;
-          opened = look;
-          since = (opens handed there).2.since;
-          opening = (opens handed there).2.steps;
-          nothing = (opens handed there).2.nothing;
-          repair = repaired;
-          fits = λ begun. fits;
-          repair_keeps = λ begun. keeps;
-          repaired_shape = λ e. shape;
-          repaired_whole = λ e. whole;
-          written = λ e. written;
-          unrepaired = λ e. cc;
-          passes = λ begun. passes;
-          keeps = λ begun. images;
-          record_is = record_is;
-        }
+        failed written = run_at Writing start ended repaired (λ begun. (fits, keeps)) (λ e. (shape, whole)) (λ e. written) (λ e. cc) (λ begun. (passes, images)) record_is
 
         done : WritesInTurn start (batches_of (state_in (repaired_of found) names) line now) true ended → RunsLine given Done start ended
-        done written = record {
-          given = is_given;
-          opened = look;
-          since = (opens handed there).2.since;
-          opening = (opens handed there).2.steps;
-          nothing = (opens handed there).2.nothing;
-          repair = repaired;
-          fits = λ begun. fits;
-          repair_keeps = λ begun. keeps;
-          repaired_shape = λ e. shape;
-          repaired_whole = λ e. whole;
-          written = λ e. written;
-          unrepaired = λ e. cc;
-          passes = λ begun. passes;
-          keeps = λ begun. images;
-          record_is = record_is;
-        }
+        done written = run_at Done start ended repaired (λ begun. (fits, keeps)) (λ e. (shape, whole)) (λ e. written) (λ e. cc) (λ begun. (passes, images)) record_is
 
   -- ---- by what it came to
   module _ (done_at new : State) (told_done : IsTold done_at) (told_new : IsTold new) where
@@ -281,7 +226,7 @@ module _ (lines : LinesHaveHistories) (ends : EndsHaveHistories) (agree : DoneSe
           done handed there base base_is t.0 ended t.2 repaired.fits (keeps (others handed there base base_is)) shape whole (told_new.record_is ended at_end) cause.1 (images tt)
           (subst (λ (u : Told). WritesInTurn t.0 (batches_of (state_in (repaired_of found) names) line now) true u) is e.2)
           in (
-            counted (run_from handed old.sizes names now ended) answer.Fine ((line, Some answer.Fine) ∷ []) (length t.0.steps) (length ended.steps) done_at.steps new.steps (told_done.steps t.0 t.1) (told_new.steps ended at_end)
+            counted handed base old.sizes names now ended answer.Fine ((line, Some answer.Fine) ∷ []) (length t.0.steps) (length ended.steps) done_at.steps new.steps (told_done.steps t.0 t.1) (told_new.steps ended at_end)
                 (lines (given handed there base base_is) Done t.0 ended answer.Fine runs tt),
             agree (given handed there base base_is) t.0 ended runs,
           )
@@ -297,7 +242,7 @@ module _ (lines : LinesHaveHistories) (ends : EndsHaveHistories) (agree : DoneSe
           let t = told (look handed there base base_is) (look_told handed there base base_is) in
           let e = carried t.0 t.1 in
           let is : e.0 ≡ ended = same_told new.told e.0 ended e.1 at_end in (
-            counted (run_from handed old.sizes names now ended) (answer.Refused refusal) ((line, Some (answer.Refused refusal)) ∷ []) (length t.0.steps) (length ended.steps) done_at.steps new.steps (told_done.steps t.0 t.1) (told_new.steps ended at_end)
+            counted handed base old.sizes names now ended (answer.Refused refusal) ((line, Some (answer.Refused refusal)) ∷ []) (length t.0.steps) (length ended.steps) done_at.steps new.steps (told_done.steps t.0 t.1) (told_new.steps ended at_end)
                 (lines (given handed there base base_is) Repaired t.0 ended (answer.Refused refusal)
                 (unwritten handed there base base_is t.0 ended t.2 repaired.fits (keeps (others handed there base base_is)) shape whole (told_new.record_is ended at_end) (sym is ∙ e.2)) tt),
             tt,
@@ -306,7 +251,7 @@ module _ (lines : LinesHaveHistories) (ends : EndsHaveHistories) (agree : DoneSe
           let t = told (look handed there base base_is) (look_told handed there base base_is) in
           let e = carried t.0 t.1 in
           let is : e.0 ≡ ended = same_told new.told e.0 ended e.1 at_end in (
-            counted (run_from handed old.sizes names now ended) (answer.PvFailed pv) ((line, Some (answer.PvFailed pv)) ∷ []) (length t.0.steps) (length ended.steps) done_at.steps new.steps (told_done.steps t.0 t.1) (told_new.steps ended at_end)
+            counted handed base old.sizes names now ended (answer.PvFailed pv) ((line, Some (answer.PvFailed pv)) ∷ []) (length t.0.steps) (length ended.steps) done_at.steps new.steps (told_done.steps t.0 t.1) (told_new.steps ended at_end)
                 (lines (given handed there base base_is) Writing t.0 ended (answer.PvFailed pv)
                 (failed handed there base base_is t.0 ended t.2 repaired.fits (keeps (others handed there base base_is)) shape whole (told_new.record_is ended at_end) cause.0 (images tt)
                 (subst (λ (u : Told). WritesInTurn t.0 (batches_of (state_in (repaired_of found) names) line now) false u) is e.2)) tt),

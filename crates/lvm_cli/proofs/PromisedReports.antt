@@ -8,7 +8,7 @@ use Rattle.disk_model.specs.Since.{BetweenTold}
 use Rattle.disk_model.specs.State.{State}
 use Rattle.disk_model.specs.Steps.{Told}
 use Rattle.line_history.proofs.Looks.{reports}
-use Rattle.line_history.specs.Histories.{IsFineOrBad, journal_of_line, run_from}
+use Rattle.line_history.specs.Histories.{IsFineOrBad, journal_of_line}
 use Rattle.lvm_script.specs.Lines.{changes}
 use Rattle.lvm_script.specs.Options.{Word}
 use Rattle.lvm_script.specs.declared.answer.Answer.{Answer}
@@ -75,7 +75,7 @@ module _ (names : List Word) (now : ℕ) (line : Line) (old new : State) (told_o
 
   said_so : (said : Answer) → IsFineOrBad said → BetweenTold WroteNothing old.told new.told → KeepsPromise names now old (journal_of_line old.steps new.steps said) ((line, Some said) ∷ []) new
   said_so said may told handed there base base_is version finds ended at_end = (
-    counted (run_from handed old.sizes names now ended) said ((line, Some said) ∷ []) (length handed.steps) (length ended.steps) old.steps new.steps (told_old.steps handed there) (told_new.steps ended at_end)
+    counted handed base old.sizes names now ended said ((line, Some said) ∷ []) (length handed.steps) (length ended.steps) old.steps new.steps (told_old.steps handed there) (told_new.steps ended at_end)
         (reports handed old.sizes names now ended (looked_alone old new told_new told handed there base base_is version finds ended at_end) line report.quiet report.uncommitted said may),
     none_older said ended,
   )

@@ -1,5 +1,5 @@
 -- The journal and the answers of a run, and the promise to the administrator.
-use Rattle.std.specs.Prelude.{◌≡◌, ◌≤◌, ℕ, ◌+◌, true, List, [], ◌∷◌, map, Option, Some, None, vec_capacity, vec_len}
+use Rattle.std.specs.Prelude.{◌≡◌, ◌≤◌, ℕ, ◌+◌, Bool, true, false, List, [], ◌∷◌, map, Option, Some, None, vec_capacity, vec_len}
 use Rattle.std.specs.Option.{option_map_or}
 use Rattle.disk_model.specs.Durability.{IsBase}
 use Rattle.disk_model.specs.State.{State}
@@ -7,8 +7,9 @@ use Rattle.disk_model.specs.Steps.{Image, Told}
 use Rattle.image_scans.specs.Laws.{none_out}
 use Rattle.image_scans.specs.Versions.{FindsVersion, Version}
 use Rattle.line_history.specs.EachSet.{SetsAgree}
-use Rattle.line_history.specs.Histories.{journal_of_line, run_from}
+use Rattle.line_history.specs.Histories.{HasRunHistory, journal_of_line}
 use Rattle.line_table.specs.declared.journal.JournalEntry.{JournalEntry}
+use Rattle.lvm_report.specs.AnswerLines.{answers_text}
 use Rattle.lvm_script.specs.Lines.{line_of}
 use Rattle.lvm_script.specs.Options.{Word}
 use Rattle.lvm_script.specs.declared.answer.Answer.{Answer}
@@ -21,7 +22,8 @@ use Rattle.lvm_words.specs.declared.asked.Task.{Task}
 use Rattle.lvm_words.specs.declared.asked.Task.TheVariants as task
 use Rattle.lvm_words.specs.declared.command_line.CommandLine.{CommandLine}
 use Rattle.volume_history.specs.Commands.{commits}
-use Rattle.volume_history.specs.Runs.{HasHistory}
+use Rattle.lvm_cli.specs.Outcomes.{output_of}
+use Rattle.lvm_cli.specs.Runs.{names_of}
 use Rattle.lvm_cli.specs.declared.entered.Entered.{Entered}
 use Rattle.lvm_cli.specs.declared.outcome.Outcome.{Outcome}
 use Rattle.lvm_cli.specs.declared.outcome.Outcome.TheVariants.{Ended, Answered, Reported}
@@ -67,22 +69,30 @@ NoneOlder _ sizes ended = Unit {0}
 -- The promise: where the disks tell their record, each of their sectors has one possible value when they are handed in, and a
 -- scan of them finds one whole version of the group, or none, the journal and the answers are those of one legal history of
 -- plain volumes, and stopped at any moment since then, scanning the disks finds one whole version, in force or of the
--- pending command, where every sector of every volume is its last acknowledged write or a later one; and no set of them
--- finds an older version than the last acknowledged one.
+-- pending command, where every sector of every volume is its last acknowledged write or a later one. A command is pending at
+-- the end only where its commit failed in its last step; and no set of the disks finds an older version than the last
+-- acknowledged one.
 abbrev pub KeepsPromise : List Word → ℕ → State → List JournalEntry → List Said → State → Type 0
 KeepsPromise names now old journal lines new =
     (handed : Told) → old.told ≡ Some handed → (base : Image) → IsBase handed base → (version : Option Version) → FindsVersion old.sizes base none_out version
-    → (ended : Told) → new.told ≡ Some ended → HasHistory (run_from handed old.sizes names now ended) journal lines × NoneOlder lines old.sizes ended
+    → (ended : Told) → new.told ≡ Some ended → HasRunHistory handed base old.sizes names now ended journal lines × NoneOlder lines old.sizes ended
 
 -- of each of these lines, its number and its answer
 abbrev pub answers_of : List Said → List (ℕ × Option Answer)
 answers_of lines = map (λ (line : Said). (line.0.number, line.1)) lines
 
--- what a run of these words has entered that came to this outcome: the answers of the lines that were asked for and begun, and
--- their journal, which keep the promise
-pub record HasEntered (names words : List Word) (now : ℕ) (ids : ℕ → List ℕ) (old : State) (outcome : Outcome) (journal : List JournalEntry) (answers : List (ℕ × Option Answer)) (new : State) : Type 0 where
+-- whether it is the answer of a line that was begun
+abbrev pub is_answer : Outcome → Bool
+is_answer (Answered number answer.NoMemory) = false
+is_answer (Answered number said) = true
+is_answer _ = false
+
+-- what a run of these words has entered that came to this outcome: the answers of the lines that were asked for and begun, which
+-- are what it prints where a line has answered, and their journal, and these keep the promise
+pub record HasEntered (words : List Word) (now : ℕ) (ids : ℕ → List ℕ) (old : State) (outcome : Outcome) (journal : List JournalEntry) (answers : List (ℕ × Option Answer)) (new : State) : Type 0 where
   pub answers_xl : answers ≡ answers_of (lines_of_words words ids outcome)
-  pub promise : KeepsPromise names now old journal (lines_of_words words ids outcome) new
+  pub printed : is_answer outcome ≡ true → output_of (names_of words) outcome ≡ answers_text (names_of words) answers
+  pub promise : KeepsPromise (names_of words) now old journal (lines_of_words words ids outcome) new
 
 -- ---- what is kept of them in memory
 

@@ -1,5 +1,6 @@
 -- What a run comes to: its output and its exit status.
 use Rattle.std.specs.Prelude.{◌≡◌, ℕ, Bool, true, false, List, ◌++◌, codes, decimal, Option}
+use Rattle.lvm_report.specs.AnswerLines.{answers_text}
 use Rattle.lvm_script.specs.Answers.{answer_text}
 use Rattle.lvm_script.specs.Options.{Word}
 use Rattle.lvm_script.specs.Streams.{WritesText}
@@ -8,6 +9,9 @@ use Rattle.lvm_script.specs.declared.answer.Answer.TheVariants.{Refused, ReadFai
 use Rattle.lvm_cli.specs.declared.ending.Ending.TheVariants.{WordsRefused}
 use Rattle.lvm_cli.specs.declared.outcome.Outcome.{Outcome}
 use Rattle.lvm_cli.specs.declared.outcome.Outcome.TheVariants.{Ended, Answered, Reported}
+use Rattle.lvm_cli.specs.declared.output.Output.{Output}
+use Rattle.lvm_cli.specs.declared.output.Output.TheVariants.{Answers, Ending, Report}
+use Rattle.lvm_cli.specs.declared.output.Output.TheVariants as output
 use Rattle.lvm_cli.specs.Endings.{ending_text, status_of_ending}
 
 -- what a run prints, whose disks have these names
@@ -15,6 +19,13 @@ abbrev pub output_of : List Word → Outcome → List ℕ
 output_of names (Ended ending) = ending_text names ending
 output_of names (Answered line answer) = decimal line ++ codes ": " ++ answer_text names answer ++ codes "\n"
 output_of names (Reported text whole) = text
+
+-- what is printed, where the lines have these answers
+abbrev pub text_of : List Word → List (ℕ × Option Answer) → Output → List ℕ
+text_of names answers Answers = answers_text names answers
+text_of names answers (Ending ending) = ending_text names ending
+text_of names answers (output.NoMemory line) = decimal line ++ codes ": " ++ answer_text names NoMemory ++ codes "\n"
+text_of names answers (Report text) = text
 
 -- the exit status of a line that answered, where the output was printed whole: 6 for the answers of a disk's failure
 abbrev pub status_of_answer : Answer → ℕ
@@ -42,6 +53,11 @@ status_unprinted _ = 7
 abbrev pub status_printed : Outcome → Bool → ℕ
 status_printed outcome true = status_of outcome
 status_printed outcome false = status_unprinted outcome
+
+-- it is that of line 1
+abbrev pub IsOfLineOne : Outcome → Type 0
+IsOfLineOne (Answered line answer) = line ≡ 1
+IsOfLineOne _ = Unit {0}
 
 -- The output is written whole, without a fault of the sink, and the status is the outcome's; or the sink failed after a
 -- front of it.

@@ -1,11 +1,14 @@
 //! The journal and the answers of a run.
-ghost use Rattle.std.specs.Prelude.{◌≡◌, ◌≢◌, [], ◌∷◌, false, IfOk, None, Some};
+ghost use Rattle.std.specs.Prelude.{◌≡◌, ◌≢◌, [], ◌∷◌, false, IfOk, List, None, Some};
 ghost use Rattle.std.specs.Option.{option_map_or};
 ghost use Rattle.line_history.specs.Histories.{journal_of_line};
 ghost use Rattle.lvm_script.specs.declared.answer.Answer.{Answer as AnswerRecord};
+ghost use Rattle.lvm_script.specs.Options.{Word};
 ghost use Rattle.lvm_cli.specs.History.{HasRoom, IsNothing, journal_by, said_of};
+ghost use Rattle.lvm_cli.specs.Outcomes.{IsOfLineOne, output_of, text_of};
 
 use crate::outcome::Outcome;
+use crate::output::Output;
 use line_table::{Answers, EntryKind, Journal, JournalEntry};
 use lvm_script::Answer;
 use sector_base::Piece;
@@ -60,15 +63,27 @@ impl Entered {
         Ok(Entered { journal, answers })
     }
 
-    /// Enters line 1, which was begun after so many steps of the disks, where the run came to this outcome after so many.
-    pub fn enter(&mut self, begun: u64, ended: u64, outcome: Outcome)
+    /// Enters line 1, which was begun after so many steps of the disks, where the run came to this outcome after so many, and
+    /// gives what is to be printed.
+    pub fn enter(&mut self, begun: u64, ended: u64, outcome: Outcome) -> Output
         requires nothing { IsNothing self.old }
         requires room { said_of outcome ≢ None → HasRoom self.old }
+        requires first { IsOfLineOne outcome }
         ensures journal { self.new.journal.items ≡ journal_by begun ended outcome }
         ensures answers { self.new.answers.items ≡ option_map_or (λ (said : AnswerRecord). (1, Some said) ∷ []) (said_of outcome) [] }
+        ensures output { (names : List Word) → text_of names self.new.answers.items result ≡ output_of names outcome }
     {
-        if let Some(answer) = said(outcome) {
-            self.enter_answered(begun, ended, answer);
+        match outcome {
+            Outcome::Ended(ending) => Output::Ending(ending),
+            Outcome::Answered(line, Answer::NoMemory) => Output::NoMemory(line),
+            Outcome::Answered(_, answer) => {
+                self.enter_answered(begun, ended, answer);
+                Output::Answers
+            }
+            Outcome::Reported { text, whole: _ } => {
+                self.enter_answered(begun, ended, Answer::Fine);
+                Output::Report(text)
+            }
         }
     }
 
@@ -86,16 +101,5 @@ impl Entered {
         self.journal
             .push_reserved(entry(EntryKind::Answered, ended));
         self.answers.push_reserved((1, Some(answer)));
-    }
-}
-
-// The answer of the line, where it was begun.
-fn said(outcome: Outcome) -> Option<Answer>
-    ensures { result ≡ said_of outcome }
-{
-    match outcome {
-        Outcome::Ended(_) | Outcome::Answered(_, Answer::NoMemory) => None,
-        Outcome::Answered(_, answer) => Some(answer),
-        Outcome::Reported { .. } => Some(Answer::Fine),
     }
 }

@@ -1,5 +1,7 @@
 //! All that the program does, over any row of disks, streams and sources of ids.
-ghost use Rattle.std.specs.Prelude.{◌≡◌, ◌≢◌, ◌≤◌, ◌<◌, ◌^◌, true, false, [], length, None};
+ghost use Rattle.std.specs.Prelude.{◌≡◌, ◌≢◌, ◌≤◌, ◌<◌, ◌^◌, true, false, [], ◌∷◌, length, None, Some};
+ghost use Rattle.std.specs.Option.{option_map_or};
+ghost use Rattle.lvm_script.specs.declared.answer.Answer.{Answer as AnswerRecord};
 ghost use Rattle.lvm_script.specs.Lines.{changes};
 ghost use Rattle.lvm_script.specs.Options.{words_of};
 ghost use Rattle.lvm_cli.specs.declared.ending.Ending.TheVariants as EndingVariants;
@@ -9,7 +11,7 @@ ghost use Rattle.lvm_cli.specs.Commands.{is_built, spec_of};
 ghost use Rattle.lvm_cli.specs.Disks.{AreDisks, HasDisks};
 ghost use Rattle.lvm_cli.specs.History.{HasEntered, HasRoom, IsNothing, KeepsPromise, journal_by, lines_by, lines_of_task, lines_of_words, said_of};
 ghost use Rattle.lvm_cli.specs.Meets.{Meets};
-ghost use Rattle.lvm_cli.specs.Outcomes.{Ends, output_of};
+ghost use Rattle.lvm_cli.specs.Outcomes.{Ends, IsOfLineOne, output_of};
 ghost use Rattle.lvm_cli.specs.Runs.{AreNamed, CanPlan, CanPlanTask, RunsLine, RunsTask, RunsWords, context_with, names_of};
 
 use crate::built::is_built;
@@ -24,7 +26,7 @@ use crate::ran::Ran;
 use disk_model::Shelf;
 use line_table::{Answers, Journal};
 use lvm_id::Words64;
-use lvm_script::{Command, DiskNames, Line, Sink, Source};
+use lvm_script::{Command, DiskNames, Failed, Line, Sink, Source};
 use lvm_words::{Asked, Task, WordsRefusal, read_words};
 use std::alloc::{AllocError, Global};
 use std::sync::Wait;
@@ -81,11 +83,11 @@ pub fn lvm_run<
     requires time { now < 2 ^ 48 }
 
     // The run comes to an outcome by what is said of its words, the output and the status are the outcome's, unless the sink
-    // failed, and the journal and the answers keep the promise.
+    // failed, the output of a line that answered is its answer's line, and the journal and the answers keep the promise.
     ensures run { (outcome : OutcomeRecord)
         × RunsWords (words_of words.now.items) now (N.upcoming ids.old) (S.state shelf) outcome (N.upcoming ids.new) (S.state result.shelf)
         × Ends (names_of (words_of words.now.items)) outcome result.status (W.written out.old) (W.fault_count out.old) (W.written out.new) (W.fault_count out.new)
-        × HasEntered (names_of (words_of words.now.items)) (words_of words.now.items) now (N.upcoming ids.old) (S.state shelf) outcome result.entered.journal.items result.entered.answers.items (S.state result.shelf) }
+        × HasEntered (words_of words.now.items) now (N.upcoming ids.old) (S.state shelf) outcome result.entered.journal.items result.entered.answers.items (S.state result.shelf) }
 
     // The source is left as it was.
     ensures script { R.left script.new ≡ R.left script.old }
@@ -94,13 +96,37 @@ pub fn lvm_run<
     let _ = script;
     let mut shelf = shelf;
     let (ran, names, mut entered) = run_words(alloc, words, &mut shelf, ids, now);
-    let Ran { outcome, begun } = ran;
-    let status = outcome.print(alloc, out, &names);
-    entered.enter(begun, shelf.steps(), outcome);
+    let status = finish(alloc, out, &names, &mut entered, ran, shelf.steps());
     Ended {
         status,
         shelf,
         entered,
+    }
+}
+
+// Enters what the run came to after so many steps of the disks, which have these names, prints it, and gives the exit status.
+fn finish<W: Sink>(
+    alloc: Global,
+    out: &mut W,
+    names: &DiskNames,
+    entered: &mut Entered,
+    ran: Ran,
+    steps: u64,
+) -> u8
+    requires nothing { IsNothing entered.old }
+    requires room { said_of ran.outcome ≢ None → HasRoom entered.old }
+    requires first { IsOfLineOne ran.outcome }
+    ensures journal { entered.new.journal.items ≡ journal_by ran.begun steps ran.outcome }
+    ensures answers { entered.new.answers.items ≡ option_map_or (λ (said : AnswerRecord). (1, Some said) ∷ []) (said_of ran.outcome) [] }
+    ensures ends { Ends names.now ran.outcome result (W.written out.old) (W.fault_count out.old) (W.written out.new) (W.fault_count out.new) }
+{
+    let Ran { outcome, begun } = ran;
+    let whole = outcome.status();
+    let unprinted = outcome.status_unprinted();
+    let output = entered.enter(begun, steps, outcome);
+    match output.print(alloc, out, &entered.answers, names) {
+        Ok(()) => whole,
+        Err(Failed) => unprinted,
     }
 }
 

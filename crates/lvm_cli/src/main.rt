@@ -17,6 +17,7 @@ mod entered;
 mod lvm_run;
 mod opening;
 mod outcome;
+mod output;
 mod ran;
 mod scan_refusal;
 mod scanned;

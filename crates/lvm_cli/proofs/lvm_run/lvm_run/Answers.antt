@@ -7,12 +7,17 @@ use Rattle.line_table.specs.declared.journal.JournalEntry.{JournalEntry}
 use Rattle.lvm_cli.specs.History.{KeepsPromise, journal_by, lines_of_words}
 use Rattle.lvm_cli.specs.Outcomes.{Ends, output_of}
 use Rattle.lvm_cli.specs.Runs.{RunsWords, names_of}
-use Rattle.lvm_cli.proofs.AskedLines.{entered_answers}
+use Rattle.lvm_report.specs.AnswerLines.{answers_text}
+use Rattle.lvm_script.specs.declared.answer.Answer.{Answer}
+use Rattle.lvm_cli.proofs.AskedLines.{entered_answers, printed_answers, words_first}
 use Rattle.lvm_cli.proofs.lvm_run.lvm_run.Goals as goal
 
 -- names that print alike
 ends_alike : (a b : List Word) (outcome : Outcome) (status f0 f1 : ℕ) (b0 b1 : Option (List ℕ)) → output_of a outcome ≡ output_of b outcome → Ends a outcome status b0 f0 b1 f1 → Ends b outcome status b0 f0 b1 f1
 ends_alike a b outcome status f0 f1 b0 b1 alike e = (e.0, e.1, subst (λ (t : List ℕ). WritesText b0 f0 t e.0 b1 f1) alike e.2)
+
+pub finish-status-requires-clause-first : goal.finish-status-requires-clause-first
+finish-status-requires-clause-first g c = words_first _ c.args.now _ _ c.run_words-ran.result.0.outcome _ _ c.run_words-ran.ensures.run
 
 pub returns-clause-run : goal.returns-clause-run
 returns-clause-run g c =
@@ -24,13 +29,16 @@ returns-clause-run g c =
     let runs : RunsWords (words_of c.args.words.now.items) c.args.now ids s0 ran.outcome (g.N.Words64.upcoming c.run_words-ran.new.ids) s1 =
     subst (λ (w : List (String _)). RunsWords (words_of w) c.args.now ids s0 ran.outcome (g.N.Words64.upcoming c.run_words-ran.new.ids) s1) words_are c.run_words-ran.ensures.run
     in
-    let journal = c.enter.ensures.journal ∙ ap (λ (n : ℕ). journal_by ran.begun n ran.outcome) c.steps.ensures in (
+    let journal = c.finish-status.ensures.journal ∙ ap (λ (n : ℕ). journal_by ran.begun n ran.outcome) c.steps.ensures in (
       ran.outcome,
       runs,
-      ends_alike c.run_words-ran.result.1 (names_of (words_of c.args.words.now.items)) ran.outcome c.print-status.result _ _ _ _
-          (c.run_words-ran.ensures.output ∙ ap (λ (w : List (String _)). output_of (names_of (words_of w)) ran.outcome) words_are) c.print-status.ensures,
+      ends_alike c.run_words-ran.result.1 (names_of (words_of c.args.words.now.items)) ran.outcome c.finish-status.result _ _ _ _
+          (c.run_words-ran.ensures.output ∙ ap (λ (w : List (String _)). output_of (names_of (words_of w)) ran.outcome) words_are) c.finish-status.ensures.ends,
       record {
-        answers_xl = c.enter.ensures.answers ∙ sym (entered_answers (words_of c.args.words.now.items) c.args.now ids s0 ran.outcome (g.N.Words64.upcoming c.run_words-ran.new.ids) s1 runs);
+        printed = λ is.
+            printed_answers (names_of (words_of c.args.words.now.items)) ran.outcome (words_first (words_of c.args.words.now.items) c.args.now ids s0 ran.outcome (g.N.Words64.upcoming c.run_words-ran.new.ids) s1 runs) is
+            ∙ ap (λ (l : List (ℕ × Option Answer)). answers_text (names_of (words_of c.args.words.now.items)) l) (sym c.finish-status.ensures.answers);
+        answers_xl = c.finish-status.ensures.answers ∙ sym (entered_answers (words_of c.args.words.now.items) c.args.now ids s0 ran.outcome (g.N.Words64.upcoming c.run_words-ran.new.ids) s1 runs);
         promise =
             subst (λ (j : List JournalEntry). KeepsPromise (names_of (words_of c.args.words.now.items)) c.args.now s0 j (lines_of_words (words_of c.args.words.now.items) ids ran.outcome) s1) (sym {A = List JournalEntry} journal)
             (subst (λ (w : List (String _)). KeepsPromise (names_of (words_of w)) c.args.now s0 (journal_by ran.begun s1.steps ran.outcome) (lines_of_words (words_of w) ids ran.outcome) s1) words_are c.run_words-ran.ensures.promise);
