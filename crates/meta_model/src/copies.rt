@@ -5,9 +5,13 @@ use crate::{Group, Lv, LvTable, Pv, SegKind, Segment, Table};
 use sector_base::{ItemList, Text};
 use std::alloc::{AllocError, Global};
 
-// What can be made again where there is memory for it.
-pub(crate) trait TryCopy: Sized {
-    // The same again.
+/// What can be made again where there is memory for it.
+pub trait TryCopy: Sized {
+    /// The same again.
+    ///
+    /// # Errors
+    ///
+    /// Where memory is wanting.
     fn try_copy(&self, alloc: Global) -> Result<Self, AllocError>
         ensures { IfOk result (λ copy. copy ≡ self.now) };
 }
@@ -63,7 +67,12 @@ impl TryCopy for Lv {
 }
 
 impl Segment {
-    fn try_copy(&self, alloc: Global) -> Result<Segment, AllocError>
+    /// The same segment again, with its legs.
+    ///
+    /// # Errors
+    ///
+    /// Where memory is wanting.
+    pub fn try_copy(&self, alloc: Global) -> Result<Segment, AllocError>
         ensures { IfOk result (λ copy. copy ≡ self.now) }
     {
         Ok(Segment {

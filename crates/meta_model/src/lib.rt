@@ -13,6 +13,7 @@ mod status;
 mod table;
 mod tables;
 
+pub use copies::TryCopy;
 pub use group::Group;
 pub use lv::Lv;
 pub use pv::Pv;

@@ -20,6 +20,7 @@ mod spot;
 mod volume_size;
 
 pub use ats::Ats;
+pub use moving::is_moving;
 pub use places_of::places;
 pub use primary_place::{primary, primary_in};
 pub use region::MirrorAt;

@@ -9,9 +9,9 @@ use meta_model::{Group, Leg, Lv, On, Segment};
 // A mark for each logical volume, as many as a group may have.
 type Marks = [bool; 1024];
 
-// Whether legs lead down from the volume to the PVMOVE volume. It goes over all legs five times, and over none where no
-// volume has PVMOVE.
-pub(crate) fn is_moving(group: &Group, lv: u32) -> bool
+/// Whether legs lead down from the volume to the PVMOVE volume. It goes over all legs five times, and over none where no
+/// volume has PVMOVE.
+pub fn is_moving(group: &Group, lv: u32) -> bool
     requires { IsAccepted group.now }
     ensures { result ≡ leads_to_pvmove group.now 4 lv }
 {
