@@ -13,8 +13,8 @@ use Rattle.volume_rules.specs.Legs.{IsWayDown, LegRun, runs_of}
 use Rattle.volume_rules.specs.Rules.{FitsDevice, IsAccepted, IsMove, IsMoving, Keeps, LiesWithin, PvIsSmall, VolumesAreFew, ids_of, number_of}
 use Rattle.volume_rules.specs.declared.rule.Rule.{Rule}
 use Rattle.volume_rules.specs.declared.rule.Rule.TheVariants.{Numbers, Ids, Volumes, Segments, Extents, Follows, Stripes, Mirrors, Within, Apart, Depth, Moved, Pvmove, Locked}
-use Rattle.group_ops.proofs.Inserted.{all_pushed, pairs_inserted, slice_get-pushed}
-use Rattle.group_ops.proofs.Pushed.{pushed}
+use Rattle.group_edits.proofs.Inserted.{all_pushed, pairs_inserted, slice_get-pushed}
+use Rattle.group_edits.proofs.Pushed.{pushed}
 
 -- all rules, but for the number of its physical volumes
 pub record IsBase (group : Group) : Type 0 where
@@ -76,16 +76,18 @@ ids_kept group row differ fresh =
 
 -- ---- legs
 
--- another version of a group, with these physical volumes
-abbrev changed : Group → ℕ → List (List ℕ × Pv) → Group
-changed group seqno pvs = record group { seqno = seqno; pvs = pvs }
+-- another version of a group, with this name and these physical volumes
+abbrev changed : Group → List ℕ → ℕ → List (List ℕ × Pv) → Group
+changed group name seqno pvs = record group { name = name; seqno = seqno; pvs = pvs }
 
-module _ (group : Group) (seqno : ℕ) (pvs : List (List ℕ × Pv)) (stay : (k : ℕ) (pv : List ℕ × Pv) → slice_get group.pvs k ≡ Some pv → slice_get pvs k ≡ Some pv) where
+module _ (group : Group) (new : List ℕ) (seqno : ℕ) (pvs : List (List ℕ × Pv)) (stay : (k : ℕ) (pv : List ℕ × Pv) → slice_get group.pvs k ≡ Some pv → (row : List ℕ × Pv) × (slice_get pvs k ≡ Some row) × (row.1.pe_count ≡ pv.1.pe_count)) where
   abbrev other : Group
-  other = changed group seqno pvs
+  other = changed group new seqno pvs
 
   lies_within : (is : On) (end : ℕ) → LiesWithin group is end → LiesWithin other is end
-  lies_within (on.Pv number) end lies = (lies.0, lies.1, stay number (lies.0, lies.1) lies.2, lies.3)
+  lies_within (on.Pv number) end lies =
+      let row = stay number (lies.0, lies.1) lies.2 in
+      (row.0.0, row.0.1, row.1, subst (λ (n : ℕ). end ≤ n) (sym row.2) lies.3)
   lies_within (on.Lv number) end lies = lies
 
   within_kept : Keeps group Within → Keeps other Within
@@ -139,7 +141,7 @@ module _ (group : Group) (seqno : ℕ) (pvs : List (List ℕ × Pv)) (stay : (k 
       (moving.0, ways_stay (number ∷ moving.0) moving.1, moving.2)
 
   -- the rules but those on numbers, ids, the number of volumes and physical volumes
-  legs_kept : Keeps other Numbers → Keeps other Ids → Keeps other Extents → (rule : Rule) → number_of rule ≢ 3 → Keeps group rule → Keeps other rule
+  pub legs_kept : Keeps other Numbers → Keeps other Ids → Keeps other Extents → (rule : Rule) → number_of rule ≢ 3 → Keeps group rule → Keeps other rule
   legs_kept numbers ids extents Numbers apart kept = numbers
   legs_kept numbers ids extents Ids apart kept = ids
   legs_kept numbers ids extents Volumes apart kept = absurd (apart refl)
@@ -169,7 +171,7 @@ numbers_kept group row small numbers = record {
 pub base_pushed : (group : Group) (row : List ℕ × Pv) → IsBase group → MayJoin group row.1 → IsBase (pushed group row)
 base_pushed group row base may = record {
   kept = λ rule apart.
-      legs_kept group group.seqno (group.pvs ++ row ∷ []) (λ k pv is. slice_get-pushed group.pvs (row ∷ []) k pv is)
+      legs_kept group group.name group.seqno (group.pvs ++ row ∷ []) (λ k pv is. (pv, slice_get-pushed group.pvs (row ∷ []) k pv is, refl))
       (numbers_kept group row may.small (base.kept Numbers (λ e. omega (arith, e))))
       (ids_kept group row (base.kept Ids (λ e. omega (arith, e))) may.fresh)
       (all_pushed (λ (pv : List ℕ × Pv). FitsDevice group.extent_size pv.1) group.pvs row (base.kept Extents (λ e. omega (arith, e))) may.fits)
@@ -178,16 +180,20 @@ base_pushed group row base may = record {
   max_lv = base.max_lv;
 }
 
-version_numbers : (group : Group) (seqno : ℕ) → 1 ≤ seqno → seqno ≤ 4294967295 → Keeps group Numbers → Keeps (record group { seqno = seqno }) Numbers
-version_numbers group seqno some most numbers = record { seqno = (some, most); extent_size = numbers.extent_size; limits = numbers.limits; pvs = numbers.pvs; lvs = numbers.lvs }
+version_numbers : (group : Group) (new : List ℕ) (seqno : ℕ) → 1 ≤ seqno → seqno ≤ 4294967295 → Keeps group Numbers → Keeps (record group { name = new; seqno = seqno }) Numbers
+version_numbers group new seqno some most numbers = record { seqno = (some, most); extent_size = numbers.extent_size; limits = numbers.limits; pvs = numbers.pvs; lvs = numbers.lvs }
 
--- another version keeps them too
-pub base_version : (group : Group) (seqno : ℕ) → 1 ≤ seqno → seqno ≤ 4294967295 → IsBase group → IsBase (record group { seqno = seqno })
-base_version group seqno some most base = record {
+-- another version, with another name, keeps them too
+pub base_renamed : (group : Group) (new : List ℕ) (seqno : ℕ) → 1 ≤ seqno → seqno ≤ 4294967295 → IsBase group → IsBase (record group { name = new; seqno = seqno })
+base_renamed group new seqno some most base = record {
   kept = λ rule apart.
-      legs_kept group seqno group.pvs (λ k pv is. is)
-      (version_numbers group seqno some most (base.kept Numbers (λ e. omega (arith, e))))
+      legs_kept group new seqno group.pvs (λ k pv is. (pv, is, refl))
+      (version_numbers group new seqno some most (base.kept Numbers (λ e. omega (arith, e))))
       (base.kept Ids (λ e. omega (arith, e))) (base.kept Extents (λ e. omega (arith, e))) rule apart (base.kept rule apart);
   lvs = base.lvs;
   max_lv = base.max_lv;
 }
+
+-- so does one with its own name
+pub base_version : (group : Group) (seqno : ℕ) → 1 ≤ seqno → seqno ≤ 4294967295 → IsBase group → IsBase (record group { seqno = seqno })
+base_version group seqno some most base = base_renamed group group.name seqno some most base

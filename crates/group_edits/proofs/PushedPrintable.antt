@@ -9,9 +9,8 @@ use Rattle.std.proofs.lemmas.Iterator.Adapters.{position_from-zero}
 use Rattle.std.proofs.lemmas.List.{get_or_append_left, map-append}
 use Rattle.std.proofs.lemmas.List.Quantifiers.{position-Some}
 use Rattle.conf_text.specs.Grammar.{IsContent}
-use Rattle.lvm_name.specs.Names.{any_name_refusal, is_among}
+use Rattle.lvm_name.specs.Names.{any_name_refusal, group_name_refusal, is_among}
 use Rattle.meta_model.specs.Standing.{on_named}
-use Rattle.meta_model.specs.Tables as tables
 use Rattle.meta_model.specs.declared.group.Group.{Group}
 use Rattle.meta_model.specs.declared.lv.Lv.{Lv}
 use Rattle.meta_model.specs.declared.pv.Pv.{Pv}
@@ -24,8 +23,8 @@ use Rattle.meta_model.specs.declared.segment.Segment.{Segment}
 use Rattle.meta_print.specs.Layout.{name_of}
 use Rattle.meta_print.proofs.NamesOfText.{differ_back}
 use Rattle.meta_print.proofs.Printable.{AreNames, IsKind, IsLeg, IsLegs, IsLv, IsPrintable, IsPv, IsSegment, names_of}
-use Rattle.group_ops.proofs.Inserted.{each_pushed, none_at}
-use Rattle.group_ops.proofs.Pushed.{pushed}
+use Rattle.group_edits.proofs.Inserted.{each_pushed, none_at}
+use Rattle.group_edits.proofs.Pushed.{pushed}
 
 -- ---- names that stand once
 
@@ -65,33 +64,33 @@ no_position_kept p xs y other none = position_from-zero p (xs ++ y ∷ []) ∙ n
 
 -- ---- what legs lie on
 
-abbrev on_pv : Option ℕ → Option On
+abbrev pub on_pv : Option ℕ → Option On
 on_pv o = option_map (λ number. on.Pv number) o
 
-abbrev on_lv : Option ℕ → Option On
+abbrev pub on_lv : Option ℕ → Option On
 on_lv o = option_map (λ number. on.Lv number) o
 
-first_of : (a b : Option ℕ) (n : ℕ) → option_or (on_pv a) (on_lv b) ≡ Some (on.Pv n) → a ≡ Some n
+pub first_of : (a b : Option ℕ) (n : ℕ) → option_or (on_pv a) (on_lv b) ≡ Some (on.Pv n) → a ≡ Some n
 first_of (Some k) b n is = cc
 first_of None (Some k) n is = absurd cc
 first_of None None n is = absurd cc
 
-second_of : (a b : Option ℕ) (n : ℕ) → option_or (on_pv a) (on_lv b) ≡ Some (on.Lv n) → (a ≡ None) × (b ≡ Some n)
+pub second_of : (a b : Option ℕ) (n : ℕ) → option_or (on_pv a) (on_lv b) ≡ Some (on.Lv n) → (a ≡ None) × (b ≡ Some n)
 second_of (Some k) b n is = absurd cc
 second_of None (Some k) n is = (refl, cc)
 second_of None None n is = absurd cc
 
-abbrev pv_names : Group → List (List ℕ)
+abbrev pub pv_names : Group → List (List ℕ)
 pv_names group = map (λ (pv : List ℕ × Pv). pv.0) group.pvs
 
-abbrev lv_names : Group → List (List ℕ)
+abbrev pub lv_names : Group → List (List ℕ)
 lv_names group = map (λ (lv : List ℕ × Lv). lv.0) group.lvs
 
 pv_names-pushed : (group : Group) (row : List ℕ × Pv) → pv_names (pushed group row) ≡ pv_names group ++ row.0 ∷ []
 pv_names-pushed group row = map-append (λ (pv : List ℕ × Pv). pv.0) group.pvs (row ∷ [])
 
 -- the name is found again, and is the same
-abbrev IsFoundAgain : Group → Group → On → Type 0
+abbrev pub IsFoundAgain : Group → Group → On → Type 0
 IsFoundAgain group other is = (on_named (names_of other) (name_of other is) ≡ Some is) × (name_of other is ≡ name_of group is)
 
 found_again : (group : Group) (row : List ℕ × Pv) → is_among (lv_names group) row.0 ≡ false → (is : On) → on_named (names_of group) (name_of group is) ≡ Some is → IsFoundAgain group (pushed group row) is
@@ -146,7 +145,7 @@ module _ (group other : Group) (again : (is : On) → on_named (names_of group) 
   lv_kept : (lv : Lv) → IsLv group lv → IsLv other lv
   lv_kept lv is = record { id_again = is.id_again; created_fits = is.created_fits; host_content = is.host_content; count_fits = is.count_fits; each = each_segment lv.segments is.each }
 
-  each_lv : (lvs : List (List ℕ × Lv)) → Each (λ (lv : List ℕ × Lv). IsLv group lv.1) lvs → Each (λ (lv : List ℕ × Lv). IsLv other lv.1) lvs
+  pub each_lv : (lvs : List (List ℕ × Lv)) → Each (λ (lv : List ℕ × Lv). IsLv group lv.1) lvs → Each (λ (lv : List ℕ × Lv). IsLv other lv.1) lvs
   each_lv [] are = tt
   each_lv (lv ∷ lvs) are = (lv_kept lv.1 are.0, each_lv lvs are.1)
 
@@ -168,14 +167,14 @@ printable_pushed group row can pv named free_pv free_lv = record {
   each_lv = each_lv group (pushed group row) (found_again group row free_lv) group.lvs can.each_lv;
 }
 
-version_again : (group : Group) (seqno : ℕ) (is : On) → on_named (names_of group) (name_of group is) ≡ Some is → IsFoundAgain group (record group { seqno = seqno }) is
-version_again group seqno (on.Pv n) found = (found, refl)
-version_again group seqno (on.Lv n) found = (found, refl)
+version_again : (group : Group) (new : List ℕ) (seqno : ℕ) (is : On) → on_named (names_of group) (name_of group is) ≡ Some is → IsFoundAgain group (record group { name = new; seqno = seqno }) is
+version_again group new seqno (on.Pv n) found = (found, refl)
+version_again group new seqno (on.Lv n) found = (found, refl)
 
--- so can another version of a group
-pub printable_version : (group : Group) (seqno : ℕ) → seqno < 2 ^ 64 → IsPrintable group → IsPrintable (record group { seqno = seqno })
-printable_version group seqno small can = record {
-  name_is = can.name_is;
+-- so can another version of a group, with another name
+pub printable_renamed : (group : Group) (new : List ℕ) (seqno : ℕ) → is_none (group_name_refusal new) ≡ true → seqno < 2 ^ 64 → IsPrintable group → IsPrintable (record group { name = new; seqno = seqno })
+printable_renamed group new seqno named small can = record {
+  name_is = named;
   id_again = can.id_again;
   seqno_fits = small;
   extent_fits = can.extent_fits;
@@ -185,5 +184,9 @@ printable_version group seqno small can = record {
   pv_names = can.pv_names;
   lv_names = can.lv_names;
   each_pv = can.each_pv;
-  each_lv = each_lv group (record group { seqno = seqno }) (λ is found. version_again group seqno is found) group.lvs can.each_lv;
+  each_lv = each_lv group (record group { name = new; seqno = seqno }) (λ is found. version_again group new seqno is found) group.lvs can.each_lv;
 }
+
+-- or with its own
+pub printable_version : (group : Group) (seqno : ℕ) → seqno < 2 ^ 64 → IsPrintable group → IsPrintable (record group { seqno = seqno })
+printable_version group seqno small can = printable_renamed group group.name seqno can.name_is small can

@@ -1,0 +1,7 @@
+use Rattle.std.proofs.Common.{◌≡◌, ◌++◌, drop}
+use Rattle.group_edits.proofs.Staying.{rows_after}
+use Rattle.group_edits.specs.Marking.{unmarked}
+use Rattle.group_edits.proofs.removing.rows_after.Given as goal
+
+abbrev pub invariant-loop-number : goal.invariant-loop-number
+invariant-loop-number l = l.rest ++ rows_after (unmarked l.goes) l.number (drop l.number l.lvs) ≡ rows_after (unmarked l.goes) 0 l.lvs

@@ -1,0 +1,13 @@
+-- How many extents stand before, and how many stay of the others.
+use Rattle.std.proofs.Common.{◌≡◌, ◌+◌, drop}
+use Rattle.std.specs.Prelude.{sum_by}
+use Rattle.meta_model.specs.declared.segment.Segment.{Segment}
+use Rattle.volume_rules.specs.Extents.{extents_of}
+use Rattle.group_edits.specs.ShortenedVolume.{kept_of}
+use Rattle.group_edits.proofs.shorten_volume.kept_extents.Given as goal
+
+abbrev pub invariant-loop-segment : goal.invariant-loop-segment
+invariant-loop-segment l =
+    (l.before + l.left ≡ l.said)
+    × (kept_of l.lv.segments l.said ≡ l.before + kept_of (drop l.segment-index l.segment-items) l.left)
+    × (l.before + sum_by (λ (s : Segment). s.count) (drop l.segment-index l.segment-items) ≡ extents_of l.lv)
