@@ -29,10 +29,11 @@ use Rattle.group_ops.proofs.AddedFacts.{IsFoundOn, all_found}
 use Rattle.group_ops.proofs.Disks.{disk_with_own, has_own, ids_apart}
 use Rattle.group_ops.proofs.EmptyGroup.{empty_base, empty_printable}
 use Rattle.group_ops.proofs.ExtendedGroup.{AreApart, Fits, IdApart, IsFresh, IsGood, count_added, good_added}
-use Rattle.group_ops.proofs.Inserted.{none_at, none_passes}
+use Rattle.group_edits.proofs.Inserted.{none_at, none_passes}
 use Rattle.group_ops.proofs.Passed.{DiskApart, DisksApart, IsUnused, absent, both_false, all_fit, few_enough, all_unused, five_none, no_map, six_none}
-use Rattle.group_ops.proofs.PushedPrintable.{printable_version}
-use Rattle.group_ops.proofs.PushedRules.{accepted_base, base_accepted, base_version}
+use Rattle.group_edits.proofs.PushedPrintable.{printable_version}
+use Rattle.group_edits.proofs.Whole.{IsWhole}
+use Rattle.group_edits.proofs.PushedRules.{accepted_base, base_accepted, base_version}
 use Rattle.group_ops.proofs.StateFacts.{listed_are}
 use Rattle.group_ops.specs.Added.{added_of, data_end, data_start, disks_added}
 use Rattle.group_ops.specs.Ids.{has_lv_id, has_other_id}
@@ -40,7 +41,8 @@ use Rattle.group_ops.specs.Judging.{area_row, first_refusal, lies_on, many_row, 
 use Rattle.group_ops.specs.NewGroup.{extended}
 use Rattle.group_ops.specs.State.{IsState}
 use Rattle.group_ops.specs.Vgcreate.{IsEmptyGroup, create_rows, empty_group}
-use Rattle.group_ops.specs.Vgextend.{extend_rows, next_version, other_id_row}
+use Rattle.group_edits.specs.NextVersion.{next_version}
+use Rattle.group_ops.specs.Vgextend.{extend_rows, other_id_row}
 use Rattle.group_ops.specs.declared.added.Added.{Added}
 use Rattle.group_ops.specs.declared.state.GroupState.{GroupState}
 
@@ -125,11 +127,6 @@ some_added : (state : GroupState) (all : List Added) → area_row state.areas (d
 unfolding area_row
 some_added state [] none = let row : ◌≡◌ {A = Option OpRefusal} (Some NoArea) None = ap (λ (b : Bool). cond (not b) (Some NoArea) None) (sym (none_lie state.areas)) ∙ none in absurd cc
 some_added state (added ∷ more) none = omega arith
-
--- the group keeps all rules, and a tree stands for it
-pub record IsWhole (group : Group) : Type 0 where
-  pub accepted : IsAccepted group
-  pub tree : HasTree group
 
 pub created : (state : GroupState) → IsState state → (id name : List ℕ) (extent_size : ℕ) (names : List (List ℕ)) → IsId id → group_name_refusal name ≡ None → 8 ≤ extent_size → extent_size ≤ 2 ^ 31 → extent_size % 8 ≡ 0
     → first_refusal (create_rows state (empty_group id name extent_size) (added_of state names)) ≡ None → IsWhole (extended (empty_group id name extent_size) (added_of state names))

@@ -17,10 +17,10 @@ use Rattle.meta_print.proofs.Printable.{IsPrintable, IsPv}
 use Rattle.volume_rules.specs.Rules.{FitsDevice, PvIsSmall, ids_of}
 use Rattle.group_ops.proofs.Contents.{id_again}
 use Rattle.group_ops.proofs.FreeNames.{free, names_length, pv_name-named}
-use Rattle.group_ops.proofs.Inserted.{each_inserted}
-use Rattle.group_ops.proofs.Pushed.{pushed}
-use Rattle.group_ops.proofs.PushedPrintable.{printable_pushed}
-use Rattle.group_ops.proofs.PushedRules.{IsBase, base_pushed, ids_of-pushed}
+use Rattle.group_edits.proofs.Inserted.{each_inserted}
+use Rattle.group_edits.proofs.Pushed.{pushed}
+use Rattle.group_edits.proofs.PushedPrintable.{printable_pushed}
+use Rattle.group_edits.proofs.PushedRules.{IsBase, base_pushed, ids_of-pushed}
 use Rattle.group_ops.specs.Added.{IsAdded, data_end, data_start, pv_of}
 use Rattle.group_ops.specs.NewGroup.{free_number, names_in, pv_name, with_added}
 use Rattle.group_ops.specs.declared.added.Added.{Added}

@@ -1,9 +1,5 @@
-pub mod Inserted
-pub mod Pushed
-pub mod PushedRules
 pub mod Contents
 pub mod FreeNames
-pub mod PushedPrintable
 pub mod Disks
 pub mod DataPlaces
 pub mod AddedFacts
@@ -18,3 +14,8 @@ pub mod StateFacts
 pub mod DataApart
 pub mod PlacedVolumes
 pub mod Examples
+pub mod LvExamples
+pub mod Rows
+pub mod RowsOnVolume
+pub mod Reducing
+pub mod NextVersions

@@ -1,6 +1,7 @@
 -- The physical volumes of the group that a line gives lie well on their disks, where those that it had do.
 use Rattle.std.proofs.Common.{◌≡◌, ◌≤◌, ◌<◌, ℕ, suc, ◌+◌, ◌-◌, ◌*◌, ◌/◌, Bool, true, false, ◌||◌, ◌&&◌, cond, ltb, List, [], ◌∷◌, ◌++◌, map, Option, Some, None, inl, inr, refl, sym, ap, subst, ◌∙◌, arith}
 use Rattle.std.specs.Prelude.{find, option_map, slice_get, unwrap_or}
+use Rattle.std.specs.Option.{option_map_or}
 use Rattle.std.specs.List.{AllByRecursion as Each, enumerate_from, list_any}
 use Rattle.std.proofs.Math.Nat.{div-mul-le_self}
 use Rattle.std.proofs.lemmas.Bool.{cases_order, ltb-true}
@@ -19,18 +20,26 @@ use Rattle.scan_rules.specs.Decision.{Found as PvOf, Reading, first_misplaced, h
 use Rattle.scan_rules.specs.Found.{is_this_misplaced}
 use Rattle.vg_found.specs.declared.disk.Disk.{Disk}
 use Rattle.vg_found.specs.Disks.{area_shape, disk_shape, header_on, pv_shape, shapes}
+use Rattle.lvm_script.specs.declared.amount.Amount.{Amount}
 use Rattle.lvm_script.specs.declared.command.Command.{Command}
 use Rattle.lvm_script.specs.declared.command.Command.TheVariants.{Pvcreate, Pvmove, Pvck, Pvs, Vgcreate, Vgextend, Vgreduce, Vgremove, Vgrename, Vgcfgbackup, Vgcfgrestore, Vgck, Vgs, Lvcreate, Lvextend, Lvreduce, Lvremove, Lvrename, Lvs, Read, Fill, Write, List as ListVolumes, Wait, Resync}
+use Rattle.group_edits.specs.RenamedGroup.{renamed_group}
+use Rattle.group_edits.specs.RenamedVolume.{renamed_volume}
+use Rattle.group_edits.specs.Removing.{without_volume}
+use Rattle.group_edits.specs.Visible.{visible_named}
 use Rattle.group_ops.proofs.AddedFacts.{IsFoundOn, all_found}
 use Rattle.group_ops.proofs.DataApart.{IsBesideData, data_beside}
 use Rattle.group_ops.proofs.Disks.{ids_apart}
 use Rattle.group_ops.specs.Added.{added_of, data_end, data_start, pv_of}
+use Rattle.group_ops.specs.Committing.{no_change, version_change}
+use Rattle.group_ops.specs.Lvreduce.{reduce_change, reduced_group}
+use Rattle.group_ops.specs.Lvremove.{remove_change}
 use Rattle.group_ops.specs.Laws.{ArePlaced, ChangeIsPlaced}
 use Rattle.group_ops.specs.NewGroup.{extended, free_number, names_in, pv_name, with_added}
 use Rattle.group_ops.specs.Planning.{change_of, extend_by}
 use Rattle.group_ops.specs.State.{IsState}
 use Rattle.group_ops.specs.Vgcreate.{empty_group}
-use Rattle.group_ops.specs.Vgextend.{next_version}
+use Rattle.group_edits.specs.NextVersion.{next_version}
 use Rattle.group_ops.specs.declared.added.Added.{Added}
 use Rattle.group_ops.specs.declared.state.GroupState.{GroupState}
 
@@ -210,6 +219,30 @@ extend_placed : (state : GroupState) → IsState state → (group : Option Group
 extend_placed state is None names placed = tt
 extend_placed state is (Some group) names placed = added_placed state is (next_version group) names placed
 
+-- a change that leaves the physical volumes as they are
+version_placed : (state : GroupState) (next : Group → Group) → ((g : Group) → ArePlaced state.disks (Some g) → ArePlaced state.disks (Some (next g))) → (group : Option Group) → ArePlaced state.disks group
+    → ArePlaced state.disks (option_map_or (λ (g : Group). version_change state (next g)) group (no_change state)).group
+version_placed state next keeps None placed = tt
+version_placed state next keeps (Some group) placed = keeps group placed
+
+without_placed : (state : GroupState) (group : Group) (volume : Option (ℕ × Lv)) → ArePlaced state.disks (Some group)
+    → ArePlaced state.disks (option_map_or (λ (v : ℕ × Lv). version_change state (without_volume group v.0)) volume (no_change state)).group
+without_placed state group None placed = tt
+without_placed state group (Some volume) placed = placed
+
+remove_placed : (state : GroupState) (name : List ℕ) (group : Option Group) → ArePlaced state.disks group → ArePlaced state.disks (option_map_or (remove_change state name) group (no_change state)).group
+remove_placed state name None placed = tt
+remove_placed state name (Some group) placed = without_placed state group (visible_named group name) placed
+
+shortened_placed : (state : GroupState) (name : List ℕ) (amount : Amount) (group : Group) (volume : Option (ℕ × Lv)) → ArePlaced state.disks (Some group)
+    → ArePlaced state.disks (option_map_or (λ (v : ℕ × Lv). version_change state (reduced_group name amount group v.1)) volume (no_change state)).group
+shortened_placed state name amount group None placed = tt
+shortened_placed state name amount group (Some volume) placed = placed
+
+reduce_placed : (state : GroupState) (name : List ℕ) (amount : Amount) (group : Option Group) → ArePlaced state.disks group → ArePlaced state.disks (option_map_or (reduce_change state name amount) group (no_change state)).group
+reduce_placed state name amount None placed = tt
+reduce_placed state name amount (Some group) placed = shortened_placed state name amount group (visible_named group name) placed
+
 change_by : (state : GroupState) → IsState state → (number : ℕ) (id : Option (List ℕ)) (command : Command) → ArePlaced state.disks state.group
     → ArePlaced state.disks (change_of state (record { number = number; id = id; command = command })).group
 change_by state is number id (Pvcreate pv copies) placed = tt
@@ -222,16 +255,16 @@ change_by state is number id (Pvck a) placed = tt
 change_by state is number id Pvs placed = tt
 change_by state is number id (Vgreduce a b) placed = tt
 change_by state is number id (Vgremove a) placed = tt
-change_by state is number id (Vgrename a b) placed = tt
+change_by state is number id (Vgrename vg new) placed = version_placed state (λ g. renamed_group g new) (λ g placed. placed) state.group placed
 change_by state is number id (Vgcfgbackup a) placed = tt
 change_by state is number id (Vgcfgrestore a b) placed = tt
 change_by state is number id Vgck placed = tt
 change_by state is number id Vgs placed = tt
 change_by state is number id (Lvcreate a) placed = tt
 change_by state is number id (Lvextend a b c) placed = tt
-change_by state is number id (Lvreduce a b) placed = tt
-change_by state is number id (Lvremove a) placed = tt
-change_by state is number id (Lvrename a b c) placed = tt
+change_by state is number id (Lvreduce path amount) placed = reduce_placed state path.lv amount state.group placed
+change_by state is number id (Lvremove path) placed = remove_placed state path.lv state.group placed
+change_by state is number id (Lvrename vg old new) placed = version_placed state (renamed_volume old new) (λ g placed. placed) state.group placed
 change_by state is number id Lvs placed = tt
 change_by state is number id (Read a b c) placed = tt
 change_by state is number id (Fill a b c d) placed = tt

@@ -1,10 +1,17 @@
 pub mod Added
+pub mod Committing
 pub mod Ids
 pub mod Judging
 pub mod Laws
+pub mod Lvreduce
+pub mod Lvremove
+pub mod Lvrename
 pub mod NewGroup
 pub mod Planning
 pub mod Pvcreate
+pub mod Sizes
 pub mod State
 pub mod Vgcreate
 pub mod Vgextend
+pub mod Vgrename
+pub mod Volumes

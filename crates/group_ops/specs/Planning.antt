@@ -1,17 +1,22 @@
 -- How a line is answered: by its first refusal, or by its change.
 use Rattle.std.specs.Prelude.{◌≡◌, ◌≤◌, ◌%◌, ◌^◌, ℕ, List, [], Option, None, Some, unwrap_or, Result, MatchResult, IsSomeAnd}
-use Rattle.std.specs.FinSet as set
 use Rattle.lvm_id.specs.LvmId.{IsId}
-use Rattle.lvm_name.specs.Names.{group_name_refusal}
+use Rattle.lvm_name.specs.Names.{group_name_refusal, volume_name_refusal}
 use Rattle.lvm_script.specs.declared.command.Command.{Command}
-use Rattle.lvm_script.specs.declared.command.Command.TheVariants.{Pvcreate, Vgcreate, Vgextend}
+use Rattle.lvm_script.specs.declared.command.Command.TheVariants.{Lvreduce, Lvremove, Lvrename, Pvcreate, Vgcreate, Vgextend, Vgrename}
 use Rattle.lvm_script.specs.declared.line.Line.{Line}
 use Rattle.lvm_script.specs.declared.op_refusal.OpRefusal.{OpRefusal}
 use Rattle.meta_model.specs.declared.group.Group.{Group}
+use Rattle.group_ops.specs.Committing.{no_change}
 use Rattle.group_ops.specs.Judging.{IsRefusedBy, first_refusal}
+use Rattle.group_ops.specs.Lvreduce.{lvreduce_change, lvreduce_rows}
+use Rattle.group_ops.specs.Lvremove.{lvremove_change, lvremove_rows}
+use Rattle.group_ops.specs.Lvrename.{lvrename_change, lvrename_rows}
 use Rattle.group_ops.specs.Pvcreate.{pvcreate_change, pvcreate_rows}
+use Rattle.group_ops.specs.Sizes.{IsAmount}
 use Rattle.group_ops.specs.Vgcreate.{empty_group, vgcreate_change, vgcreate_rows}
 use Rattle.group_ops.specs.Vgextend.{vgextend_change, vgextend_rows}
+use Rattle.group_ops.specs.Vgrename.{vgrename_change, vgrename_rows}
 use Rattle.group_ops.specs.declared.refusal.PlanRefusal.{PlanRefusal}
 use Rattle.group_ops.specs.declared.state.Change.{Change}
 use Rattle.group_ops.specs.declared.state.GroupState.{GroupState}
@@ -20,13 +25,17 @@ use Rattle.group_ops.specs.declared.state.GroupState.{GroupState}
 abbrev pub drawn : Line → List ℕ
 drawn line = unwrap_or line.id []
 
--- a line of a command that is planned here, with an id where it draws one, and with values as words have them: a group's name,
+-- a line of a command that is planned here, with an id where it draws one, and with values as words have them: names, amounts,
 -- and a multiple of 8 sectors as the size of an extent
 abbrev pub IsPlanned : Option (List ℕ) → Command → Type 0
 IsPlanned id (Pvcreate pv copies) = IsSomeAnd id IsId
 IsPlanned id (Vgcreate vg extent_size pvs) =
     IsSomeAnd id IsId × (group_name_refusal vg ≡ None) × (8 ≤ extent_size) × (extent_size ≤ 2 ^ 31) × (extent_size % 8 ≡ 0)
 IsPlanned id (Vgextend vg pvs) = Unit {0}
+IsPlanned id (Vgrename vg new) = group_name_refusal new ≡ None
+IsPlanned id (Lvreduce path amount) = IsAmount amount
+IsPlanned id (Lvremove path) = Unit {0}
+IsPlanned id (Lvrename vg old new) = volume_name_refusal new ≡ None
 IsPlanned id _ = ⊥
 
 -- the rows of a line's refusals, in their order
@@ -37,15 +46,15 @@ rows_of state line now = by line.command
     by (Pvcreate pv copies) = pvcreate_rows state (drawn line) pv
     by (Vgcreate vg extent_size pvs) = vgcreate_rows state (empty_group (drawn line) vg extent_size) pvs now
     by (Vgextend vg pvs) = vgextend_rows state vg pvs now
+    by (Vgrename vg new) = vgrename_rows state vg new now
+    by (Lvreduce path amount) = lvreduce_rows state path amount now
+    by (Lvremove path) = lvremove_rows state path now
+    by (Lvrename vg old new) = lvrename_rows state vg old new now
     by _ = []
 
 -- its first refusal
 abbrev pub refusal_of : GroupState → Line → ℕ → Option OpRefusal
 refusal_of state line now = first_refusal (rows_of state line now)
-
--- nothing changes
-abbrev pub no_change : GroupState → Change
-no_change state = record { group = None; labels = []; taken = set.empty; disk_of = state.disk_of }
 
 -- the group, where there is one, has these too
 abbrev pub extend_by : GroupState → Option Group → List (List ℕ) → Change
@@ -60,6 +69,10 @@ change_of state line = by line.command
     by (Pvcreate pv copies) = pvcreate_change state (drawn line) pv copies
     by (Vgcreate vg extent_size pvs) = vgcreate_change state (empty_group (drawn line) vg extent_size) pvs
     by (Vgextend vg pvs) = extend_by state state.group pvs
+    by (Vgrename vg new) = vgrename_change state new
+    by (Lvreduce path amount) = lvreduce_change state path.lv amount
+    by (Lvremove path) = lvremove_change state path.lv
+    by (Lvrename vg old new) = lvrename_change state old new
     by _ = no_change state
 
 -- the change is this one, where no row refuses, or the first refusal of the rows is answered

@@ -1,21 +1,17 @@
 -- vgextend(8): the rows of its refusals, and its change.
-use Rattle.std.specs.Prelude.{ℕ, ◌+◌, ◌==◌, not, List, [], ◌∷◌, ◌++◌, length, find, Option, Some, option_map}
-use Rattle.std.specs.Option.{option_map_or}
+use Rattle.std.specs.Prelude.{ℕ, ◌+◌, not, List, [], ◌∷◌, ◌++◌, length, find, Option, option_map}
 use Rattle.lvm_script.specs.declared.op_refusal.OpRefusal.{OpRefusal}
-use Rattle.lvm_script.specs.declared.op_refusal.OpRefusal.TheVariants.{IdTaken, NotResizeable, ReadOnly, SeqnoEnd, UnknownGroup}
+use Rattle.lvm_script.specs.declared.op_refusal.OpRefusal.TheVariants.{IdTaken, NotResizeable}
 use Rattle.meta_model.specs.declared.group.Group.{Group}
-use Rattle.scan_rules.specs.Decision.{same_bytes}
 use Rattle.group_ops.specs.Added.{added_of, disks_added}
 use Rattle.group_ops.specs.Ids.{has_other_id}
 use Rattle.group_ops.specs.Judging.{area_row, many_row, refused_if, small_row, unknown_row, used_row}
 use Rattle.group_ops.specs.NewGroup.{change_with, text_row}
+use Rattle.group_edits.specs.NextVersion.{next_version}
+use Rattle.group_ops.specs.Committing.{named_rows, rows_where_found, seqno_row}
 use Rattle.group_ops.specs.declared.added.Added.{Added}
 use Rattle.group_ops.specs.declared.state.Change.{Change}
 use Rattle.group_ops.specs.declared.state.GroupState.{GroupState}
-
--- the next version of a group
-abbrev pub next_version : Group → Group
-next_version group = record group { seqno = group.seqno + 1 }
 
 -- the first physical volume whose id is that of the group or of a logical volume
 unfoldable pub other_id_row : Group → List Added → Option OpRefusal
@@ -24,9 +20,8 @@ other_id_row group all = option_map (λ (added : Added). IdTaken added.header.id
 -- the group has another name, may not be changed, or takes no further physical volume
 abbrev pub group_rows : Group → List ℕ → List (Option OpRefusal)
 group_rows group vg =
-    refused_if (not (same_bytes group.name vg)) (UnknownGroup vg)
-    ∷ refused_if (not group.status.write) ReadOnly
-    ∷ refused_if (not group.status.resizeable) NotResizeable
+    named_rows group vg
+    ++ refused_if (not group.status.resizeable) NotResizeable
     ∷ []
 
 -- the rows on the physical volumes that are added
@@ -36,7 +31,7 @@ extend_rows state group all =
     ∷ area_row state.areas (state.disk_of ++ disks_added all)
     ∷ small_row group.extent_size all
     ∷ many_row group.max_pv (length group.pvs + length all)
-    ∷ refused_if (group.seqno == 4294967295) SeqnoEnd
+    ∷ seqno_row group
     ∷ other_id_row group all
     ∷ []
 
@@ -52,7 +47,7 @@ found_rows state vg names now group =
 
 -- no group was found, or the rows where one was
 abbrev pub vgextend_rows : GroupState → List ℕ → List (List ℕ) → ℕ → List (Option OpRefusal)
-vgextend_rows state vg names now = option_map_or (found_rows state vg names now) state.group (Some (UnknownGroup vg) ∷ [])
+vgextend_rows state vg names now = rows_where_found state.group vg (found_rows state vg names now)
 
 -- the physical volumes follow those of the group, and its next version is committed
 abbrev pub vgextend_change : GroupState → Group → List (List ℕ) → Change

@@ -4,6 +4,7 @@ ghost use Rattle.group_ops.specs.Added.{IsAdded, added_named, added_of, added_on
 ghost use Rattle.group_ops.specs.Judging.{IsRefusedBy, is_small, need_of, unknown_row};
 ghost use Rattle.group_ops.specs.State.{IsState};
 
+use crate::copied::copied_text;
 use crate::{GroupState, PlanRefusal};
 use disk_contents::PvFound;
 use lvm_script::OpRefusal;
@@ -163,26 +164,4 @@ fn copied_areas(alloc: Global, areas: &Extents) -> Result<Extents, AllocError>
     ensures { IfOk result (λ copy. copy ≡ areas.now) }
 {
     Ok(ItemList::from_vec(Vec::from_slice(alloc, areas.as_slice())?))
-}
-
-/// The same text again.
-///
-/// # Errors
-///
-/// Where memory is wanting.
-pub(crate) fn copied_text(alloc: Global, text: &Text) -> Result<Text, AllocError>
-    ensures { IfOk result (λ copy. copy ≡ text.now) }
-{
-    copied_bytes(alloc, text.as_bytes())
-}
-
-/// The text of these bytes.
-///
-/// # Errors
-///
-/// Where memory is wanting.
-pub(crate) fn copied_bytes(alloc: Global, bytes: &[u8]) -> Result<Text, AllocError>
-    ensures { IfOk result (λ text. text ≡ bytes.now) }
-{
-    Ok(Text::from_vec(Vec::from_slice(alloc, bytes)?))
 }

@@ -5,7 +5,7 @@ ghost use Rattle.vg_found.specs.Disks.{has_header_id};
 ghost use Rattle.group_ops.specs.Added.{IsAdded};
 ghost use Rattle.group_ops.specs.Judging.{Judges, area_row, large_row, many_row, set_of, small_row, stands_on_disk, used_row};
 
-use crate::added::copied_text;
+use crate::copied::copied_text;
 use crate::ids::same_id;
 use crate::{Added, PlanRefusal};
 use disk_contents::PvFound;

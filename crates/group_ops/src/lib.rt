@@ -6,17 +6,25 @@
 #![tactic(auto)]
 
 mod added;
+mod committing;
+mod copied;
 mod ids;
 mod judging;
 mod laws;
+mod lvreduce;
+mod lvremove;
+mod lvrename;
 mod naming;
 mod new_group;
 mod planning;
 mod pvcreate;
 mod refusal;
+mod sizes;
 mod state;
 mod vgcreate;
 mod vgextend;
+mod vgrename;
+mod volumes;
 
 pub use added::{Added, copied_header};
 pub use laws::{change_is_placed, whole_is_state};

@@ -53,9 +53,9 @@ pub(crate) fn commit(
     })
 }
 
-// The stored size of the group's text at this time.
+/// The stored size of the group's text at this time.
 #[tactic(auto, unfolding(crate::specs::Judging::stored_size))]
-fn text_size(group: &Checked, now: u64) -> u64
+pub(crate) fn text_size(group: &Checked, now: u64) -> u64
     ensures size { result ≡ stored_size group.now now }
     ensures some { 1 ≤ result }
 {

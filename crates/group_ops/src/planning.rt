@@ -4,9 +4,13 @@ ghost use Rattle.lvm_id.specs.LvmId.{IsId};
 ghost use Rattle.group_ops.specs.Planning.{IsPlanned, Plans, change_of, rows_of};
 ghost use Rattle.group_ops.specs.State.{IsState};
 
+use crate::lvreduce::plan_lvreduce;
+use crate::lvremove::plan_lvremove;
+use crate::lvrename::plan_lvrename;
 use crate::pvcreate::plan_pvcreate;
 use crate::vgcreate::plan_vgcreate;
 use crate::vgextend::plan_vgextend;
+use crate::vgrename::plan_vgrename;
 use crate::{Change, GroupState, PlanRefusal};
 use lvm_id::LvmId;
 use lvm_script::{Command, Line};
@@ -43,6 +47,10 @@ pub fn plan(alloc: Global, state: &GroupState, line: &Line, now: u64) -> Result<
             now,
         ),
         Command::Vgextend { vg, pvs } => plan_vgextend(alloc, state, vg, pvs.as_slice(), now),
+        Command::Vgrename { vg, new } => plan_vgrename(alloc, state, vg, new, now),
+        Command::Lvreduce { path, amount } => plan_lvreduce(alloc, state, path, *amount, now),
+        Command::Lvremove { path } => plan_lvremove(alloc, state, path, now),
+        Command::Lvrename { vg, old, new } => plan_lvrename(alloc, state, vg, old, new, now),
         _ => unreachable!(),
     }
 }

@@ -5,7 +5,7 @@ ghost use Rattle.group_ops.specs.Judging.{Judges, first_refusal, stands_on_disk}
 ghost use Rattle.group_ops.specs.Pvcreate.{disk_rows, group_has, is_listed, label_sector, new_areas, new_header, new_label, pvcreate_change, pvcreate_rows};
 ghost use Rattle.group_ops.specs.State.{IsState};
 
-use crate::added::copied_text;
+use crate::copied::{copied_disks, copied_text};
 use crate::ids::has_id;
 use crate::judging::{set_of, stands_on_disk};
 use crate::{Change, GroupState, Labels, NewLabel, PlanRefusal};
@@ -13,7 +13,7 @@ use disk_contents::PvFound;
 use lvm_id::LvmId;
 use lvm_script::OpRefusal;
 use pv_header::{Extent, Extents, PvHeader};
-use sector_base::{PvDisks, PvSet, Text};
+use sector_base::{PvSet, Text};
 use std::alloc::{AllocError, Global};
 use vg_found::Disk;
 
@@ -165,10 +165,4 @@ fn new_areas(alloc: Global, copies: u64) -> Result<Extents, AllocError>
         })?;
     }
     Ok(Extents::from_vec(list))
-}
-
-fn copied_disks(alloc: Global, disks: &PvDisks) -> Result<PvDisks, AllocError>
-    ensures { IfOk result (λ copy. copy ≡ disks.now) }
-{
-    Ok(PvDisks::from_vec(Vec::from_slice(alloc, disks.as_slice())?))
 }

@@ -9,12 +9,12 @@ ghost use Rattle.group_ops.specs.Planning.{Plans};
 ghost use Rattle.group_ops.specs.State.{IsState};
 ghost use Rattle.group_ops.specs.Vgcreate.{IsEmptyGroup, create_rows, empty_group, new_rows, vgcreate_change, vgcreate_rows};
 
-use crate::added::{copied_bytes, find_all_added};
+use crate::added::find_all_added;
+use crate::copied::{copied_bytes, group_name};
 use crate::judging::{judge_areas, judge_count, judge_sizes, judge_used, stands_on_disk};
 use crate::new_group::{commit, disks_with};
 use crate::{Added, Change, GroupState, PlanRefusal};
 use lvm_id::LvmId;
-use lvm_name::{GroupName, NameRefusal};
 use lvm_script::OpRefusal;
 use meta_model::{Group, LvTable, PvTable, VgStatus};
 use sector_base::Text;
@@ -93,18 +93,6 @@ fn empty_group(alloc: Global, id: &LvmId, vg: &Text, extent_size: u64) -> Result
         pvs: PvTable::new(alloc),
         lvs: LvTable::new(alloc),
     })
-}
-
-// The name of the group.
-fn group_name(alloc: Global, vg: &Text) -> Result<GroupName, AllocError>
-    requires { group_name_refusal vg.now ≡ None }
-    ensures { IfOk result (λ name. name ≡ vg.now) }
-{
-    match GroupName::new(alloc, vg.as_bytes()) {
-        Ok(name) => Ok(name),
-        Err(NameRefusal::NoMemory) => Err(AllocError),
-        Err(_) => unreachable!(),
-    }
 }
 
 // The rows on the physical volumes of the group, whose own are none yet.

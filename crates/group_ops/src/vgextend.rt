@@ -1,26 +1,23 @@
 //! vgextend(8): its refusals, in their order, and its change.
-ghost use Rattle.std.specs.Prelude.{◌≡◌, ◌==◌, ◌≤◌, ◌<◌, ◌^◌, Some, All, IfOk, length};
-ghost use Rattle.lvm_script.specs.declared.op_refusal.OpRefusal.TheVariants.{SeqnoEnd};
-ghost use Rattle.scan_rules.specs.Decision.{same_bytes};
+ghost use Rattle.std.specs.Prelude.{◌≡◌, ◌≤◌, ◌<◌, ◌^◌, Some, All, length};
 ghost use Rattle.group_ops.specs.Added.{IsAdded};
-ghost use Rattle.group_ops.specs.Judging.{Judges, first_refusal, refused_if};
+ghost use Rattle.group_ops.specs.Judging.{Judges, first_refusal};
 ghost use Rattle.group_ops.specs.Planning.{Plans, extend_by};
 ghost use Rattle.group_ops.specs.State.{IsState};
-ghost use Rattle.group_ops.specs.Vgextend.{extend_rows, found_rows, group_rows, next_version, other_id_row, vgextend_change, vgextend_rows};
+ghost use Rattle.group_ops.specs.Vgextend.{extend_rows, found_rows, group_rows, other_id_row, vgextend_change, vgextend_rows};
 
-use crate::added::{copied_text, find_all_added};
+use crate::added::find_all_added;
+use crate::committing::{judge_name, judge_resizeable, judge_seqno, judge_write, unknown_group};
 use crate::ids::has_other_id;
 use crate::judging::{judge_areas, judge_count, judge_sizes, judge_used};
 use crate::new_group::{commit, disks_with};
 use crate::{Added, Change, GroupState, PlanRefusal};
+use group_edits::next_version;
 use lvm_script::OpRefusal;
 use meta_model::Group;
 use sector_base::Text;
-use std::alloc::{AllocError, Global};
+use std::alloc::Global;
 use vg_check::Checked;
-
-// The last number of a version.
-const LAST_SEQNO: u64 = 4_294_967_295;
 
 /// The change of a vgextend of the group of this name by the physical volumes on the disks with these names.
 ///
@@ -41,10 +38,7 @@ pub(crate) fn plan_vgextend(
 {
     match &state.group {
         Some(group) => extend(alloc, state, group, vg, names, now),
-        None => {
-            let name = copied_text(alloc, vg)?;
-            Err(PlanRefusal::Refused(OpRefusal::UnknownGroup(name)))
-        }
+        None => Err(unknown_group(alloc, vg)),
     }
 }
 
@@ -69,38 +63,17 @@ fn extend(
     commit(alloc, state, base, state.disk_of.as_slice(), all, now)
 }
 
-// The next version of the group.
-fn next_version(alloc: Global, group: &Checked) -> Result<Group, AllocError>
-    requires { group.now.seqno ≤ 4294967295 }
-    ensures { IfOk result (λ next. next ≡ next_version group.now) }
-{
-    let mut next = group.copy(alloc)?.into_group();
-    next.seqno += 1;
-    Ok(next)
-}
-
-// The rows on the group.
-fn judge_group(alloc: Global, group: &Group, vg: &Text) -> Result<(), PlanRefusal>
+/// The group has this name, may be changed, and takes and gives physical volumes.
+///
+/// # Errors
+///
+/// `UnknownGroup`, `ReadOnly` or `NotResizeable`: the first of these. `NoMemory` where memory is wanting.
+pub(crate) fn judge_group(alloc: Global, group: &Group, vg: &Text) -> Result<(), PlanRefusal>
     ensures { Judges result (first_refusal (group_rows group.now vg.now)) }
 {
-    if !is_named(group, vg) {
-        let name = copied_text(alloc, vg)?;
-        return Err(PlanRefusal::Refused(OpRefusal::UnknownGroup(name)));
-    }
-    if !group.status.write {
-        return Err(PlanRefusal::Refused(OpRefusal::ReadOnly));
-    }
-    if !group.status.resizeable {
-        return Err(PlanRefusal::Refused(OpRefusal::NotResizeable));
-    }
-    Ok(())
-}
-
-// Whether the group has the name.
-fn is_named(group: &Group, vg: &Text) -> bool
-    ensures { result ≡ same_bytes group.now.name vg.now }
-{
-    group.name.as_bytes() == vg.as_bytes()
+    judge_name(alloc, group, vg)?;
+    judge_write(group)?;
+    judge_resizeable(group)
 }
 
 // The rows on the physical volumes that are added to the group.
@@ -122,18 +95,8 @@ fn judge_added(
     judge_sizes(group.extent_size, all)?;
     let count = group.pvs.len() + all.len();
     judge_count(group.max_pv, count as u64)?;
-    judge_seqno(group.seqno)?;
+    judge_seqno(group)?;
     judge_ids(group, all)
-}
-
-// There is a number for a further version.
-fn judge_seqno(seqno: u64) -> Result<(), PlanRefusal>
-    ensures { Judges result (refused_if (seqno == 4294967295) SeqnoEnd) }
-{
-    if seqno == LAST_SEQNO {
-        return Err(PlanRefusal::Refused(OpRefusal::SeqnoEnd));
-    }
-    Ok(())
 }
 
 // None of these has an id of the group or of a logical volume.

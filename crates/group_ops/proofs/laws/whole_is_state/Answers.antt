@@ -1,6 +1,4 @@
 use Rattle.group_ops.proofs.WholeState as lemma
-use Rattle.group_ops.proofs.Accepted as accepted
-use Rattle.group_ops.proofs.Chained as chained
 use Rattle.group_ops.proofs.laws.whole_is_state.Goals as goal
 
 pub returns : goal.returns

@@ -14,7 +14,8 @@ use Rattle.group_ops.specs.Added.{IsAdded, added_of, disks_added}
 use Rattle.group_ops.specs.Judging.{IsRefusedBy, first_refusal, unknown_row}
 use Rattle.group_ops.specs.NewGroup.{change_with, text_row}
 use Rattle.group_ops.specs.Planning.{Plans}
-use Rattle.group_ops.specs.Vgextend.{extend_rows, group_rows, next_version}
+use Rattle.group_edits.specs.NextVersion.{next_version}
+use Rattle.group_ops.specs.Vgextend.{extend_rows, group_rows}
 use Rattle.group_ops.specs.declared.added.Added.{Added}
 use Rattle.group_ops.specs.declared.refusal.PlanRefusal.{PlanRefusal}
 use Rattle.group_ops.specs.declared.state.Change.{Change}
@@ -60,11 +61,6 @@ returns-in_err-judge_added c =
     (refused_front (extend_rows c.args.state.now c.args.group.now (added_of c.args.state.now c.args.names.now))
     (text_row c.args.state.now (next_version c.args.group.now) c.args.state.now.disk_of (added_of c.args.state.now c.args.names.now) c.args.now ∷ []) _
     (subst (λ (l : List Added). IsRefusedBy (first_refusal (extend_rows c.args.state.now c.args.group.now l)) c.in_err-judge_added.field-0.0) (c.deref.ensures.value ∙ c.in_ok-all.ensures.1) refused))))
-
-pub next_version-requires : goal.next_version-requires
-next_version-requires c =
-    let accepted : IsAccepted c.args.group.now = subst IsAccepted c.group-found.ensures.group c.group-found.ensures.accepted in
-    (accepted Numbers).seqno.1
 
 pub commit-requires-clause-few : goal.commit-requires-clause-few
 commit-requires-clause-few c =

@@ -1,7 +1,7 @@
 use Rattle.std.proofs.Common.{ℕ, List, ap, ◌∙◌}
 use Rattle.scan_rules.specs.Decision.{same_bytes}
 use Rattle.scan_rules.proofs.SameLists.{pointwise-same_bytes}
-use Rattle.group_ops.proofs.vgextend.is_named.Goals as goal
+use Rattle.group_ops.proofs.committing.is_named.Goals as goal
 
 pub returns : goal.returns
 returns c =

@@ -1,0 +1,58 @@
+-- lvreduce(8): the rows of its refusals, and its change.
+use Rattle.std.specs.Prelude.{ℕ, nat_le, List, [], ◌∷◌, ◌++◌, Option}
+use Rattle.std.specs.Option.{option_map_or}
+use Rattle.lvm_script.specs.declared.amount.Amount.{Amount}
+use Rattle.lvm_script.specs.declared.command.Path.{Path}
+use Rattle.lvm_script.specs.declared.op_refusal.OpRefusal.{OpRefusal}
+use Rattle.lvm_script.specs.declared.op_refusal.OpRefusal.TheVariants.{NotShorter}
+use Rattle.meta_model.specs.declared.group.Group.{Group}
+use Rattle.meta_model.specs.declared.lv.Lv.{Lv}
+use Rattle.volume_rules.specs.Extents.{extents_of}
+use Rattle.group_edits.specs.ShortenedVolume.{kept_of, shortened_volume}
+use Rattle.group_edits.specs.Visible.{visible_named}
+use Rattle.group_ops.specs.Committing.{change_where_found, length_row, named_rows, no_area_row, no_change, rows_where_found, seqno_row, version_change}
+use Rattle.group_ops.specs.Judging.{refused_if}
+use Rattle.group_ops.specs.Sizes.{extents_for}
+use Rattle.group_ops.specs.Volumes.{layered_row, locked_row, rows_on}
+use Rattle.group_ops.specs.declared.state.Change.{Change}
+use Rattle.group_ops.specs.declared.state.GroupState.{GroupState}
+
+-- how many extents the volume keeps, where they have so many sectors
+abbrev pub kept_by : ℕ → Amount → Lv → ℕ
+kept_by extent_size amount lv = kept_of lv.segments (extents_for extent_size amount)
+
+-- this group, in which this volume of this name keeps so much
+abbrev pub reduced_group : List ℕ → Amount → Group → Lv → Group
+reduced_group name amount group lv = shortened_volume name (kept_by group.extent_size amount lv) group
+
+-- a volume with so many extents would keep as many, or more
+abbrev pub shorter_row : ℕ → ℕ → Option OpRefusal
+shorter_row kept has = refused_if (nat_le has kept) (NotShorter kept has)
+
+-- the rows on the volume with this number
+abbrev pub reduce_lv_rows : GroupState → List ℕ → Amount → ℕ → Group → ℕ × Lv → List (Option OpRefusal)
+reduce_lv_rows state name amount now group volume =
+    locked_row group name volume.0
+    ∷ layered_row name volume.1
+    ∷ no_area_row state
+    ∷ shorter_row (kept_by group.extent_size amount volume.1) (extents_of volume.1)
+    ∷ seqno_row group
+    ∷ length_row state (reduced_group name amount group volume.1) now
+    ∷ []
+
+-- the rows where this group was found
+abbrev pub reduce_in_rows : GroupState → Path → Amount → ℕ → Group → List (Option OpRefusal)
+reduce_in_rows state path amount now group = named_rows group path.vg ++ rows_on group path.lv (reduce_lv_rows state path.lv amount now group)
+
+-- all rows
+abbrev pub lvreduce_rows : GroupState → Path → Amount → ℕ → List (Option OpRefusal)
+lvreduce_rows state path amount now = rows_where_found state.group path.vg (reduce_in_rows state path amount now)
+
+-- the visible volume of this name, where this group has one, keeps so much
+abbrev pub reduce_change : GroupState → List ℕ → Amount → Group → Change
+reduce_change state name amount group =
+    option_map_or (λ (volume : ℕ × Lv). version_change state (reduced_group name amount group volume.1)) (visible_named group name) (no_change state)
+
+-- so it does in the group that was found
+abbrev pub lvreduce_change : GroupState → List ℕ → Amount → Change
+lvreduce_change state name amount = change_where_found state (reduce_change state name amount)
