@@ -1,5 +1,5 @@
--- The lines that commit a group: vgcreate where none was found, and vgextend where one was.
-use Rattle.std.proofs.Common.{◌≡◌, ◌≤◌, ℕ, ◌%◌, ◌^◌, List, [], ◌∷◌, ◌++◌, Option, Some, None, refl, sym, ap, subst, ◌∙◌, arith}
+-- The lines that commit a group: vgcreate where none was found, vgextend and those of a next version where one was.
+use Rattle.std.proofs.Common.{◌≡◌, ◌≤◌, ℕ, ◌%◌, ◌^◌, List, [], ◌∷◌, ◌++◌, map, Option, Some, None, refl, sym, ap, subst, ◌∙◌, arith}
 use Rattle.std.specs.Prelude.{IfSome, IsSomeAnd, unwrap_or}
 use Rattle.std.specs.List.{AllByRecursion as Each}
 use Rattle.std.specs.Option.{option_map_or, option_or}
@@ -10,24 +10,28 @@ use Rattle.lvm_script.specs.declared.op_refusal.OpRefusal.{OpRefusal}
 use Rattle.lvm_script.specs.declared.op_refusal.OpRefusal.TheVariants.{GroupStands, UnknownGroup}
 use Rattle.meta_model.specs.Standing.{HasTree}
 use Rattle.meta_model.specs.declared.group.Group.{Group}
+use Rattle.meta_model.specs.declared.pv.Pv.{Pv}
 use Rattle.scan_rules.specs.Decision.{Reading}
 use Rattle.scan_rules.specs.Found.{missing_of}
 use Rattle.volume_rules.specs.Rules.{IsAccepted}
 use Rattle.vg_found.specs.declared.found.Found.{Found}
-use Rattle.vg_found.specs.Disks.{disks_of, shapes}
+use Rattle.vg_found.specs.Disks.{disk_with, disks_of, shapes}
 use Rattle.vg_found.specs.Shape.{HasShape}
 use Rattle.vg_found.specs.Whole.{IsWhole as FoundIsWhole}
-use Rattle.group_ops.proofs.Accepted.{IsWhole, created, next_is_whole}
+use Rattle.group_edits.proofs.Whole.{IsWhole}
+use Rattle.group_ops.proofs.Accepted.{created, next_is_whole}
+use Rattle.group_ops.proofs.NextVersions.{CommitsNext, version_is}
 use Rattle.group_ops.specs.Added.{added_of}
 use Rattle.group_ops.specs.Judging.{first_refusal}
 use Rattle.group_ops.specs.Laws.{state_in}
 use Rattle.group_ops.specs.NewGroup.{change_with, extended, text_row}
 use Rattle.group_ops.specs.State.{IsState}
 use Rattle.group_ops.specs.Vgcreate.{create_rows, empty_group, new_rows}
-use Rattle.group_ops.specs.Vgextend.{extend_rows, found_rows, next_version}
+use Rattle.group_edits.specs.NextVersion.{next_version}
+use Rattle.group_ops.specs.Vgextend.{extend_rows, found_rows}
 use Rattle.group_ops.specs.declared.state.Change.{Change}
 use Rattle.group_ops.specs.declared.state.GroupState.{GroupState}
-use Rattle.vg_change.proofs.Rows.{none_holds}
+use Rattle.group_ops.proofs.Rows.{none_holds}
 use Rattle.image_scans.proofs.Again.{all_there}
 use Rattle.image_scans.proofs.CommitScans.{IsNext}
 use Rattle.image_scans.proofs.MadeGroup.{MakesGroup}
@@ -120,3 +124,22 @@ vgextend_commits found names shape whole is readings settled vg pvs now group th
       makes = makes_group state is (next_version group) found.disk_of pvs (record { disks_xl = sym listed; there = all_there (shapes found.disks) group.pvs (none_missing_of found shape whole group there) }) good;
       next = subst (λ (o : Option Group). IsNext o (extended (next_version group) (added_of state pvs))) (sym there) (refl, omega arith);
     }
+
+-- ---- the next version, on the disks of the group
+
+pub next_commits : (found : Found) (names : List (List ℕ)) → HasShape found → FoundIsWhole found → IsState (state_in found names) → (readings : List Reading) → IsSettledScan readings found → (change : Change) (now : ℕ)
+    → CommitsNext (state_in found names) change now → Commits found (state_in found names) change
+unfolding extended
+next_commits found names shape whole is readings settled change now made =
+    let state : GroupState = state_in found names in
+    let there : found.group ≡ Some made.old = made.there in
+    let listed : found.disk_of ≡ disks_of made.old found.disks = subst (λ (o : Option Group). IfSome o (λ g. found.disk_of ≡ disks_of g found.disks)) there shape.disk_of in
+    let old = old_whole readings found settled made.old there in
+    let pvs : disks_of made.next found.disks ≡ disks_of made.old found.disks = ap (λ (l : List (List ℕ × Pv)). map (λ (pv : List ℕ × Pv). disk_with found.disks pv.1.id) l) made.same_pvs in
+    let present : missing_of (shapes found.disks) made.next.pvs ≡ [] = ap (missing_of (shapes found.disks)) made.same_pvs ∙ none_missing_of found shape whole made.old there in
+    subst (Commits found state) (version_is state made.next ∙ sym made.change_xl)
+    (record {
+      group = extended made.next (added_of state []);
+      makes = makes_group state is made.next found.disk_of [] (record { disks_xl = pvs ∙ sym listed; there = all_there (shapes found.disks) made.next.pvs present }) (made.whole old.0 old.1);
+      next = subst (λ (o : Option Group). IsNext o made.next) (sym there) (sym made.same_id, omega (arith, made.next_seqno));
+    })

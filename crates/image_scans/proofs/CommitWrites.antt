@@ -1,5 +1,5 @@
 -- What the batches of a commit write: sectors of its areas, and their headers before and after the text is published.
-use Rattle.std.proofs.Common.{◌≡◌, ◌≤◌, ◌<◌, ◌⊎◌, ℕ, ◌+◌, ◌-◌, ◌/◌, IsTrue, List, [], ◌∷◌, length, map, get_or, Option, inl, inr, sym, arith}
+use Rattle.std.proofs.Common.{◌≡◌, ◌≤◌, ◌<◌, ◌⊎◌, ℕ, ◌+◌, ◌/◌, IsTrue, List, [], ◌∷◌, length, map, get_or, Option, inl, inr, sym, arith}
 use Rattle.std.specs.Prelude.{All}
 use Rattle.sector_base.specs.Spans.{covers}
 use Rattle.disk_batch.specs.Writes.{IsWrittenBy}

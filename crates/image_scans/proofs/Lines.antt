@@ -1,12 +1,12 @@
 -- What a line makes: a version of the group, a new physical volume, or nothing.
-use Rattle.std.proofs.Common.{◌≡◌, ◌≤◌, ℕ, ◌||◌, nat_lt, false, List, [], ◌∷◌, Option, Some, None, refl}
+use Rattle.std.proofs.Common.{◌≡◌, ◌≤◌, ℕ, ◌||◌, nat_lt, true, false, List, [], ◌∷◌, Option, Some, None, refl}
 use Rattle.std.specs.Prelude.{slice_get, unwrap_or}
 use Rattle.std.specs.Option.{option_map_or}
 use Rattle.std.proofs.lemmas.Bool.{ltb-false}
 use Rattle.disk_model.specs.Steps.{Image}
 use Rattle.lvm_script.specs.Options.{number_named}
 use Rattle.lvm_script.specs.declared.command.Command.{Command}
-use Rattle.lvm_script.specs.declared.command.Command.TheVariants.{Pvcreate, Vgcreate, Vgextend}
+use Rattle.lvm_script.specs.declared.command.Command.TheVariants.{Lvreduce, Lvremove, Lvrename, Pvcreate, Vgcreate, Vgextend, Vgrename}
 use Rattle.lvm_script.specs.declared.line.Line.{Line}
 use Rattle.lvm_script.specs.declared.op_refusal.OpRefusal.{OpRefusal}
 use Rattle.lvm_script.specs.declared.op_refusal.OpRefusal.TheVariants.{IdTaken, PvUsed, TooSmall, UnknownGroup, UnknownPv}
@@ -16,6 +16,7 @@ use Rattle.vg_found.specs.declared.disk.Disk.{Disk}
 use Rattle.vg_found.specs.declared.found.Found.{Found}
 use Rattle.vg_found.specs.Shape.{HasShape}
 use Rattle.vg_found.specs.Whole.{IsWhole}
+use Rattle.group_ops.proofs.NextVersions.{commits_next, is_next}
 use Rattle.group_ops.proofs.Passed.{both_false}
 use Rattle.group_ops.specs.Judging.{first_refusal, stands_on_disk}
 use Rattle.group_ops.specs.Laws.{state_in}
@@ -25,9 +26,9 @@ use Rattle.group_ops.specs.State.{IsState}
 use Rattle.group_ops.specs.Vgextend.{found_rows}
 use Rattle.group_ops.specs.declared.state.Change.{Change}
 use Rattle.group_ops.specs.declared.state.GroupState.{GroupState}
-use Rattle.vg_change.proofs.Rows.{none_holds, test_fails}
+use Rattle.group_ops.proofs.Rows.{none_holds, test_fails}
 use Rattle.image_scans.specs.Laws.{CanCarryOut}
-use Rattle.image_scans.proofs.CommitCommands.{Commits, vgcreate_commits, vgextend_commits}
+use Rattle.image_scans.proofs.CommitCommands.{Commits, next_commits, vgcreate_commits, vgextend_commits}
 use Rattle.image_scans.proofs.CommitLine.{is_state, settled}
 use Rattle.image_scans.proofs.SettledBase.{IsSettledScan}
 
@@ -89,6 +90,13 @@ extend_line : (found : Found) (names : List (List ℕ)) → HasShape found → I
 extend_line found names shape whole is readings scan vg pvs now None there none = absurd cc
 extend_line found names shape whole is readings scan vg pvs now (Some group) there none = makes_version (vgextend_commits found names shape whole is readings scan vg pvs now group there none)
 
+next_line : (found : Found) (names : List (List ℕ)) → HasShape found → IsWhole found → IsState (state_in found names) → (readings : List Reading) → IsSettledScan readings found → (number : ℕ) (id : Option (List ℕ)) (command : Command) (now : ℕ)
+    → IsPlanned id command → is_next command ≡ true → refusal_of (state_in found names) (record { number = number; id = id; command = command }) now ≡ None
+    → LineMakes found (state_in found names) (change_of (state_in found names) (record { number = number; id = id; command = command }))
+next_line found names shape whole is readings scan number id command now planned next none =
+    makes_version
+    (next_commits found names shape whole is readings scan (change_of (state_in found names) (record { number = number; id = id; command = command })) now (commits_next (state_in found names) number id command now planned next none))
+
 by_command : (found : Found) (names : List (List ℕ)) → HasShape found → IsWhole found → IsState (state_in found names) → (readings : List Reading) → IsSettledScan readings found → (number : ℕ) (id : Option (List ℕ)) (command : Command) (now : ℕ)
     → IsPlanned id command → refusal_of (state_in found names) (record { number = number; id = id; command = command }) now ≡ None
     → LineMakes found (state_in found names) (change_of (state_in found names) (record { number = number; id = id; command = command }))
@@ -96,6 +104,10 @@ by_command found names shape whole is readings scan number id (Pvcreate pv copie
     by_name found (state_in found names) (unwrap_or id []) pv copies (number_named names pv) none (pvcreate_change (state_in found names) (unwrap_or id []) pv copies) refl refl
 by_command found names shape whole is readings scan number id (Vgcreate vg extent_size pvs) now planned none = makes_version (vgcreate_commits found names is id vg extent_size pvs now planned none)
 by_command found names shape whole is readings scan number id (Vgextend vg pvs) now planned none = extend_line found names shape whole is readings scan vg pvs now found.group refl none
+by_command found names shape whole is readings scan number id (Vgrename vg new) now planned none = next_line found names shape whole is readings scan number id (Vgrename vg new) now planned refl none
+by_command found names shape whole is readings scan number id (Lvreduce path amount) now planned none = next_line found names shape whole is readings scan number id (Lvreduce path amount) now planned refl none
+by_command found names shape whole is readings scan number id (Lvremove path) now planned none = next_line found names shape whole is readings scan number id (Lvremove path) now planned refl none
+by_command found names shape whole is readings scan number id (Lvrename vg old new) now planned none = next_line found names shape whole is readings scan number id (Lvrename vg old new) now planned refl none
 by_command found names shape whole is readings scan number id command now planned none = absurd planned
 
 pub line_makes : (base : Image) (sizes : List ℕ) (found : Found) (names : List (List ℕ)) (line : Line) (now : ℕ) → CanCarryOut base sizes found names line now → LineMakes found (state_in found names) (change_of (state_in found names) line)

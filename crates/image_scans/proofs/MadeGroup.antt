@@ -10,7 +10,7 @@ use Rattle.scan_rules.specs.Decision.{lists}
 use Rattle.scan_rules.specs.Found.{is_missing}
 use Rattle.vg_found.specs.declared.disk.Disk.{Disk}
 use Rattle.vg_found.specs.Disks.{disks_of, header_on, shapes}
-use Rattle.group_ops.proofs.Accepted.{IsWhole}
+use Rattle.group_edits.proofs.Whole.{IsWhole}
 use Rattle.group_ops.specs.Added.{disks_added, label_of, pv_in}
 use Rattle.group_ops.specs.declared.added.Added.{Added}
 use Rattle.group_ops.specs.declared.state.Change.{Change}

@@ -19,7 +19,7 @@ use Rattle.scan_rules.proofs.Scanning.{same_bytes_tells, same_bytes_to}
 use Rattle.vg_found.specs.declared.disk.Disk.{Disk}
 use Rattle.vg_found.specs.Disks.{disk_shape, disk_with, disks_of, has_header_id, header_on, pv_shape, shapes}
 use Rattle.vg_found.proofs.KeptLists.{all_kept}
-use Rattle.group_ops.proofs.Accepted.{IsWhole}
+use Rattle.group_edits.proofs.Whole.{IsWhole}
 use Rattle.group_ops.proofs.Disks.{disk_with_own}
 use Rattle.group_ops.specs.Added.{added_at, added_named, added_of, added_on, disks_added, pv_in, pv_of}
 use Rattle.group_ops.specs.NewGroup.{change_with, extended, free_number, names_in, pv_name, with_added}

@@ -2,8 +2,8 @@
 ghost use Rattle.image_scans.specs.Laws.{BaseScans, ImagesScan, LastScans, PlacesAreKept, PlacesAreOutside, UnpublishedScans, ViewIsKept};
 
 /// A scan of an image on the way of a line finds the version of the group that was found before or the new one: the former
-/// until the last batch of its commit is begun, and once all is written the new one. Where the line makes a new physical volume it finds the version that was found, on the way with
-/// that disk left out, and at the end without leaving it out.
+/// until the last batch of its commit is begun, and once all is written the new one. Where the line makes a new physical
+/// volume it finds the version that was found, on the way with that disk left out, and at the end without leaving it out.
 pub fn change_scans()
     ensures base { BaseScans }
     ensures on_the_way { ImagesScan }

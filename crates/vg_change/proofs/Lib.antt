@@ -15,7 +15,6 @@ pub mod LabelPuts
 pub mod LabelsRead
 pub mod LineImages
 pub mod LineLabels
-pub mod Rows
 pub mod Sound
 pub mod SoundCommit
 pub mod SoundPvcreate

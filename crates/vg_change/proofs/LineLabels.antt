@@ -8,7 +8,7 @@ use Rattle.std.proofs.lemmas.Option.{same_Some}
 use Rattle.lvm_id.specs.LvmId.{IsId}
 use Rattle.lvm_script.specs.Options.{number_named}
 use Rattle.lvm_script.specs.declared.command.Command.{Command}
-use Rattle.lvm_script.specs.declared.command.Command.TheVariants.{Pvcreate, Vgcreate, Vgextend}
+use Rattle.lvm_script.specs.declared.command.Command.TheVariants.{Lvreduce, Lvremove, Lvrename, Pvcreate, Vgcreate, Vgextend, Vgrename}
 use Rattle.lvm_script.specs.declared.line.Line.{Line}
 use Rattle.disk_model.specs.Steps.{Image}
 use Rattle.disk_batch.specs.InTurn.{Put, with_batches, with_writes}
@@ -29,6 +29,7 @@ use Rattle.vg_found.specs.declared.disk.Disk.{Disk}
 use Rattle.vg_found.specs.Disks.{header_on}
 use Rattle.vg_found.specs.Shape.{ContentsCanStand, IsDisk}
 use Rattle.group_ops.proofs.AddedFacts.{IsFoundOn, all_found}
+use Rattle.group_ops.proofs.NextVersions.{is_next, next_labels}
 use Rattle.group_ops.specs.Added.{added_of, label_of}
 use Rattle.group_ops.specs.Planning.{IsPlanned, change_of, extend_by}
 use Rattle.group_ops.specs.Pvcreate.{label_sector, new_label}
@@ -65,6 +66,10 @@ new_of : (state : GroupState) (number : ℕ) (id : Option (List ℕ)) (command :
 new_of state number id (Pvcreate pv copies) none = new_by state.disks (unwrap_or id []) copies (number_named state.names pv)
 new_of state number id (Vgcreate vg extent_size pvs) none = absurd cc
 new_of state number id (Vgextend vg pvs) none = extend_new state state.group pvs none
+new_of state number id (Vgrename vg new) none = inl (next_labels state number id (Vgrename vg new) refl)
+new_of state number id (Lvreduce path amount) none = inl (next_labels state number id (Lvreduce path amount) refl)
+new_of state number id (Lvremove path) none = inl (next_labels state number id (Lvremove path) refl)
+new_of state number id (Lvrename vg old new) none = inl (next_labels state number id (Lvrename vg old new) refl)
 new_of state number id command none = inl refl
 
 pub new_labels_are : (state : GroupState) (line : Line) → (change_of state line).group ≡ None → AreNew (change_of state line).labels
@@ -225,10 +230,17 @@ found_extend : (state : GroupState) → IsState state → (o : Option Group) (pv
 found_extend state is None pvs = All-nil HeaderIsFound
 found_extend state is (Some group) pvs = found_all state is pvs
 
+none_found : (state : GroupState) (number : ℕ) (id : Option (List ℕ)) (command : Command) → is_next command ≡ true → All HeaderIsFound (change_of state (record { number = number; id = id; command = command })).labels
+none_found state number id command is = subst (All HeaderIsFound) (sym (next_labels state number id command is)) (All-nil HeaderIsFound)
+
 found_of : (state : GroupState) → IsState state → (number : ℕ) (id : Option (List ℕ)) (command : Command) → IsPlanned id command → All HeaderIsFound (change_of state (record { number = number; id = id; command = command })).labels
 found_of state is number id (Pvcreate pv copies) planned = new_found state.disks (unwrap_or id []) copies (number_named state.names pv) (drawn_id id planned)
 found_of state is number id (Vgcreate vg extent_size pvs) planned = found_all state is pvs
 found_of state is number id (Vgextend vg pvs) planned = found_extend state is state.group pvs
+found_of state is number id (Vgrename vg new) planned = none_found state number id (Vgrename vg new) refl
+found_of state is number id (Lvreduce path amount) planned = none_found state number id (Lvreduce path amount) refl
+found_of state is number id (Lvremove path) planned = none_found state number id (Lvremove path) refl
+found_of state is number id (Lvrename vg old new) planned = none_found state number id (Lvrename vg old new) refl
 found_of state is number id command planned = absurd planned
 
 pub headers_found : (state : GroupState) (line : Line) → IsState state → IsPlanned line.id line.command → All HeaderIsFound (change_of state line).labels

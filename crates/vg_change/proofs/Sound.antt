@@ -1,21 +1,25 @@
 -- The change of a line that no row refuses can be made, and lies on the disks.
-use Rattle.std.proofs.Common.{◌≡◌, ◌<◌, ℕ, List, [], ◌∷◌, length, Option, Some, None, refl, subst}
+use Rattle.std.proofs.Common.{◌≡◌, ◌<◌, ℕ, List, [], ◌∷◌, ◌++◌, length, Option, Some, None, refl, sym, ap, subst, ◌∙◌}
 use Rattle.std.specs.Prelude.{All, IfSome, unwrap_or}
 use Rattle.std.specs.Option.{option_map_or}
 use Rattle.std.proofs.lemmas.List.Elements.{All-nil}
 use Rattle.lvm_script.specs.declared.command.Command.{Command}
-use Rattle.lvm_script.specs.declared.command.Command.TheVariants.{Pvcreate, Vgcreate, Vgextend}
+use Rattle.lvm_script.specs.declared.command.Command.TheVariants.{Lvreduce, Lvremove, Lvrename, Pvcreate, Vgcreate, Vgextend, Vgrename}
 use Rattle.lvm_script.specs.declared.line.Line.{Line}
 use Rattle.lvm_script.specs.declared.op_refusal.OpRefusal.TheVariants.{GroupStands, UnknownGroup}
 use Rattle.meta_model.specs.declared.group.Group.{Group}
-use Rattle.group_ops.specs.Judging.{first_refusal}
+use Rattle.group_ops.proofs.NextVersions.{CommitsNext, append_nil, commits_next, extended_none, version_is}
+use Rattle.group_ops.specs.Added.{added_of}
+use Rattle.group_ops.specs.Judging.{area_row, first_refusal, large_row, stored_size, used_row}
+use Rattle.group_ops.specs.NewGroup.{extended}
 use Rattle.group_ops.specs.Planning.{IsPlanned, change_of, extend_by, refusal_of}
 use Rattle.group_ops.specs.State.{IsState}
 use Rattle.group_ops.specs.Vgcreate.{empty_group, new_rows, vgcreate_change}
-use Rattle.group_ops.specs.Vgextend.{found_rows, next_version, vgextend_change}
+use Rattle.group_edits.specs.NextVersion.{next_version}
+use Rattle.group_ops.specs.Vgextend.{found_rows, vgextend_change}
 use Rattle.group_ops.specs.declared.state.Change.{Change}
 use Rattle.group_ops.specs.declared.state.GroupState.{GroupState}
-use Rattle.vg_change.proofs.Rows.{none_holds}
+use Rattle.group_ops.proofs.Rows.{none_holds}
 use Rattle.vg_change.proofs.SoundCommit.{commit_can_make, commit_lies_on}
 use Rattle.vg_change.proofs.SoundPvcreate.{pvcreate_can_make, pvcreate_lies_on}
 use Rattle.vg_change.specs.CarryingOut.{sizes_of}
@@ -57,6 +61,21 @@ vgextend_sound : (state : GroupState) → IsState state → (vg : List ℕ) (nam
 vgextend_sound state is vg names now None found none = absurd cc
 vgextend_sound state is vg names now (Some group) found none = found_sound state is vg names now group found none
 
+-- ---- the next version, on the disks of the group
+
+next_sound : (state : GroupState) → IsState state → (change : Change) (now : ℕ) → CommitsNext state change now → IsSound state change now
+unfolding used_row
+next_sound state is change now made =
+    let listed : All (λ n. n < length state.disks) state.disk_of = listed_there state made.old is made.there in
+    let same : state.disk_of ++ [] ≡ state.disk_of = append_nil state.disk_of in
+    subst (λ (c : Change). IsSound state c now) (version_is state made.next ∙ sym made.change_xl) (
+      commit_can_make state is made.next state.disk_of [] listed refl now
+          (ap (area_row state.areas) same ∙ made.has_area)
+          (ap (λ (disks : List ℕ). large_row state.areas disks (stored_size (extended made.next (added_of state [])) now)) same
+          ∙ ap (λ (g : Group). large_row state.areas state.disk_of (stored_size g now)) (extended_none state made.next) ∙ made.fits),
+      commit_lies_on state is made.next state.disk_of [] listed refl,
+    )
+
 -- ---- all commands
 
 sound_by : (state : GroupState) → IsState state → (number : ℕ) (id : Option (List ℕ)) (command : Command) (now : ℕ) → IsPlanned id command
@@ -65,6 +84,14 @@ sound_by state is number id (Pvcreate pv copies) now planned none =
     (pvcreate_can_make state is (unwrap_or id []) pv copies now, pvcreate_lies_on state is (unwrap_or id []) pv copies none)
 sound_by state is number id (Vgcreate vg extent_size pvs) now planned none = vgcreate_sound state is (empty_group (unwrap_or id []) vg extent_size) pvs now state.group none
 sound_by state is number id (Vgextend vg pvs) now planned none = vgextend_sound state is vg pvs now state.group refl none
+sound_by state is number id (Vgrename vg new) now planned none =
+    next_sound state is (change_of state (record { number = number; id = id; command = Vgrename vg new })) now (commits_next state number id (Vgrename vg new) now planned refl none)
+sound_by state is number id (Lvreduce path amount) now planned none =
+    next_sound state is (change_of state (record { number = number; id = id; command = Lvreduce path amount })) now (commits_next state number id (Lvreduce path amount) now planned refl none)
+sound_by state is number id (Lvremove path) now planned none =
+    next_sound state is (change_of state (record { number = number; id = id; command = Lvremove path })) now (commits_next state number id (Lvremove path) now planned refl none)
+sound_by state is number id (Lvrename vg old new) now planned none =
+    next_sound state is (change_of state (record { number = number; id = id; command = Lvrename vg old new })) now (commits_next state number id (Lvrename vg old new) now planned refl none)
 sound_by state is number id command now planned none = absurd planned
 
 pub can_make : (state : GroupState) (line : Line) (now : ℕ) → IsState state → IsPlanned line.id line.command → refusal_of state line now ≡ None → CanMake state.areas (change_of state line) now

@@ -19,7 +19,7 @@ use Rattle.group_ops.specs.State.{IsState}
 use Rattle.group_ops.specs.declared.state.GroupState.{GroupState}
 use Rattle.group_ops.specs.declared.state.NewLabel.{NewLabel}
 use Rattle.vg_change.proofs.HeldInDisks.{HasSize, has_size}
-use Rattle.vg_change.proofs.Rows.{none_holds, test_fails}
+use Rattle.group_ops.proofs.Rows.{none_holds, test_fails}
 use Rattle.vg_change.specs.CarryingOut.{sizes_of}
 use Rattle.vg_change.specs.Sound.{AreasLie, CanLabel, CanMake, IsOnDisk, LabelLies, LiesOn, header_sector}
 

@@ -1,5 +1,5 @@
 -- A text that no row refuses has room in each area that it is committed to.
-use Rattle.std.proofs.Common.{◌≡◌, ◌≤◌, ◌<◌, ℕ, ◌+◌, ◌-◌, ◌/◌, ◌^◌, Bool, true, false, ◌||◌, ◌&&◌, cond, ltb, min, List, [], ◌∷◌, length, Option, Some, None, refl, ap, subst, ◌∙◌, arith}
+use Rattle.std.proofs.Common.{◌≡◌, ◌≤◌, ◌<◌, ℕ, ◌+◌, ◌/◌, ◌^◌, Bool, true, false, ◌||◌, ◌&&◌, cond, ltb, min, List, [], ◌∷◌, length, Option, Some, None, refl, ap, subst, ◌∙◌, arith}
 use Rattle.std.specs.Prelude.{All, filter, find}
 use Rattle.std.specs.List.{list_any}
 use Rattle.std.specs.FinSet as set
@@ -18,7 +18,7 @@ use Rattle.lvm_script.specs.declared.op_refusal.OpRefusal.TheVariants.{NoArea, T
 use Rattle.vg_commit.specs.TooLarge.{first_too_large}
 use Rattle.group_ops.proofs.Passed.{no_map}
 use Rattle.group_ops.specs.Judging.{area_row, is_full, large_row, lies_on, set_of, stored_size}
-use Rattle.vg_change.proofs.Rows.{test_holds}
+use Rattle.group_ops.proofs.Rows.{test_holds}
 
 -- ---- one area
 
