@@ -8,7 +8,7 @@ use Rattle.disk_model.specs.Steps.{Image}
 use Rattle.disk_contents.specs.declared.contents.PvFound.{PvFound}
 use Rattle.disk_contents.specs.declared.contents.PvFound.TheVariants.{NoLabel, NoHeader, Whole}
 use Rattle.lvm_script.specs.declared.command.Command.{Command}
-use Rattle.lvm_script.specs.declared.command.Command.TheVariants.{Pvcreate, Vgcreate, Vgextend}
+use Rattle.lvm_script.specs.declared.command.Command.TheVariants.{Lvreduce, Lvremove, Lvrename, Pvcreate, Vgcreate, Vgextend, Vgrename}
 use Rattle.lvm_script.specs.declared.line.Line.{Line}
 use Rattle.lvm_script.specs.declared.op_refusal.OpRefusal.{OpRefusal}
 use Rattle.lvm_script.specs.declared.op_refusal.OpRefusal.TheVariants.{GroupStands}
@@ -22,6 +22,7 @@ use Rattle.vg_found.specs.declared.disk.Disk.{Disk}
 use Rattle.vg_found.specs.declared.found.Found.{Found}
 use Rattle.vg_scan.specs.Readings.{IsDiskReading, IsPvReading}
 use Rattle.group_ops.proofs.Disks.{disk_with_own}
+use Rattle.group_ops.proofs.NextVersions.{append_nil, commits_next, is_next}
 use Rattle.group_ops.proofs.Passed.{absent}
 use Rattle.group_ops.specs.Added.{added_of, disks_added}
 use Rattle.group_ops.specs.Judging.{first_refusal, set_of}
@@ -49,12 +50,21 @@ module _ (found : Found) (names : List (List ℕ)) (old : Group) (there : found.
   extends pvs None is = absurd (let e : ◌≡◌ {A = Option Group} (Some old) None = sym there ∙ is in cc)
   extends pvs (Some group) is = (disks_added (added_of (state_in found names) pvs), refl)
 
+  next_front : (number : ℕ) (id : Option (List ℕ)) (command : Command) (now : ℕ) → IsPlanned id command → is_next command ≡ true → refusal_of (state_in found names) (record { number = number; id = id; command = command }) now ≡ None
+      → HasFront (change_of (state_in found names) (record { number = number; id = id; command = command }))
+  next_front number id command now planned next passes =
+      let made = commits_next (state_in found names) number id command now planned next passes in ([], ap (λ (c : Change). c.disk_of) made.change_xl ∙ sym (append_nil found.disk_of))
+
   front_by : (number : ℕ) (id : Option (List ℕ)) (command : Command) (now : ℕ) → IsPlanned id command → refusal_of (state_in found names) (record { number = number; id = id; command = command }) now ≡ None
       → (group : Group) → (change_of (state_in found names) (record { number = number; id = id; command = command })).group ≡ Some group
       → HasFront (change_of (state_in found names) (record { number = number; id = id; command = command }))
   front_by number id (Pvcreate pv copies) now planned passes group is = absurd cc
   front_by number id (Vgcreate vg extent_size pvs) now planned passes group is = absurd (let e : ◌≡◌ {A = Option Group} (Some old) None = sym there ∙ none_found _ found.group passes in cc)
   front_by number id (Vgextend vg pvs) now planned passes group is = extends pvs found.group refl
+  front_by number id (Vgrename vg new) now planned passes group is = next_front number id (Vgrename vg new) now planned refl passes
+  front_by number id (Lvreduce path amount) now planned passes group is = next_front number id (Lvreduce path amount) now planned refl passes
+  front_by number id (Lvremove path) now planned passes group is = next_front number id (Lvremove path) now planned refl passes
+  front_by number id (Lvrename vg old new) now planned passes group is = next_front number id (Lvrename vg old new) now planned refl passes
   front_by number id command now planned passes group is = absurd planned
 
 -- ---- a disk that is none of these isn't listed

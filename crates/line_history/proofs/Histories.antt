@@ -15,7 +15,7 @@ use Rattle.group_ops.specs.Planning.{IsPlanned}
 use Rattle.lvm_script.specs.declared.answer.Answer.{Answer}
 use Rattle.lvm_script.specs.declared.answer.Answer.TheVariants as answer
 use Rattle.lvm_script.specs.declared.command.Command.{Command}
-use Rattle.lvm_script.specs.declared.command.Command.TheVariants.{Pvcreate, Vgcreate, Vgextend}
+use Rattle.lvm_script.specs.declared.command.Command.TheVariants.{Lvreduce, Lvremove, Lvrename, Pvcreate, Vgcreate, Vgextend, Vgrename}
 use Rattle.lvm_script.specs.declared.op_refusal.OpRefusal.{OpRefusal}
 use Rattle.image_scans.specs.Versions.{version_in}
 use Rattle.meta_model.specs.declared.group.Group.{Group}
@@ -25,7 +25,7 @@ use Rattle.vg_repair.specs.Repaired.{repaired_of}
 use Rattle.volume_history.proofs.SingleLines.{done_commit, done_create, failed_create, fenced_commit, no_line, undone_line}
 use Rattle.volume_history.specs.Chronicles.{Entry, Origin, has_written, pending}
 use Rattle.volume_history.specs.Laws.{Tells}
-use Rattle.volume_history.specs.Quiet.{is_quiet}
+use Rattle.volume_history.specs.Commands.{is_data}
 use Rattle.volume_history.specs.Runs.{journal_of, lines_of}
 use Rattle.volume_history.specs.Single.{LeavesDisk, answered_entries, done_entries, taken_entries}
 use Rattle.line_history.proofs.LineKinds.{Kind, commits_group, creates, kind_of}
@@ -41,11 +41,15 @@ use Rattle.line_history.specs.LineRun.{Given, RunsLine, Stage, Opened, Repairing
 abbrev all_writes : List (List Put) → List Put
 all_writes batches = flat_map (λ (batch : List Put). batch) batches
 
--- a line that can be planned leaves the volumes as they are
-quiet_line : (id : Option (List ℕ)) (command : Command) → IsPlanned id command → is_quiet command ≡ true
+-- a line that can be planned reads and writes no sectors of a volume
+quiet_line : (id : Option (List ℕ)) (command : Command) → IsPlanned id command → is_data command ≡ false
 quiet_line id (Pvcreate pv copies) planned = refl
 quiet_line id (Vgcreate vg extent_size pvs) planned = refl
 quiet_line id (Vgextend vg pvs) planned = refl
+quiet_line id (Vgrename vg new) planned = refl
+quiet_line id (Lvreduce path amount) planned = refl
+quiet_line id (Lvremove path) planned = refl
+quiet_line id (Lvrename vg old new) planned = refl
 quiet_line id command planned = absurd planned
 
 -- where no write was submitted none was written
@@ -136,7 +140,7 @@ module _ (scans : RepairedScans) (g : Given) (start ended : Told) where
         repaired_so (answered_entries origin g.line (answer.PvFailed pv))
         (undone_line origin g.line (stays_unpublished scans g Writing start ended r refl refl group made less) (quiet_line g.line.id g.line.command r.given.planned) none_made (answer.PvFailed pv) refl) refl)
         (λ (le : length (batches_in g) ≤ own.submitted). record {
-          history = (fenced_commit origin g.line (next scans g Writing start ended r refl refl group made) (commit_law scans g Writing start ended r refl refl group made) pv).history;
+          history = (fenced_commit origin g.line (length start.steps) (next scans g Writing start ended r refl refl group made) (commit_law scans g Writing start ended r refl refl group made) pv).history;
           last = λ some. all_submitted le;
         })
         (cases_lt own.submitted (length (batches_in g)))
@@ -159,8 +163,8 @@ module _ (scans : RepairedScans) (g : Given) (start ended : Told) where
       by : Kind g.names g.line.command (change scans g Done start ended r refl refl)
           → HasHistoryOf g ended (journal_of_line (length start.steps) (length ended.steps) answer.Fine) ((g.line, Some answer.Fine) ∷ [])
       by (commits_group group made) =
-          repaired_so (done_entries (origin_repaired scans g Done start ended r refl) g.line (next scans g Done start ended r refl refl group made))
-          (done_commit (origin_repaired scans g Done start ended r refl) g.line (next scans g Done start ended r refl refl group made) (commit_law scans g Done start ended r refl refl group made)
+          repaired_so (done_entries (origin_repaired scans g Done start ended r refl) g.line (length start.steps) (next scans g Done start ended r refl refl group made))
+          (done_commit (origin_repaired scans g Done start ended r refl) g.line (length start.steps) (next scans g Done start ended r refl refl group made) (commit_law scans g Done start ended r refl refl group made)
           (done_law scans g Done start ended r refl refl group made refl)) refl
       by (creates disk label none created labels on) =
           repaired_so (taken_entries (origin_repaired scans g Done start ended r refl) g.line)

@@ -1,8 +1,12 @@
-pub mod KeptPlaces
-pub mod KeepsVolumes
+pub mod KeptVolumes
+pub mod RenamedVolumes
+pub mod ShortenedVolumes
+pub mod RemovedVolumes
+pub mod ChangedVolumes
 pub mod Untouched
 pub mod Seen
 pub mod Settled
+pub mod Stays
 pub mod Images
 pub mod Finding
 pub mod Origins

@@ -6,19 +6,21 @@ use Rattle.std.specs.Str.{bytes_eq}
 use Rattle.std.proofs.lemmas.Option.{same_Some}
 use Rattle.lvm_script.specs.Options.{Word, number_named}
 use Rattle.lvm_script.specs.declared.command.Command.{Command}
-use Rattle.lvm_script.specs.declared.command.Command.TheVariants.{Pvcreate, Vgcreate, Vgextend}
+use Rattle.lvm_script.specs.declared.command.Command.TheVariants.{Lvreduce, Lvremove, Lvrename, Pvcreate, Vgcreate, Vgextend, Vgrename}
 use Rattle.lvm_script.specs.declared.line.Line.{Line}
 use Rattle.lvm_script.specs.declared.op_refusal.OpRefusal.{OpRefusal}
 use Rattle.lvm_script.specs.declared.op_refusal.OpRefusal.TheVariants.{UnknownGroup, UnknownPv}
 use Rattle.meta_model.specs.declared.group.Group.{Group}
 use Rattle.vg_found.specs.declared.disk.Disk.{Disk}
+use Rattle.group_ops.proofs.NextVersions.{commits_next, is_next}
 use Rattle.group_ops.specs.Added.{added_of}
 use Rattle.group_ops.specs.Judging.{first_refusal}
 use Rattle.group_ops.specs.NewGroup.{extended}
 use Rattle.group_ops.specs.Planning.{IsPlanned, change_of, extend_by, refusal_of}
 use Rattle.group_ops.specs.Pvcreate.{disk_rows, new_label, pvcreate_change}
 use Rattle.group_ops.specs.Vgcreate.{empty_group}
-use Rattle.group_ops.specs.Vgextend.{found_rows, next_version}
+use Rattle.group_edits.specs.NextVersion.{next_version}
+use Rattle.group_ops.specs.Vgextend.{found_rows}
 use Rattle.group_ops.specs.declared.state.Change.{Change}
 use Rattle.group_ops.specs.declared.state.GroupState.{GroupState}
 use Rattle.group_ops.specs.declared.state.NewLabel.{NewLabel}
@@ -70,11 +72,20 @@ extend_kind : (state : GroupState) (vg : List ℕ) (pvs : List (List ℕ)) (now 
 extend_kind state vg pvs now command None none = absurd cc
 extend_kind state vg pvs now command (Some group) none = commits_group (extended (next_version group) (added_of state pvs)) refl
 
+next_kind : (state : GroupState) (number : ℕ) (id : Option (List ℕ)) (command : Command) (now : ℕ) → IsPlanned id command → is_next command ≡ true
+    → refusal_of state (record { number = number; id = id; command = command }) now ≡ None → Kind state.names command (change_of state (record { number = number; id = id; command = command }))
+next_kind state number id command now planned is none =
+    let made = commits_next state number id command now planned is none in commits_group made.next (ap (λ (c : Change). c.group) made.change_xl)
+
 kind_by : (state : GroupState) → length state.names ≡ length state.disks → (number : ℕ) (id : Option (List ℕ)) (command : Command) (now : ℕ) → IsPlanned id command
     → refusal_of state (record { number = number; id = id; command = command }) now ≡ None → Kind state.names command (change_of state (record { number = number; id = id; command = command }))
 kind_by state many number id (Pvcreate pv copies) now planned none = create_kind state (unwrap_or id []) pv copies (Pvcreate pv copies) (number_named state.names pv) refl refl many none
 kind_by state many number id (Vgcreate vg extent_size pvs) now planned none = commits_group (extended (empty_group (unwrap_or id []) vg extent_size) (added_of state pvs)) refl
 kind_by state many number id (Vgextend vg pvs) now planned none = extend_kind state vg pvs now (Vgextend vg pvs) state.group none
+kind_by state many number id (Vgrename vg new) now planned none = next_kind state number id (Vgrename vg new) now planned refl none
+kind_by state many number id (Lvreduce path amount) now planned none = next_kind state number id (Lvreduce path amount) now planned refl none
+kind_by state many number id (Lvremove path) now planned none = next_kind state number id (Lvremove path) now planned refl none
+kind_by state many number id (Lvrename vg old new) now planned none = next_kind state number id (Lvrename vg old new) now planned refl none
 kind_by state many number id command now planned none = absurd planned
 
 pub kind_of : (state : GroupState) → length state.names ≡ length state.disks → (line : Line) (now : ℕ) → IsPlanned line.id line.command → refusal_of state line now ≡ None → Kind state.names line.command (change_of state line)

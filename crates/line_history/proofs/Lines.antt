@@ -19,22 +19,41 @@ use Rattle.meta_model.specs.declared.group.Group.{Group}
 use Rattle.repair_scans.specs.Laws.{RepairedScans}
 use Rattle.vg_repair.specs.Repaired.{repaired_of}
 use Rattle.vg_scan.specs.Scans.{IsScanOf}
-use Rattle.volume_history.proofs.CommandKinds.{keeps_by}
+use Rattle.volume_history.proofs.CommandKinds.{commit_kind, zeroes}
+use Rattle.volume_history.proofs.MadeVersions.{changes_commit, changes_make}
+use Rattle.volume_history.proofs.Reshaped.{zeroes_stand}
 use Rattle.volume_history.proofs.Past.{now_before}
 use Rattle.volume_history.proofs.Phases.{finds_with}
 use Rattle.volume_history.specs.Chronicles.{Origin, left_out, names_disk, now_at, origin_at, wrote_disk}
-use Rattle.volume_history.specs.Commands.{created_disk}
+use Rattle.volume_history.specs.Changing.{ChangesVolumes}
+use Rattle.volume_history.specs.Commands.{commits, created_disk}
 use Rattle.volume_history.specs.Legal.{Makes, version_made}
 use Rattle.volume_history.specs.Placed.{volumes_of}
 use Rattle.volume_history.specs.Quiet.{AllUntouched}
-use Rattle.volume_history.specs.Single.{CommitLaw, DoneLaw, IsStill, KeepsVolumes, StaysLaw, begun_entries, end_of}
+use Rattle.volume_history.specs.Reshaping.{MakesVersion}
+use Rattle.volume_history.specs.Single.{CommitLaw, DoneLaw, IsStill, StaysLaw, begun_entries, end_of}
+use Rattle.line_history.proofs.Stays.{all_stay}
+use Rattle.lvm_script.specs.declared.command.Command.{Command}
+use Rattle.lvm_script.specs.declared.command.Command.TheVariants.{Lvreduce, Lvremove, Lvrename, Pvcreate, Vgcreate, Vgextend, Vgrename}
+use Rattle.group_ops.specs.Planning.{IsPlanned}
 use Rattle.line_history.proofs.Finding.{KeepsPlaces, can_carry_out, finds_before, finds_start, found_before, kept_after, kept_before, on_the_way, one_image, repaired_base, same_version, scan_repaired, stays_after}
 use Rattle.line_history.proofs.Images.{IsAfter, IsBefore, after_start, before_start, joined, start_base, start_last, submitted_after}
-use Rattle.line_history.proofs.KeepsVolumes.{commit_keeps_volumes}
+use Rattle.line_history.proofs.ChangedVolumes.{commit_changes_volumes}
 use Rattle.line_history.proofs.Untouched.{places_untouched}
 use Rattle.line_history.proofs.Origins.{now_start, origin, still}
 use Rattle.line_history.proofs.Seen.{moment_seen, now_seen, record_drop, steps_more}
 use Rattle.line_history.specs.LineRun.{Given, RunsLine, Stage, batches_if, batches_in, is_done, is_repaired, line_begun}
+
+-- a command that can be planned so far makes no zeros
+changes_zeroes : (id : Option (List ℕ)) (c : Command) → IsPlanned id c → zeroes c ≡ false
+changes_zeroes id (Pvcreate pv copies) planned = refl
+changes_zeroes id (Vgcreate vg extent_size pvs) planned = refl
+changes_zeroes id (Vgextend vg pvs) planned = refl
+changes_zeroes id (Vgrename vg new) planned = refl
+changes_zeroes id (Lvreduce path amount) planned = refl
+changes_zeroes id (Lvremove path) planned = refl
+changes_zeroes id (Lvrename vg old new) planned = refl
+changes_zeroes id c planned = absurd planned
 
 -- the version that a change makes
 made_version : (change : Change) (group : Group) → change.group ≡ Some group → version_made change ≡ Some (version_of group change)
@@ -144,13 +163,16 @@ module _ (scans : RepairedScans) (g : Given) (stage : Stage) (start ended : Told
         abbrev pub next : Option Version
         next = Some (version_of group change)
 
-        keeps : KeepsVolumes g.line.command version next
-        keeps =
-            subst (λ (v : Option Version). KeepsVolumes g.line.command v next) (same_version scans g stage start ended r repaired)
-            (commit_keeps_volumes (repaired_base g) g.sizes (repaired_of g.found) g.names g.line g.clock (can_carry_out scans g stage start ended r repaired begun) group made)
+        changes : ChangesVolumes g.line.command version next
+        changes =
+            subst (λ (v : Option Version). ChangesVolumes g.line.command v next) (same_version scans g stage start ended r repaired)
+            (commit_changes_volumes (repaired_base g) g.sizes (repaired_of g.found) g.names g.line g.clock (can_carry_out scans g stage start ended r repaired begun) group made)
+
+        commits_it : commits g.line.command ≡ true
+        commits_it = changes_commit g.line.command version next changes
 
         pub none_created : created_disk g.names g.line.command ≡ None
-        none_created = (keeps_by g.line.command version next keeps).creates g.names
+        none_created = (commit_kind g.names g.line.command commits_it).1
 
         -- no disk is left out once it was begun
         none_left : (pv : ℕ) → left_out (origin_at (length start.steps) origin_repaired) (begun_entries origin_repaired g.line) (length start.steps) pv ≡ false
@@ -175,10 +197,18 @@ module _ (scans : RepairedScans) (g : Given) (stage : Stage) (start ended : Told
           change = sym (made_version change group made);
         }
 
-        pub commit_law : CommitLaw origin_repaired g.line next
+        makes_version : MakesVersion g.line.command version next
+        makes_version = changes_make g.line.command version next changes
+
+        pub commit_law : CommitLaw origin_repaired g.line (length start.steps) next
         commit_law = record {
           still = is_still;
-          keeps = keeps;
+          from = omega arith;
+          until = start_last g stage start ended r repaired;
+          commits_xl = commits_it;
+          keeps = makes_version;
+          zeroed = λ m ge le. zeroes_stand (origin_at m origin_repaired) g.line.command next (changes_zeroes g.line.id g.line.command r.given.planned) makes_version;
+          before = λ m ge lt. absurd (omega (arith, ge, lt));
           makes = makes;
           between = λ m ge le image is.
               ⊎_elim
@@ -203,5 +233,6 @@ module _ (scans : RepairedScans) (g : Given) (stage : Stage) (start ended : Told
         pub done_law : is_done stage ≡ true → DoneLaw origin_repaired next
         done_law done = record {
           after = λ image is. subst (λ (i : Image). FindsVersion g.sizes i none_out next) (sym (last_image done image is)) finds_next;
+          untouched = subst (λ (i : Image). AllUntouched i (volumes_of next) ended) (sym (last_now done)) (all_stay done_image ended (done_base done) (volumes_of next));
           found = subst (λ (i : Image). FindsVersion g.sizes i none_out next) (sym (last_now done)) (finds_with g.sizes done_image none_out none_out next (λ pv. refl) finds_next);
         }

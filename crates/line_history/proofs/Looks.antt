@@ -14,9 +14,10 @@ use Rattle.lvm_script.specs.declared.answer.Answer.TheVariants as answer
 use Rattle.lvm_script.specs.declared.line.Line.{Line}
 use Rattle.volume_history.proofs.SingleLines.{done_line, no_line, undone_line}
 use Rattle.volume_history.specs.Chronicles.{Entry, Origin, has_written, pending}
-use Rattle.volume_history.specs.Commands.{commits, is_good}
-use Rattle.volume_history.specs.Placed.{Place, PlacedVolume, volumes_of}
-use Rattle.volume_history.specs.Quiet.{AllUntouched, AreUntouched, is_quiet}
+use Rattle.volume_history.proofs.CommandKinds.{quiet_command}
+use Rattle.volume_history.specs.Commands.{commits, is_data, is_good}
+use Rattle.volume_history.specs.Placed.{volumes_of}
+use Rattle.volume_history.specs.Quiet.{is_quiet}
 use Rattle.volume_history.specs.Laws.{Tells}
 use Rattle.volume_history.specs.Runs.{journal_of, lines_of}
 use Rattle.volume_history.specs.Single.{LeavesDisk, StaysLaw, answered_entries, taken_entries}
@@ -25,6 +26,7 @@ use Rattle.line_history.proofs.Images.{quiet_base}
 use Rattle.line_history.proofs.Origins.{origin, still}
 use Rattle.line_history.proofs.Seen.{part, part_then, steps_more, told_then}
 use Rattle.line_history.proofs.Settled.{none_pending}
+use Rattle.line_history.proofs.Stays.{all_stay}
 use Rattle.line_history.specs.Histories.{HasRunHistory, IsFineOrBad, LooksAlone, journal_of_line}
 
 -- older steps of some that write nothing do neither
@@ -42,15 +44,6 @@ none_written (Submitted tag (Writing span sectors) ∷ steps) pv nothing = absur
 none_written (Submitted tag (Reading span) ∷ steps) pv nothing = none_written steps pv nothing
 none_written (Submitted tag (Flushing disk) ∷ steps) pv nothing = none_written steps pv nothing
 none_written (Completed tag work well fresh ∷ steps) pv nothing = none_written steps pv nothing
-
--- where each sector has one value no place is touched
-places_stay : (base : Image) (told : Told) → IsBase told base → (places : List Place) → AreUntouched base places told
-places_stay base told is [] = tt
-places_stay base told is (p ∷ ps) = ((is p.disk p.sector).each, places_stay base told is ps)
-
-all_stay : (base : Image) (told : Told) → IsBase told base → (volumes : List PlacedVolume) → AllUntouched base volumes told
-all_stay base told is [] = tt
-all_stay base told is (v ∷ vs) = (places_stay base told is v.places, all_stay base told is vs)
 
 module _ (handed : Told) (sizes : List ℕ) (names : List Word) (clock : ℕ) (ended : Told) (l : LooksAlone handed sizes ended) where
   more : length handed.steps ≤ length ended.steps
@@ -91,20 +84,23 @@ module _ (handed : Told) (sizes : List ℕ) (names : List Word) (clock : ℕ) (e
   looks = told_so [] (no_line origin_is stays) refl
 
   module _ (line : Line) (quiet : is_quiet line.command ≡ true) (none : commits line.command ≡ false) where
+    plain : is_data line.command ≡ false
+    plain = (quiet_command line.command quiet).data_xl
+
     undone : (said : Answer) → is_good said ≡ false → HasRunHistory handed l.base sizes names clock ended (journal_of_line (length handed.steps) (length ended.steps) said) ((line, Some said) ∷ [])
     undone answer.Fine bad = cc
     undone (answer.Read sectors) bad = cc
     undone (answer.Listed volumes) bad = cc
-    undone (answer.Refused refusal) bad = told_so (answered_entries origin_is line (answer.Refused refusal)) (undone_line origin_is line stays quiet (leaves line) (answer.Refused refusal) bad) refl
-    undone (answer.ReadFailed pv) bad = told_so (answered_entries origin_is line (answer.ReadFailed pv)) (undone_line origin_is line stays quiet (leaves line) (answer.ReadFailed pv) bad) refl
-    undone (answer.PvFailed pv) bad = told_so (answered_entries origin_is line (answer.PvFailed pv)) (undone_line origin_is line stays quiet (leaves line) (answer.PvFailed pv) bad) refl
-    undone (answer.Fenced pv) bad = told_so (answered_entries origin_is line (answer.Fenced pv)) (undone_line origin_is line stays quiet (leaves line) (answer.Fenced pv) bad) refl
-    undone (answer.Stopped pv) bad = told_so (answered_entries origin_is line (answer.Stopped pv)) (undone_line origin_is line stays quiet (leaves line) (answer.Stopped pv) bad) refl
-    undone answer.Aborted bad = told_so (answered_entries origin_is line answer.Aborted) (undone_line origin_is line stays quiet (leaves line) answer.Aborted bad) refl
-    undone answer.NoMemory bad = told_so (answered_entries origin_is line answer.NoMemory) (undone_line origin_is line stays quiet (leaves line) answer.NoMemory bad) refl
+    undone (answer.Refused refusal) bad = told_so (answered_entries origin_is line (answer.Refused refusal)) (undone_line origin_is line stays plain (leaves line) (answer.Refused refusal) bad) refl
+    undone (answer.ReadFailed pv) bad = told_so (answered_entries origin_is line (answer.ReadFailed pv)) (undone_line origin_is line stays plain (leaves line) (answer.ReadFailed pv) bad) refl
+    undone (answer.PvFailed pv) bad = told_so (answered_entries origin_is line (answer.PvFailed pv)) (undone_line origin_is line stays plain (leaves line) (answer.PvFailed pv) bad) refl
+    undone (answer.Fenced pv) bad = told_so (answered_entries origin_is line (answer.Fenced pv)) (undone_line origin_is line stays plain (leaves line) (answer.Fenced pv) bad) refl
+    undone (answer.Stopped pv) bad = told_so (answered_entries origin_is line (answer.Stopped pv)) (undone_line origin_is line stays plain (leaves line) (answer.Stopped pv) bad) refl
+    undone answer.Aborted bad = told_so (answered_entries origin_is line answer.Aborted) (undone_line origin_is line stays plain (leaves line) answer.Aborted bad) refl
+    undone answer.NoMemory bad = told_so (answered_entries origin_is line answer.NoMemory) (undone_line origin_is line stays plain (leaves line) answer.NoMemory bad) refl
 
     pub reports : (said : Answer) → IsFineOrBad said → HasRunHistory handed l.base sizes names clock ended (journal_of_line (length handed.steps) (length ended.steps) said) ((line, Some said) ∷ [])
-    reports answer.Fine may = told_so (taken_entries origin_is line) (done_line origin_is line stays quiet (leaves line) none) refl
+    reports answer.Fine may = told_so (taken_entries origin_is line) (done_line origin_is line stays plain (leaves line) none) refl
     reports (answer.Read sectors) may = undone (answer.Read sectors) may
     reports (answer.Listed volumes) may = undone (answer.Listed volumes) may
     reports (answer.Refused refusal) may = undone (answer.Refused refusal) may

@@ -17,14 +17,14 @@ use Rattle.image_scans.specs.Laws.{CanCarryOut, version_of}
 use Rattle.image_scans.specs.Versions.{version_in}
 use Rattle.volume_history.specs.Placed.{volumes_of}
 use Rattle.volume_history.specs.Quiet.{AllUntouched}
-use Rattle.volume_history.specs.Single.{KeepsVolumes}
+use Rattle.volume_history.specs.Changing.{ChangesVolumes}
 
--- the version that a line commits has the volumes that were found, at the same places
-abbrev pub CommitKeepsVolumes : Type 0
-CommitKeepsVolumes =
+-- the version that a line commits has the volumes that its command makes of those that were found
+abbrev pub CommitChangesVolumes : Type 0
+CommitChangesVolumes =
     (base : Image) (sizes : List ℕ) (found : Found) (names : List (List ℕ)) (line : Line) (now : ℕ) (group : Group) → CanCarryOut base sizes found names line now
     → (change_of (state_in found names) line).group ≡ Some group
-    → KeepsVolumes line.command (version_in found) (Some (version_of group (change_of (state_in found names) line)))
+    → ChangesVolumes line.command (version_in found) (Some (version_of group (change_of (state_in found names) line)))
 
 -- where every image that a crash may leave has at each primary place of the found group what the base has, the places of its
 -- volumes are untouched

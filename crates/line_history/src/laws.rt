@@ -1,13 +1,12 @@
 //! Laws of runs of one line: each function does nothing, and its clauses are proved.
 ghost use Rattle.line_history.specs.Histories.{EndsHaveHistories, LinesHaveHistories, LooksHaveHistories, ReportsHaveHistories};
-ghost use Rattle.line_history.specs.Laws.{CommitKeepsVolumes, PlacesUntouched};
+ghost use Rattle.line_history.specs.Laws.{CommitChangesVolumes, PlacesUntouched};
 
 use repair_scans::repair_scans;
 
-/// The version that a line commits has the volumes that were found, at the same places, under the name that the machine then
-/// has.
-pub fn commit_keeps_volumes()
-    ensures { CommitKeepsVolumes }
+/// The version that a line commits has the volumes, and the group the name, that its command makes of those that were found.
+pub fn commit_changes_volumes()
+    ensures { CommitChangesVolumes }
 {}
 
 /// Where every image that a crash may leave has at each primary place of the group what an image has in which it was found,

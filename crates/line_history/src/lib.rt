@@ -11,5 +11,5 @@ mod laws;
 mod places;
 
 pub use each_set::{done_sets_agree, each_set_finds};
-pub use laws::{commit_keeps_volumes, line_histories, places_untouched};
+pub use laws::{commit_changes_volumes, line_histories, places_untouched};
 pub use places::writes_lie;

@@ -1,16 +1,14 @@
 -- What commands are that leave the volumes as they are, and those that create no sector.
-use Rattle.std.proofs.Common.{◌≡◌, ℕ, Bool, true, false, List, Option, Some, None, refl, sym, ◌∙◌}
+use Rattle.std.proofs.Common.{◌≡◌, ℕ, Bool, true, false, List, Option, Some, None, refl}
 use Rattle.disk_model.specs.Steps.{Image}
 use Rattle.image_scans.specs.Versions.{Version}
 use Rattle.line_table.specs.Machine.{PlainState, plain_after}
 use Rattle.lvm_script.specs.Options.{Word}
 use Rattle.lvm_script.specs.declared.command.Command.{Command}
-use Rattle.volume_history.specs.Candidates.{is_born}
+use Rattle.volume_history.specs.Candidates.{is_born, is_zeroed}
 use Rattle.volume_history.specs.Commands.{commits, created_disk, is_data, volume_named, writes}
-use Rattle.volume_history.specs.Placed.{group_name, volumes_of}
 use Rattle.volume_history.specs.Quiet.{is_quiet}
 use Rattle.volume_history.specs.Replay.{command_step}
-use Rattle.volume_history.specs.Single.{KeepsVolumes}
 use Rattle.lvm_script.specs.declared.command.Command.TheVariants as command
 
 -- what is known of a command that leaves the volumes as they are
@@ -115,37 +113,34 @@ created_quiet names disk (command.Read path start count) e = cc
 created_quiet names disk (command.Fill path start count value) e = cc
 created_quiet names disk (command.Write path start hex) e = cc
 
--- what is known of a command that commits a version with the same volumes
-pub record KeepsBy (c : Command) (before after : Option Version) : Type 0 where
-  pub quiet : is_quiet c ≡ true
-  pub commits_xl : commits c ≡ true
-  pub creates : (names : List Word) → created_disk names c ≡ None
-  pub volumes : volumes_of after ≡ volumes_of before
-  pub named : (state : PlainState) (image : Image) → state.group ≡ group_name before → group_name after ≡ (plain_after state (command_step c before after state image)).group
+-- what is known of a command that reads and writes no sectors of a volume
+pub undata : (c : Command) → is_data c ≡ false → (writes c ≡ false) × (volume_named c ≡ None)
+undata (command.Read path start count) q = cc
+undata (command.Fill path start count value) q = cc
+undata (command.Write path start hex) q = cc
+undata _ q = (refl, refl)
 
-pub keeps_by : (c : Command) (before after : Option Version) → KeepsVolumes c before after → KeepsBy c before after
-keeps_by (command.Pvcreate pv copies) before after keeps = absurd keeps
-keeps_by (command.Pvmove moving) before after keeps = absurd keeps
-keeps_by (command.Pvck pv) before after keeps = absurd keeps
-keeps_by command.Pvs before after keeps = absurd keeps
-keeps_by (command.Vgcreate vg extent_size pvs) before after keeps = record { quiet = refl; commits_xl = refl; creates = λ names. refl; volumes = keeps.0; named = λ state image same. keeps.1 }
-keeps_by (command.Vgextend vg pvs) before after keeps = record { quiet = refl; commits_xl = refl; creates = λ names. refl; volumes = keeps.0; named = λ state image same. keeps.1 ∙ sym same }
-keeps_by (command.Vgreduce vg pv) before after keeps = absurd keeps
-keeps_by (command.Vgrename vg new) before after keeps = absurd keeps
-keeps_by (command.Vgcfgbackup vg) before after keeps = absurd keeps
-keeps_by command.Vgck before after keeps = absurd keeps
-keeps_by command.Vgs before after keeps = absurd keeps
-keeps_by command.Lvs before after keeps = absurd keeps
-keeps_by command.List before after keeps = absurd keeps
-keeps_by command.Wait before after keeps = absurd keeps
-keeps_by (command.Resync path) before after keeps = absurd keeps
-keeps_by (command.Vgremove vg) before after keeps = absurd keeps
-keeps_by (command.Vgcfgrestore vg text) before after keeps = absurd keeps
-keeps_by (command.Lvcreate new) before after keeps = absurd keeps
-keeps_by (command.Lvextend path growth pvs) before after keeps = absurd keeps
-keeps_by (command.Lvreduce path amount) before after keeps = absurd keeps
-keeps_by (command.Lvremove path) before after keeps = absurd keeps
-keeps_by (command.Lvrename vg old new) before after keeps = absurd keeps
-keeps_by (command.Read path start count) before after keeps = absurd keeps
-keeps_by (command.Fill path start count value) before after keeps = absurd keeps
-keeps_by (command.Write path start hex) before after keeps = absurd keeps
+-- and of one that commits a version
+pub commit_kind : (names : List Word) (c : Command) → commits c ≡ true → (is_data c ≡ false) × (created_disk names c ≡ None)
+commit_kind names (command.Vgcreate vg extent_size pvs) q = (refl, refl)
+commit_kind names (command.Vgextend vg pvs) q = (refl, refl)
+commit_kind names (command.Vgreduce vg pv) q = (refl, refl)
+commit_kind names (command.Vgremove vg) q = (refl, refl)
+commit_kind names (command.Vgrename vg new) q = (refl, refl)
+commit_kind names (command.Vgcfgrestore vg text) q = (refl, refl)
+commit_kind names (command.Lvcreate new) q = (refl, refl)
+commit_kind names (command.Lvextend path growth pvs) q = (refl, refl)
+commit_kind names (command.Lvreduce path amount) q = (refl, refl)
+commit_kind names (command.Lvremove path) q = (refl, refl)
+commit_kind names (command.Lvrename vg old new) q = (refl, refl)
+commit_kind names (command.Pvmove moving) q = (refl, refl)
+commit_kind names _ q = cc
+
+-- no sector is born as a zero but in lvcreate
+abbrev pub zeroes : Command → Bool
+zeroes (command.Lvcreate new) = true
+zeroes _ = false
+
+pub none_zeroed : (c : Command) → zeroes c ≡ false → (before after : Option Version) (state : PlainState) (image : Image) (x : ℕ) → is_zeroed (command_step c before after state image) x ≡ false
+none_zeroed (command.Lvcreate new) q before after state image x = cc
+none_zeroed _ q before after state image x = refl

@@ -5,11 +5,10 @@ use Rattle.lvm_script.specs.Options.{Word}
 use Rattle.lvm_script.specs.declared.answer.Answer.{Answer}
 use Rattle.lvm_script.specs.declared.line.Line.{Line}
 use Rattle.volume_history.proofs.Bits.{and_both}
-use Rattle.volume_history.proofs.CommandKinds.{quiet_command}
+use Rattle.volume_history.proofs.CommandKinds.{undata}
 use Rattle.volume_history.specs.Chronicles.{Begun, Changed, Entry, GivenUp, Origin, Took, origin_at, pending}
 use Rattle.volume_history.specs.Commands.{commits, failed_pv, is_data, is_good, is_move, is_refused, is_wait}
 use Rattle.volume_history.specs.Legal.{AllFaithful, AllOrdered, FindsNow, GivesMachine, IsFaithful, IsOrdered, Makes, is_new_piece, is_pending, key_named, may_answer, may_answer_command, may_answer_data}
-use Rattle.volume_history.specs.Quiet.{is_quiet}
 use Rattle.volume_history.specs.Runs.{zero_piece}
 use Rattle.volume_history.specs.Single.{answered_entries, begun_entries, taken_entries, done_entries, end_of, fenced_entries, given_up_entries, open_entries}
 use Rattle.lvm_script.specs.declared.answer.Answer.TheVariants as answer
@@ -46,9 +45,9 @@ gives_nothing o es n answer.NoMemory bad = tt
 
 -- ---- order
 
--- a line of a quiet command is begun first
-begun_first : (o : Origin) (line : Line) → is_quiet line.command ≡ true → IsOrdered o.start [] (Begun o.start 0 line 0)
-begun_first o line quiet = record { moments = omega arith; order = ap (λ (d : Bool). d || true) (quiet_command line.command quiet).data_xl; makes = tt }
+-- a line of a command is begun first
+begun_first : (o : Origin) (line : Line) → is_data line.command ≡ false → IsOrdered o.start [] (Begun o.start 0 line 0)
+begun_first o line quiet = record { moments = omega arith; order = ap (λ (d : Bool). d || true) quiet; makes = tt }
 
 -- a command is answered so
 answer_of : (es : List Entry) (line : Line) (a : Answer) → is_data line.command ≡ false → may_answer_command es 0 line a ≡ true
@@ -57,16 +56,13 @@ answer_of es line a quiet may free =
     ap (λ (d : Bool). if d then may_answer_data es 0 line 0 a else (may_answer_command es 0 line a && (not (is_pending (pending es) 0) || is_some (failed_pv a)))) quiet
     ∙ and_both (may_answer_command es 0 line a) (not (is_pending (pending es) 0) || is_some (failed_pv a)) may free
 
--- what is known of a line of a quiet command
-module _ (o : Origin) (line : Line) (quiet : is_quiet line.command ≡ true) (until : o.start ≤ end_of o) where
-  quiet_data : is_data line.command ≡ false
-  quiet_data = (quiet_command line.command quiet).data_xl
-
+-- what is known of a line of a command that reads and writes no sectors
+module _ (o : Origin) (line : Line) (quiet_data : is_data line.command ≡ false) (until : o.start ≤ end_of o) where
   begun_ordered : AllOrdered o.start (begun_entries o line)
-  begun_ordered = (begun_first o line quiet, tt)
+  begun_ordered = (begun_first o line quiet_data, tt)
 
   begun_faithful : IsFaithful (origin_at o.start o) [] (Begun o.start 0 line 0)
-  begun_faithful = ap (λ (v : Option Word). key_named (origin_at o.start o) [] v) (sym (quiet_command line.command quiet).unnamed)
+  begun_faithful = ap (λ (v : Option Word). key_named (origin_at o.start o) [] v) (sym (undata line.command quiet_data).1)
 
   -- it isn't done
   pub undone_ordered : (a : Answer) → is_good a ≡ false → AllOrdered o.start (answered_entries o line a)
@@ -109,58 +105,59 @@ module _ (o : Origin) (line : Line) (quiet : is_quiet line.command ≡ true) (un
   pub created_faithful : AllFaithful o (taken_entries o line)
   created_faithful = (tt, (tt, (begun_faithful, tt)))
 
-  -- its commit starts
-  opened_ordered : (version : Option Version) → commits line.command ≡ true → AllOrdered o.start (open_entries o line version)
-  opened_ordered version commit = (record { moments = omega arith; order = ap (λ (b : Bool). b && true) commit; makes = tt }, begun_ordered)
+  -- its commit starts at a moment
+  module _ (opened : ℕ) (from : o.start ≤ opened) (to : opened ≤ end_of o) (version : Option Version) where
+    opened_ordered : commits line.command ≡ true → AllOrdered o.start (open_entries o line opened version)
+    opened_ordered commit = (record { moments = from; order = ap (λ (b : Bool). b && true) commit; makes = tt }, begun_ordered)
 
-  -- and is done
-  pub done_ordered : (version : Option Version) → commits line.command ≡ true → AllOrdered o.start (done_entries o line version)
-  done_ordered version commit = (
-    record {
-      moments = omega arith;
-      order = answer_of (Changed (end_of o) 0 version ∷ open_entries o line version) line answer.Fine quiet_data (not_or_true (is_wait line.command)) refl;
-      makes = tt;
-    },
-    (
-      record { moments = until; order = refl; makes = refl },
-      opened_ordered version commit,
-    ),
-  )
+    -- and is done
+    pub done_ordered : commits line.command ≡ true → AllOrdered o.start (done_entries o line opened version)
+    done_ordered commit = (
+      record {
+        moments = omega arith;
+        order = answer_of (Changed (end_of o) 0 version ∷ open_entries o line opened version) line answer.Fine quiet_data (not_or_true (is_wait line.command)) refl;
+        makes = tt;
+      },
+      (
+        record { moments = to; order = refl; makes = refl },
+        opened_ordered commit,
+      ),
+    )
 
-  -- or given up
-  pub given_up_ordered : (version : Option Version) (pv : ℕ) → commits line.command ≡ true → AllOrdered o.start (given_up_entries o line version pv)
-  given_up_ordered version pv commit = (
-    record {
-      moments = omega arith;
-      order = answer_of (GivenUp (end_of o) 0 ∷ open_entries o line version) line (answer.PvFailed pv) quiet_data (not_or_true (is_wait line.command)) refl;
-      makes = tt;
-    },
-    (
-      record { moments = until; order = refl; makes = tt },
-      opened_ordered version commit,
-    ),
-  )
+    -- or given up
+    pub given_up_ordered : (pv : ℕ) → commits line.command ≡ true → AllOrdered o.start (given_up_entries o line opened version pv)
+    given_up_ordered pv commit = (
+      record {
+        moments = omega arith;
+        order = answer_of (GivenUp (end_of o) 0 ∷ open_entries o line opened version) line (answer.PvFailed pv) quiet_data (not_or_true (is_wait line.command)) refl;
+        makes = tt;
+      },
+      (
+        record { moments = to; order = refl; makes = tt },
+        opened_ordered commit,
+      ),
+    )
 
-  -- or fences the group
-  pub fenced_ordered : (version : Option Version) (pv : ℕ) → commits line.command ≡ true → AllOrdered o.start (fenced_entries o line version pv)
-  fenced_ordered version pv commit = (
-    record {
-      moments = until;
-      order = answer_of (open_entries o line version) line (answer.PvFailed pv) quiet_data (not_or_true (is_wait line.command)) refl;
-      makes = tt;
-    },
-    opened_ordered version commit,
-  )
+    -- or fences the group
+    pub fenced_ordered : (pv : ℕ) → commits line.command ≡ true → AllOrdered o.start (fenced_entries o line opened version pv)
+    fenced_ordered pv commit = (
+      record {
+        moments = to;
+        order = answer_of (open_entries o line opened version) line (answer.PvFailed pv) quiet_data (not_or_true (is_wait line.command)) refl;
+        makes = tt;
+      },
+      opened_ordered commit,
+    )
 
-  opened_faithful : (version : Option Version) → Makes (origin_at o.start o) (begun_entries o line) o.start line version → AllFaithful o (open_entries o line version)
-  opened_faithful version makes = (makes, (begun_faithful, tt))
+    module _ (makes : Makes (origin_at opened o) (begun_entries o line) opened line version) where
+      opened_faithful : AllFaithful o (open_entries o line opened version)
+      opened_faithful = (makes, (begun_faithful, tt))
 
-  pub done_faithful : (version : Option Version) → Makes (origin_at o.start o) (begun_entries o line) o.start line version
-      → FindsNow (origin_at (end_of o) o) (open_entries o line version) (end_of o) version → AllFaithful o (done_entries o line version)
-  done_faithful version makes finds = (tt, (finds, opened_faithful version makes))
+      pub done_faithful : FindsNow (origin_at (end_of o) o) (open_entries o line opened version) (end_of o) version → AllFaithful o (done_entries o line opened version)
+      done_faithful finds = (tt, (finds, opened_faithful))
 
-  pub given_up_faithful : (version : Option Version) (pv : ℕ) → Makes (origin_at o.start o) (begun_entries o line) o.start line version → AllFaithful o (given_up_entries o line version pv)
-  given_up_faithful version pv makes = (tt, (tt, opened_faithful version makes))
+      pub given_up_faithful : (pv : ℕ) → AllFaithful o (given_up_entries o line opened version pv)
+      given_up_faithful pv = (tt, (tt, opened_faithful))
 
-  pub fenced_faithful : (version : Option Version) (pv : ℕ) → Makes (origin_at o.start o) (begun_entries o line) o.start line version → AllFaithful o (fenced_entries o line version pv)
-  fenced_faithful version pv makes = (tt, opened_faithful version makes)
+      pub fenced_faithful : (pv : ℕ) → AllFaithful o (fenced_entries o line opened version pv)
+      fenced_faithful pv = (tt, opened_faithful)

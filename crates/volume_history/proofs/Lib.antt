@@ -6,6 +6,9 @@ pub mod Acknowledged
 pub mod CommandKinds
 pub mod Consistent
 pub mod Quiet
+pub mod Reshaped
+pub mod Made
+pub mod MadeVersions
 pub mod Places
 pub mod WriteLife
 pub mod AtTake

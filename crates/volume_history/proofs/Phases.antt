@@ -1,16 +1,20 @@
--- The moments of the history of one line: before it, while it runs, and from its answer on.
+-- The moments of the history of one line: before it, while it runs, while its commit runs, and from its answer on.
 use Rattle.std.proofs.Common.{◌≡◌, ◌≤◌, ◌<◌, ℕ, ◌-◌, Bool, if◌then◌else◌, List, [], ◌∷◌, ◌++◌, length, drop, Option, inl, ⊎_elim, refl, sym, ap, subst, ◌∙◌, arith}
 use Rattle.std.proofs.lemmas.Bool.{cases_lt}
 use Rattle.disk_model.specs.Moments.{at_moment}
 use Rattle.disk_model.specs.Steps.{Image}
 use Rattle.image_scans.specs.Versions.{FindsVersion, Version}
+use Rattle.line_table.specs.Machine.{PlainState}
 use Rattle.volume_history.proofs.Bits.{lt_true}
-use Rattle.volume_history.proofs.Past.{all_upto}
-use Rattle.volume_history.proofs.Quiet.{quiet_consistent}
-use Rattle.volume_history.specs.Candidates.{IsConsistentMoment}
-use Rattle.volume_history.specs.Chronicles.{AreUpto, Chronicle, Entry, Origin, left_out, moment_of, origin_at, upto}
-use Rattle.volume_history.specs.Parts.{ScansPart}
-use Rattle.volume_history.specs.Quiet.{IsQuiet, IsQuietMoment}
+use Rattle.volume_history.proofs.Consistent.{parts_make_consistent}
+use Rattle.volume_history.proofs.Past.{all_upto, now_before}
+use Rattle.volume_history.proofs.Reshaped.{HasNoBase, opening_primaries}
+use Rattle.volume_history.specs.Candidates.{IsConsistentMoment, IsConsistentNow}
+use Rattle.volume_history.specs.Chronicles.{AreUpto, Chronicle, Entry, Origin, in_force, left_out, moment_of, now_at, origin_at, pending, upto}
+use Rattle.volume_history.specs.Parts.{NextPart, Primaries, ScansPart}
+use Rattle.volume_history.specs.Placed.{group_name, volumes_of}
+use Rattle.volume_history.specs.Quiet.{AllUntouched}
+use Rattle.volume_history.specs.Replay.{opening_state, plain_state}
 use Rattle.volume_history.specs.Single.{IsStill, end_of, none_out}
 
 -- all of these entries are of this moment
@@ -39,10 +43,12 @@ both_upto : (m : ℕ) (late early : List Entry) → AreUpto m late → AreUpto m
 both_upto m [] early a b = b
 both_upto m (e ∷ late) early a b = (a.0, both_upto m late early a.1 b)
 
--- what makes a moment with these entries consistent, but for the places
+-- what makes a moment with these entries consistent
 pub record IsPhase (o : Origin) (es : List Entry) (m : ℕ) : Type 0 where
-  pub quiet : IsQuiet (origin_at m o) es
   pub scans : ScansPart (origin_at m o) es
+  pub primaries : Primaries (origin_at m o) es (volumes_of (in_force (origin_at m o) es)) (plain_state (origin_at m o) es).volumes
+  pub name : group_name (in_force (origin_at m o) es) ≡ (plain_state (origin_at m o) es).group
+  pub next : NextPart (origin_at m o) es (pending es)
 
 -- a scan finds the same where the same disks are left out
 pub finds_with : (sizes : List ℕ) (image : Image) (out out' : ℕ → Bool) (version : Option Version) → ((pv : ℕ) → out pv ≡ out' pv) → FindsVersion sizes image out version → FindsVersion sizes image out' version
@@ -54,40 +60,60 @@ told_at_end o =
     let e : length o.told.steps - length o.told.steps ≡ 0 = omega arith in
     ap (λ (k : ℕ). record { opened = o.told.opened; steps = drop k o.told.steps }) e
 
--- before the line
-pub phase_before : (o : Origin) → IsStill o → (m : ℕ) → o.first ≤ m → m ≤ o.start → IsPhase o [] m
-phase_before o still m ge le = record {
-  quiet = record { lines = tt; volumes = refl; name = refl; next = tt };
-  scans = λ image is. inl (finds_with o.sizes image none_out (left_out (origin_at m o) [] (length (origin_at m o).told.steps)) o.version (λ pv. refl) (still.before m ge le image is));
+-- no place of the volumes in force is touched at a moment
+pub untouched_then : (o : Origin) → IsStill o → (m : ℕ) → o.first ≤ m → m ≤ end_of o → AllUntouched (now_at (origin_at m o) o.first) (volumes_of o.version) (at_moment m o.told)
+untouched_then o still m ge le = subst (λ (i : Image). AllUntouched i (volumes_of o.version) (at_moment m o.told)) (sym (now_before o o.first m ge le)) (still.untouched m ge le)
+
+-- a phase in which the version of the start is in force, and no sector of it has another base than the opening
+pub opening_phase : (o : Origin) → IsStill o → (es : List Entry) (m : ℕ) → o.first ≤ m → m ≤ end_of o → HasNoBase (origin_at m o) es → plain_state (origin_at m o) es ≡ opening_state (origin_at m o) → in_force (origin_at m o) es ≡ o.version
+    → ScansPart (origin_at m o) es → NextPart (origin_at m o) es (pending es) → IsPhase o es m
+opening_phase o still es m ge le none opening force scans next = record {
+  scans = scans;
+  primaries =
+      subst (λ (v : Option Version). Primaries (origin_at m o) es (volumes_of v) (plain_state (origin_at m o) es).volumes) (sym force)
+      (subst (λ (s : PlainState). Primaries (origin_at m o) es (volumes_of o.version) s.volumes) (sym opening) (opening_primaries (origin_at m o) es none (untouched_then o still m ge le)));
+  name = ap (λ (v : Option Version). group_name v) force ∙ sym (ap (λ (s : PlainState). s.group) opening);
+  next = next;
 }
 
-module _ (o : Origin) (still : IsStill o) (late early : List Entry) (at_end : AllAt (end_of o) late) (at_start : AllAt o.start early)
-    (between : (m : ℕ) → o.start ≤ m → m < end_of o → IsPhase o early m) (after : IsPhase o (late ++ early) (end_of o)) where
+-- before the line
+pub phase_before : (o : Origin) → IsStill o → (m : ℕ) → o.first ≤ m → m ≤ o.start → m ≤ end_of o → IsPhase o [] m
+phase_before o still m ge le last =
+    opening_phase o still [] m ge last (λ key x. refl) refl refl
+    (λ image is. inl (finds_with o.sizes image none_out (left_out (origin_at m o) [] (length (origin_at m o).told.steps)) o.version (λ pv. refl) (still.before m ge le image is))) tt
+
+module _ (o : Origin) (still : IsStill o) (late middle early : List Entry) (opened : ℕ) (from : o.start ≤ opened) (to : opened ≤ end_of o) (at_end : AllAt (end_of o) late) (at_opened : AllAt opened middle) (at_start : AllAt o.start early)
+    (begun : (m : ℕ) → o.start ≤ m → m < opened → IsPhase o early m) (between : (m : ℕ) → opened ≤ m → m < end_of o → IsPhase o (middle ++ early) m) (after : IsPhase o (late ++ (middle ++ early)) (end_of o)) where
   abbrev whole : Chronicle
-  whole = record { origin = o; entries = late ++ early }
+  whole = record { origin = o; entries = late ++ (middle ++ early) }
 
-  phase_is : (m : ℕ) (es : List Entry) → upto m (late ++ early) ≡ es → o.first ≤ m → m ≤ end_of o → IsPhase o es m → IsQuietMoment whole m
-  phase_is m es e ge le is = record {
-    quiet = subst (λ (l : List Entry). IsQuiet (origin_at m o) l) (sym e) is.quiet;
-    scans = subst (λ (l : List Entry). ScansPart (origin_at m o) l) (sym e) is.scans;
-    untouched = still.untouched m ge le;
-  }
-
-  quiet_at : (m : ℕ) → o.first ≤ m → m ≤ end_of o → IsQuietMoment whole m
-  quiet_at m ge le =
-      ⊎_elim
-      (λ (lt : m < end_of o).
-      ⊎_elim
-      (λ (early_on : m < o.start). phase_is m [] (upto_over m (end_of o) late early at_end lt ∙ upto_none m o.start early at_start early_on) ge le (phase_before o still m ge (omega (arith, early_on))))
-      (λ (on : o.start ≤ m). phase_is m early (upto_over m (end_of o) late early at_end lt ∙ all_upto m early (at_upto m o.start early at_start on)) ge le (between m on lt))
-      (cases_lt m o.start))
-      (λ (on : end_of o ≤ m).
-      let e : end_of o ≡ m = omega (arith, on, le) in
-      let started : o.start ≤ m = omega (arith, still.until, on) in
-      phase_is m (late ++ early) (all_upto m (late ++ early) (both_upto m late early (at_upto m (end_of o) late at_end on) (at_upto m o.start early at_start started))) ge le
-      (subst (λ (k : ℕ). IsPhase o (late ++ early) k) e after))
-      (cases_lt m (end_of o))
+  phase_is : (m : ℕ) (es : List Entry) → upto m (late ++ (middle ++ early)) ≡ es → IsPhase o es m → IsConsistentMoment whole m
+  phase_is m es e is =
+      subst (λ (l : List Entry). IsConsistentNow (record { origin = origin_at m o; entries = l })) (sym e)
+      (parts_make_consistent (record { origin = origin_at m o; entries = es }) is.scans is.primaries is.name is.next)
 
   -- each moment is consistent
   pub all_moments : (m : ℕ) → o.first ≤ m → m ≤ end_of o → IsConsistentMoment whole m
-  all_moments m ge le = quiet_consistent whole m ge le (quiet_at m ge le)
+  all_moments m ge le =
+      ⊎_elim
+      (λ (lt : m < end_of o).
+      let passed : upto m (late ++ (middle ++ early)) ≡ upto m (middle ++ early) = upto_over m (end_of o) late (middle ++ early) at_end lt in
+      ⊎_elim
+      (λ (unopened : m < opened).
+      let none : upto m (late ++ (middle ++ early)) ≡ upto m early = passed ∙ upto_over m opened middle early at_opened unopened in
+      ⊎_elim
+      (λ (early_on : m < o.start). phase_is m [] (none ∙ upto_none m o.start early at_start early_on) (phase_before o still m ge (omega (arith, early_on)) le))
+      (λ (on : o.start ≤ m). phase_is m early (none ∙ all_upto m early (at_upto m o.start early at_start on)) (begun m on unopened))
+      (cases_lt m o.start))
+      (λ (on : opened ≤ m).
+      let started : o.start ≤ m = omega (arith, from, on) in
+      phase_is m (middle ++ early) (passed ∙ all_upto m (middle ++ early) (both_upto m middle early (at_upto m opened middle at_opened on) (at_upto m o.start early at_start started))) (between m on lt))
+      (cases_lt m opened))
+      (λ (on : end_of o ≤ m).
+      let e : end_of o ≡ m = omega (arith, on, le) in
+      let began : opened ≤ m = omega (arith, to, on) in
+      let started : o.start ≤ m = omega (arith, from, began) in
+      phase_is m (late ++ (middle ++ early))
+      (all_upto m (late ++ (middle ++ early)) (both_upto m late (middle ++ early) (at_upto m (end_of o) late at_end on) (both_upto m middle early (at_upto m opened middle at_opened began) (at_upto m o.start early at_start started))))
+      (subst (λ (k : ℕ). IsPhase o (late ++ (middle ++ early)) k) e after))
+      (cases_lt m (end_of o))

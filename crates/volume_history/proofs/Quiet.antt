@@ -95,7 +95,7 @@ quiet_base o all key x (Failed m n piece ∷ es) q = quiet_base o all key x es q
 quiet_base o all key x (Answered m n answer ∷ es) q = quiet_base o all key x es q
 
 -- the opening's volumes have different keys, so each is found by its own
-abbrev KeysFrom : ℕ → List PlainVolume → Type 0
+abbrev pub KeysFrom : ℕ → List PlainVolume → Type 0
 KeysFrom k [] = Unit {0}
 KeysFrom k (p ∷ ps) = (k ≤ p.key) × KeysFrom k ps
 
@@ -103,7 +103,7 @@ keys_from : (image : Image) (k j : ℕ) (vs : List PlacedVolume) → k ≤ j →
 keys_from image k j [] le = tt
 keys_from image k j (v ∷ vs) le = (le, keys_from image k (j + 1) vs (omega (arith, le)))
 
-abbrev OwnSectors : List PlainVolume → List PlainVolume → Type 0
+abbrev pub OwnSectors : List PlainVolume → List PlainVolume → Type 0
 OwnSectors whole [] = Unit {0}
 OwnSectors whole (p ∷ ps) = (sectors_of whole p.key ≡ p.sectors) × OwnSectors whole ps
 
@@ -115,7 +115,7 @@ own_more q whole (p ∷ ps) keys own =
     other : (a b : ℕ) → a + 1 ≤ b → (a == b) ≡ false
     other a b le = grind (arith, nat_tests)
 
-own_sectors : (image : Image) (k : ℕ) (vs : List PlacedVolume) → OwnSectors (opening_volumes image k vs) (opening_volumes image k vs)
+pub own_sectors : (image : Image) (k : ℕ) (vs : List PlacedVolume) → OwnSectors (opening_volumes image k vs) (opening_volumes image k vs)
 own_sectors image k [] = tt
 own_sectors image k (v ∷ vs) = (
   ap (λ (b : Bool). if b then values_on image v.places else sectors_of (opening_volumes image (k + 1) vs) k) (eq_to k k refl),
@@ -123,17 +123,17 @@ own_sectors image k (v ∷ vs) = (
 )
 
 -- what stands at the place of a sector
-value_on : (image : Image) (places : List Place) (x : ℕ) → x < length places → slice_index_or (values_on image places) x [] ≡ image (place_at places x).disk (place_at places x).sector
+pub value_on : (image : Image) (places : List Place) (x : ℕ) → x < length places → slice_index_or (values_on image places) x [] ≡ image (place_at places x).disk (place_at places x).sector
 value_on image [] x lt = absurd (omega (arith, lt))
 value_on image (p ∷ ps) zero lt = refl
 value_on image (p ∷ ps) (suc x) lt = value_on image ps x (omega (arith, lt))
 
-values_length : (image : Image) (places : List Place) → length places ≡ length (values_on image places)
+pub values_length : (image : Image) (places : List Place) → length places ≡ length (values_on image places)
 values_length image [] = refl
 values_length image (p ∷ ps) = ap suc (values_length image ps)
 
 -- at an untouched place nothing else is possible
-untouched_at : (image : Image) (places : List Place) (told : Told) (x : ℕ) → x < length places → AreUntouched image places told
+pub untouched_at : (image : Image) (places : List Place) (told : Told) (x : ℕ) → x < length places → AreUntouched image places told
     → (write : Option ℕ) (value : List ℕ) → MayLeave told.opened told.steps (place_at places x).disk (place_at places x).sector write value → value ≡ image (place_at places x).disk (place_at places x).sector
 untouched_at image [] told x lt are = absurd (omega (arith, lt))
 untouched_at image (p ∷ ps) told zero lt are = are.0

@@ -3,23 +3,26 @@ use Rattle.std.proofs.Common.{◌≡◌, ◌≤◌, ◌<◌, ℕ, ◌+◌, ◌-�
 use Rattle.disk_model.specs.CrashValues.{IsImage}
 use Rattle.disk_model.specs.Steps.{Image, Step, Told}
 use Rattle.image_scans.specs.Versions.{FindsVersion, Version}
-use Rattle.line_table.specs.Machine.{PlainStep, plain_after}
+use Rattle.line_table.specs.Machine.{PlainState, PlainStep, plain_after, sector_of}
 use Rattle.lvm_script.specs.declared.answer.Answer.{Answer}
 use Rattle.lvm_script.specs.declared.line.Line.{Line}
 use Rattle.volume_history.proofs.Bits.{eq_of}
-use Rattle.volume_history.proofs.CommandKinds.{KeepsBy, created_quiet, keeps_by, quiet_command}
+use Rattle.volume_history.proofs.CommandKinds.{commit_kind, created_quiet, quiet_command, undata}
 use Rattle.volume_history.proofs.LegalLines.{answered_faithful, created_faithful, created_ordered, done_faithful, done_ordered, fenced_faithful, fenced_ordered, gives_nothing, given_up_faithful, given_up_ordered, undone_ordered}
 use Rattle.volume_history.proofs.Past.{now_before}
-use Rattle.volume_history.proofs.Phases.{IsPhase, all_moments, finds_with, told_at_end}
+use Rattle.volume_history.proofs.Phases.{IsPhase, all_moments, finds_with, opening_phase, told_at_end, untouched_then}
 use Rattle.volume_history.proofs.Quiet.{took_nothing}
+use Rattle.volume_history.proofs.Reshaped.{HasNoBase, made_primaries, next_places}
 use Rattle.volume_history.proofs.Written.{since_seen, since_seen_now, since_start, unwritten_by}
-use Rattle.volume_history.specs.Candidates.{IsConsistentMoment, no_image}
-use Rattle.volume_history.specs.Chronicles.{Answered, Changed, Entry, GivenUp, Origin, Took, has_written, left_out, names_disk, now_at, origin_at, steps_upto}
-use Rattle.volume_history.specs.Commands.{commits, created_disk, is_fine, is_good}
+use Rattle.volume_history.specs.Candidates.{IsConsistentMoment, is_born, no_image, pending_step, writes_line}
+use Rattle.volume_history.specs.Chronicles.{Answered, Changed, Entry, GivenUp, Opened, Origin, Took, has_written, in_force, left_out, names_disk, now_at, origin_at, pending, piece_covers, steps_upto}
+use Rattle.volume_history.specs.Commands.{commits, created_disk, is_data, is_fine, is_good}
 use Rattle.volume_history.specs.Laws.{DoneCreate, FailedCreate, NoLine, Tells}
 use Rattle.volume_history.specs.Legal.{AllFaithful, AllOrdered, FindsNow, last_moment}
-use Rattle.volume_history.specs.Quiet.{is_quiet}
-use Rattle.volume_history.specs.Replay.{plain_state}
+use Rattle.volume_history.specs.Parts.{FindsPending, NextPart, NextPlaces, ScansPart}
+use Rattle.volume_history.specs.Placed.{group_name, volumes_of}
+use Rattle.volume_history.specs.Quiet.{AllUntouched}
+use Rattle.volume_history.specs.Replay.{command_step, opening_state, plain_state}
 use Rattle.volume_history.specs.Runs.{zero_piece}
 use Rattle.volume_history.specs.Single.{AllFind, CommitLaw, CreateLaw, DoneLaw, GivenUpLaw, IsStill, LeavesDisk, StaysLaw, answered_entries, begun_entries, taken_entries, done_entries, end_of, fenced_entries, given_up_entries, is_half_made, none_out, open_entries}
 use Rattle.lvm_script.specs.declared.answer.Answer.TheVariants as answer
@@ -85,155 +88,204 @@ not_fine (answer.Stopped pv) bad = refl
 not_fine answer.Aborted bad = refl
 not_fine answer.NoMemory bad = refl
 
--- a quiet command that commits nothing took place, and is answered ok: no disk is left out
-is_taken : (o : Origin) (line : Line) → is_quiet line.command ≡ true → AllFind o.sizes none_out o.version o.told → IsPhase o (taken_entries o line) (end_of o)
-is_taken o line quiet finds = record {
-  quiet = record {
-    lines = (quiet, tt);
-    volumes = refl;
-    name = sym (ap (λ (s : PlainStep). (plain_after (plain_state (origin_at (end_of o) o) (begun_entries o line)) s).group)
-        (took_nothing (Some (line, 0)) (zero_piece 0) (quiet_command line.command quiet).writes_xl));
-    next = tt;
-  };
-  scans = λ image is. inl (finds_with o.sizes image none_out (left_out (origin_at (end_of o) o) (taken_entries o line) (length (origin_at (end_of o) o).told.steps)) o.version
-      (λ k. none_left _) (finds image (subst (λ (t : Told). IsImage t image) (told_at_end o) is)));
-}
-  where
-    none_left : (b : Bool) → false ≡ (if b then false else false)
-    none_left true = refl
-    none_left false = refl
+module _ (o : Origin) (line : Line) (still : IsStill o) (plain : is_data line.command ≡ false) where
+  writes_none : writes_line (Some (line, 0)) ≡ false
+  writes_none = (undata line.command plain).0
+
+  no_base : (a w t : Bool) (all rest : List Entry) → w ≡ false → rest ≡ [] → (if a && (w && t) then all else rest) ≡ []
+  no_base true true t all rest e n = cc
+  no_base true false t all rest e n = n
+  no_base false w t all rest e n = n
+
+  -- the command took place without a commit, and is answered ok: no disk is left out
+  is_taken : AllFind o.sizes none_out o.version o.told → IsPhase o (taken_entries o line) (end_of o)
+  is_taken finds =
+      opening_phase o still (taken_entries o line) (end_of o) (omega (arith, still.from, still.until)) (omega arith)
+      (λ key x. no_base (piece_covers (zero_piece 0) key x) (writes_line (Some (line, 0))) true (Took (end_of o) 0 (zero_piece 0) ∷ begun_entries o line) [] writes_none refl)
+      (ap (λ (s : PlainStep). plain_after (opening_state (origin_at (end_of o) o)) s) (took_nothing (Some (line, 0)) (zero_piece 0) writes_none)) refl
+      (λ image is. inl (finds_with o.sizes image none_out (left_out (origin_at (end_of o) o) (taken_entries o line) (length (origin_at (end_of o) o).told.steps)) o.version
+      (λ k. none_left _) (finds image (subst (λ (t : Told). IsImage t image) (told_at_end o) is)))) tt
+    where
+      none_left : (b : Bool) → false ≡ (if b then false else false)
+      none_left true = refl
+      none_left false = refl
 
 pub no_line : NoLine
 no_line o law =
     tells o [] law.still law.still.until tt tt
-    (all_moments o law.still [] [] tt tt (λ m ge lt. stays m ge (omega (arith, lt))) (stays (end_of o) law.still.until (omega arith)))
+    (all_moments o law.still [] [] [] (end_of o) law.still.until (omega arith) tt tt tt (λ m ge lt. stays m ge (omega (arith, lt))) (λ m ge lt. absurd (omega (arith, ge, lt))) (stays (end_of o) law.still.until (omega arith)))
   where
     stays : (m : ℕ) → o.start ≤ m → m ≤ end_of o → IsPhase o [] m
-    stays m ge le = record {
-      quiet = record { lines = tt; volumes = refl; name = refl; next = tt };
-      scans = λ image is. inl (finds_with o.sizes image none_out (left_out (origin_at m o) [] (length (origin_at m o).told.steps)) o.version (λ pv. refl) (law.after m ge le image is));
-    }
+    stays m ge le =
+        opening_phase o law.still [] m (omega (arith, law.still.from, ge)) le (λ key x. refl) refl refl
+        (λ image is. inl (finds_with o.sizes image none_out (left_out (origin_at m o) [] (length (origin_at m o).told.steps)) o.version (λ pv. refl) (law.after m ge le image is))) tt
 
-module _ (o : Origin) (line : Line) (law : StaysLaw o) (quiet : is_quiet line.command ≡ true) (alone : LeavesDisk o line) where
+module _ (o : Origin) (line : Line) (law : StaysLaw o) (plain : is_data line.command ≡ false) (alone : LeavesDisk o line) where
   is_open_line : (m : ℕ) → o.start ≤ m → m ≤ end_of o → IsPhase o (begun_entries o line) m
-  is_open_line m ge le = record {
-    quiet = record { lines = (quiet, tt); volumes = refl; name = refl; next = tt };
-    scans = λ image is. inl (finds_with o.sizes image none_out (left_out (origin_at m o) (begun_entries o line) (length (origin_at m o).told.steps)) o.version
-        (λ pv. leaves_none o line alone m ge le (λ k. has_written (since_start o m) k) (λ k. refl) pv ∙ sym (out_begun o line m le pv)) (law.after m ge le image is));
-  }
+  is_open_line m ge le =
+      opening_phase o law.still (begun_entries o line) m (omega (arith, law.still.from, ge)) le (λ key x. refl) refl refl
+      (λ image is. inl (finds_with o.sizes image none_out (left_out (origin_at m o) (begun_entries o line) (length (origin_at m o).told.steps)) o.version
+      (λ pv. leaves_none o line alone m ge le (λ k. has_written (since_start o m) k) (λ k. refl) pv ∙ sym (out_begun o line m le pv)) (law.after m ge le image is))) tt
 
   pub undone_line : (a : Answer) → is_good a ≡ false → Tells o (answered_entries o line a)
   undone_line a bad =
       tells o (answered_entries o line a) law.still (omega arith)
-      (undone_ordered o line quiet law.still.until a bad) (answered_faithful o line quiet law.still.until a (gives_nothing (origin_at (end_of o) o) (begun_entries o line) 0 a bad))
-      (all_moments o law.still (Answered (end_of o) 0 a ∷ []) (begun_entries o line) (refl, tt) (refl, tt) (λ m ge lt. is_open_line m ge (omega (arith, lt))) answered)
+      (undone_ordered o line plain law.still.until a bad) (answered_faithful o line plain law.still.until a (gives_nothing (origin_at (end_of o) o) (begun_entries o line) 0 a bad))
+      (all_moments o law.still (Answered (end_of o) 0 a ∷ []) [] (begun_entries o line) (end_of o) law.still.until (omega arith) (refl, tt) tt (refl, tt)
+      (λ m ge lt. is_open_line m ge (omega (arith, lt))) (λ m ge lt. absurd (omega (arith, ge, lt))) answered)
     where
       answered : IsPhase o (answered_entries o line a) (end_of o)
-      answered = record {
-        quiet = record { lines = (quiet, tt); volumes = refl; name = refl; next = tt };
-        scans = λ image is. inl (finds_with o.sizes image none_out (left_out (origin_at (end_of o) o) (answered_entries o line a) (length (origin_at (end_of o) o).told.steps)) o.version
-            (λ pv. leaves_none o line alone (end_of o) law.still.until (omega arith) (λ k. has_written (since_start o (end_of o)) k) (λ k. refl) pv ∙ sym (out_answered o line a (not_fine a bad) pv))
-            (law.after (end_of o) law.still.until (omega arith) image is));
-      }
+      answered =
+          opening_phase o law.still (answered_entries o line a) (end_of o) (omega (arith, law.still.from, law.still.until)) (omega arith) (λ key x. refl) refl refl
+          (λ image is. inl (finds_with o.sizes image none_out (left_out (origin_at (end_of o) o) (answered_entries o line a) (length (origin_at (end_of o) o).told.steps)) o.version
+          (λ pv. leaves_none o line alone (end_of o) law.still.until (omega arith) (λ k. has_written (since_start o (end_of o)) k) (λ k. refl) pv ∙ sym (out_answered o line a (not_fine a bad) pv))
+          (law.after (end_of o) law.still.until (omega arith) image is))) tt
 
   pub done_line : commits line.command ≡ false → Tells o (taken_entries o line)
   done_line none =
       tells o (taken_entries o line) law.still (omega arith)
-      (created_ordered o line quiet law.still.until none) (created_faithful o line quiet law.still.until)
-      (all_moments o law.still (Answered (end_of o) 0 answer.Fine ∷ Took (end_of o) 0 (zero_piece 0) ∷ []) (begun_entries o line) (refl, (refl, tt)) (refl, tt)
-      (λ m ge lt. is_open_line m ge (omega (arith, lt))) (is_taken o line quiet (λ image is. law.after (end_of o) law.still.until (omega arith) image (subst (λ (t : Told). IsImage t image) (sym (told_at_end o)) is))))
+      (created_ordered o line plain law.still.until none) (created_faithful o line plain law.still.until)
+      (all_moments o law.still (Answered (end_of o) 0 answer.Fine ∷ Took (end_of o) 0 (zero_piece 0) ∷ []) [] (begun_entries o line) (end_of o) law.still.until (omega arith) (refl, (refl, tt)) tt (refl, tt)
+      (λ m ge lt. is_open_line m ge (omega (arith, lt))) (λ m ge lt. absurd (omega (arith, ge, lt)))
+      (is_taken o line law.still plain (λ image is. law.after (end_of o) law.still.until (omega arith) image (subst (λ (t : Told). IsImage t image) (sym (told_at_end o)) is))))
 
 -- ---- commits
 
-module _ (o : Origin) (line : Line) (version : Option Version) (law : CommitLaw o line version) where
-  keeps : KeepsBy line.command o.version version
-  keeps = keeps_by line.command o.version version law.keeps
+module _ (o : Origin) (line : Line) (opened : ℕ) (version : Option Version) (law : CommitLaw o line opened version) where
+  kind_of : (is_data line.command ≡ false) × (created_disk o.names line.command ≡ None)
+  kind_of = commit_kind o.names line.command law.commits_xl
+
+  begins : o.first ≤ opened
+  begins = let a : o.first ≤ o.start = law.still.from in let b : o.start ≤ opened = law.from in omega (arith, a, b)
 
   -- no disk is left out, whatever a line that creates none has written
   out_none : (written fine : Bool) (pv : ℕ) → none_out pv ≡ (if names_disk (created_disk o.names line.command) pv && written then fine else false)
-  out_none written fine pv = ap (λ (d : Option ℕ). if names_disk d pv && written then fine else false) (sym (keeps.creates o.names))
+  out_none written fine pv = ap (λ (d : Option ℕ). if names_disk d pv && written then fine else false) (sym kind_of.1)
 
-  is_open : (m : ℕ) → o.start ≤ m → m ≤ end_of o → IsPhase o (open_entries o line version) m
-  is_open m ge le = record {
-    quiet = record {
-      lines = (keeps.quiet, tt);
-      volumes = refl;
-      name = refl;
-      next = (keeps.volumes, keeps.named (plain_state (origin_at m o) (open_entries o line version)) no_image refl);
-    };
-    scans = λ image is.
-        ⊎_elim
-        (λ old. inl (finds_with o.sizes image none_out (left_out (origin_at m o) (open_entries o line version) (length (origin_at m o).told.steps)) o.version (λ pv. out_none _ _ pv) old))
-        (λ new. inr (finds_with o.sizes image none_out (left_out (origin_at m o) (open_entries o line version) (length (origin_at m o).told.steps)) version (λ pv. out_none _ _ pv) new))
-        (law.between m ge le image is);
-  }
+  -- before its commit starts
+  is_begun_line : (m : ℕ) → o.start ≤ m → m < opened → IsPhase o (begun_entries o line) m
+  is_begun_line m ge lt =
+      let le : m ≤ end_of o = omega (arith, lt, law.until) in
+      opening_phase o law.still (begun_entries o line) m (omega (arith, law.still.from, ge)) le (λ key x. refl) refl refl
+      (λ image is. inl (finds_with o.sizes image none_out (left_out (origin_at m o) (begun_entries o line) (length (origin_at m o).told.steps)) o.version (λ pv. out_none _ _ pv) (law.before m ge lt image is))) tt
 
-  pub done_commit : DoneLaw o version → Tells o (done_entries o line version)
+  -- the version in force or the next one is found at a moment of the commit
+  either_found : (m : ℕ) (es : List Entry) → pending es ≡ Some (0, version) → in_force (origin_at m o) es ≡ o.version → opened ≤ m → m ≤ end_of o
+      → ((pv : ℕ) → none_out pv ≡ left_out (origin_at m o) es (length (origin_at m o).told.steps) pv) → ScansPart (origin_at m o) es
+  either_found m es waits force ge le none image is =
+      ⊎_elim
+      (λ old. inl (subst (λ (v : Option Version). FindsVersion o.sizes image (left_out (origin_at m o) es (length (origin_at m o).told.steps)) v) (sym force)
+      (finds_with o.sizes image none_out (left_out (origin_at m o) es (length (origin_at m o).told.steps)) o.version none old)))
+      (λ new. inr (subst (λ (p : Option (ℕ × Option Version)). FindsPending (origin_at m o) es image p) (sym waits)
+      (finds_with o.sizes image none_out (left_out (origin_at m o) es (length (origin_at m o).told.steps)) version none new)))
+      (law.between m ge le image is)
+
+  -- the places of the pending version
+  next_part : (m : ℕ) (es : List Entry) → opened ≤ m → m ≤ end_of o → HasNoBase (origin_at m o) es → plain_state (origin_at m o) es ≡ opening_state (origin_at m o)
+      → pending_step (origin_at m o) es 0 version ≡ command_step line.command o.version version (opening_state (origin_at m o)) no_image → NextPart (origin_at m o) es (Some (0, version))
+  next_part m es ge le none opening step =
+      let at : Origin = origin_at m o in
+      let image : Image = now_at at o.first in
+      let own : PlainStep = command_step line.command o.version version (opening_state at) no_image in
+      subst (λ (s : PlainStep). (group_name version ≡ (plain_after (plain_state at es) s).group) × NextPlaces at es s (volumes_of version) (plain_after (plain_state at es) s).volumes) (sym step)
+      (subst (λ (s : PlainState). (group_name version ≡ (plain_after s own).group) × NextPlaces at es own (volumes_of version) (plain_after s own).volumes) (sym opening)
+      (law.keeps.named image no_image, next_places at es none opening (untouched_then o law.still m (let b = begins in omega (arith, b, ge)) le) line.command version law.keeps (law.zeroed m ge le no_image)))
+
+  is_open : (m : ℕ) → opened ≤ m → m ≤ end_of o → IsPhase o (open_entries o line opened version) m
+  is_open m ge le =
+      opening_phase o law.still (open_entries o line opened version) m (let b = begins in omega (arith, b, ge)) le (λ key x. refl) refl refl
+      (either_found m (open_entries o line opened version) refl refl ge le (λ pv. out_none _ _ pv)) (next_part m (open_entries o line opened version) ge le (λ key x. refl) refl refl)
+
+  -- at the end
+  abbrev at : Origin
+  at = origin_at (end_of o) o
+
+  abbrev state : PlainState
+  state = opening_state at
+
+  abbrev image : Image
+  image = now_at at (end_of o)
+
+  abbrev step : Image → PlainStep
+  step shown = command_step line.command o.version version state shown
+
+  pub done_commit : DoneLaw o version → Tells o (done_entries o line opened version)
   done_commit done =
-      tells o (done_entries o line version) law.still (omega arith)
-      (done_ordered o line keeps.quiet law.still.until version keeps.commits_xl) (done_faithful o line keeps.quiet law.still.until version law.makes found)
-      (all_moments o law.still (Answered (end_of o) 0 answer.Fine ∷ Changed (end_of o) 0 version ∷ []) (open_entries o line version) (refl, (refl, tt)) (refl, (refl, tt))
-      (λ m ge lt. is_open m ge (omega (arith, lt))) is_done)
+      tells o (done_entries o line opened version) law.still (omega arith)
+      (done_ordered o line kind_of.0 law.still.until opened law.from law.until version law.commits_xl) (done_faithful o line kind_of.0 law.still.until opened law.from law.until version law.makes found)
+      (all_moments o law.still (Answered (end_of o) 0 answer.Fine ∷ Changed (end_of o) 0 version ∷ []) (Opened opened 0 version ∷ []) (begun_entries o line) opened law.from law.until (refl, (refl, tt)) (refl, tt) (refl, tt)
+      is_begun_line (λ m ge lt. is_open m ge (omega (arith, lt))) is_done)
     where
-      found : FindsNow (origin_at (end_of o) o) (open_entries o line version) (end_of o) version
+      found : FindsNow at (open_entries o line opened version) (end_of o) version
       found =
-          subst (λ (i : Image). FindsVersion o.sizes i (left_out (origin_at (end_of o) o) (open_entries o line version) (end_of o)) version)
+          subst (λ (i : Image). FindsVersion o.sizes i (left_out at (open_entries o line opened version) (end_of o)) version)
           (sym (now_before o (end_of o) (end_of o) (omega arith) (omega arith)))
-          (finds_with o.sizes (now_at o (end_of o)) (left_out o [] (end_of o)) (left_out (origin_at (end_of o) o) (open_entries o line version) (end_of o)) version (λ pv. out_none _ _ pv) done.found)
+          (finds_with o.sizes (now_at o (end_of o)) (left_out o [] (end_of o)) (left_out at (open_entries o line opened version) (end_of o)) version (λ pv. out_none _ _ pv) done.found)
 
-      is_done : IsPhase o (done_entries o line version) (end_of o)
+      by_birth : (b c : Bool) (all rest : List Entry) → b ≡ c → c ≡ true → (if b then all else rest) ≡ all
+      by_birth true c all rest e is = refl
+      by_birth false c all rest e is = absurd (let f : false ≡ true = e ∙ is in cc)
+
+      by_none : (b c : Bool) (all rest : List Entry) → b ≡ c → c ≡ false → (if b then all else rest) ≡ rest
+      by_none true c all rest e is = absurd (let f : true ≡ false = e ∙ is in cc)
+      by_none false c all rest e is = refl
+
+      opening_image : Image
+      opening_image = now_at at o.first
+
+      births : (key x : ℕ) → is_born (step no_image) state key x ≡ is_born (step image) state key x
+      births key x = sym (law.keeps.births (now_at at o.first) image key x)
+
+      untouched : AllUntouched image (volumes_of version) at.told
+      untouched =
+          subst (λ (i : Image). AllUntouched i (volumes_of version) at.told) (sym (now_before o (end_of o) (end_of o) (omega arith) (omega arith)))
+          (subst (λ (t : Told). AllUntouched (now_at o (end_of o)) (volumes_of version) t) (sym (told_at_end o)) done.untouched)
+
+      is_done : IsPhase o (done_entries o line opened version) (end_of o)
       is_done = record {
-        quiet = record {
-          lines = (keeps.quiet, tt);
-          volumes = keeps.volumes;
-          name = keeps.named (plain_state (origin_at (end_of o) o) (open_entries o line version)) (now_at (origin_at (end_of o) o) (end_of o)) refl;
-          next = tt;
-        };
-        scans = λ image is. inl (finds_with o.sizes image none_out (left_out (origin_at (end_of o) o) (done_entries o line version) (length (origin_at (end_of o) o).told.steps)) version
-            (λ pv. out_none _ _ pv) (done.after image (subst (λ (t : Told). IsImage t image) (told_at_end o) is)));
+        scans = λ shown is. inl (finds_with o.sizes shown none_out (left_out at (done_entries o line opened version) (length at.told.steps)) version
+            (λ pv. out_none _ _ pv) (done.after shown (subst (λ (t : Told). IsImage t shown) (told_at_end o) is)));
+        primaries =
+            made_primaries at (open_entries o line opened version) (λ key x. refl) (untouched_then o law.still (end_of o) (let b = begins in let c = law.until in omega (arith, b, c)) (omega arith)) (done_entries o line opened version) (step image) image
+            (λ key x born. ap (λ (b : List Entry). sector_of (plain_state at b) key x)
+            (by_birth (is_born (step no_image) state key x) (is_born (step image) state key x) (Changed (end_of o) 0 version ∷ open_entries o line opened version) [] (births key x) born))
+            (λ key x old. by_none (is_born (step no_image) state key x) (is_born (step image) state key x) (Changed (end_of o) 0 version ∷ open_entries o line opened version) [] (births key x) old)
+            (volumes_of version) (plain_after state (step image)).volumes (law.keeps.volumes (now_at at o.first) image) untouched (law.zeroed (end_of o) law.until (omega arith) image);
+        name = law.keeps.named (now_at at o.first) image;
+        next = tt;
       }
 
-  pub given_up_commit : (pv : ℕ) → GivenUpLaw o → Tells o (given_up_entries o line version pv)
+  pub given_up_commit : (pv : ℕ) → GivenUpLaw o → Tells o (given_up_entries o line opened version pv)
   given_up_commit pv given_up =
-      tells o (given_up_entries o line version pv) law.still (omega arith)
-      (given_up_ordered o line keeps.quiet law.still.until version pv keeps.commits_xl) (given_up_faithful o line keeps.quiet law.still.until version pv law.makes)
-      (all_moments o law.still (Answered (end_of o) 0 (answer.PvFailed pv) ∷ GivenUp (end_of o) 0 ∷ []) (open_entries o line version) (refl, (refl, tt)) (refl, (refl, tt))
-      (λ m ge lt. is_open m ge (omega (arith, lt))) is_given_up)
+      tells o (given_up_entries o line opened version pv) law.still (omega arith)
+      (given_up_ordered o line kind_of.0 law.still.until opened law.from law.until version pv law.commits_xl) (given_up_faithful o line kind_of.0 law.still.until opened law.from law.until version law.makes pv)
+      (all_moments o law.still (Answered (end_of o) 0 (answer.PvFailed pv) ∷ GivenUp (end_of o) 0 ∷ []) (Opened opened 0 version ∷ []) (begun_entries o line) opened law.from law.until (refl, (refl, tt)) (refl, tt) (refl, tt)
+      is_begun_line (λ m ge lt. is_open m ge (omega (arith, lt))) is_given_up)
     where
-      is_given_up : IsPhase o (given_up_entries o line version pv) (end_of o)
-      is_given_up = record {
-        quiet = record { lines = (keeps.quiet, tt); volumes = refl; name = refl; next = tt };
-        scans = λ image is. inl (finds_with o.sizes image none_out (left_out (origin_at (end_of o) o) (given_up_entries o line version pv) (length (origin_at (end_of o) o).told.steps)) o.version
-            (λ pv. out_none _ _ pv) (given_up.after image (subst (λ (t : Told). IsImage t image) (told_at_end o) is)));
-      }
+      is_given_up : IsPhase o (given_up_entries o line opened version pv) (end_of o)
+      is_given_up =
+          opening_phase o law.still (given_up_entries o line opened version pv) (end_of o) (let b = begins in let c = law.until in omega (arith, b, c)) (omega arith) (λ key x. refl) refl refl
+          (λ image is. inl (finds_with o.sizes image none_out (left_out (origin_at (end_of o) o) (given_up_entries o line opened version pv) (length (origin_at (end_of o) o).told.steps)) o.version
+          (λ k. out_none _ _ k) (given_up.after image (subst (λ (t : Told). IsImage t image) (told_at_end o) is)))) tt
 
-  pub fenced_commit : (pv : ℕ) → Tells o (fenced_entries o line version pv)
+  pub fenced_commit : (pv : ℕ) → Tells o (fenced_entries o line opened version pv)
   fenced_commit pv =
-      tells o (fenced_entries o line version pv) law.still (omega arith)
-      (fenced_ordered o line keeps.quiet law.still.until version pv keeps.commits_xl) (fenced_faithful o line keeps.quiet law.still.until version pv law.makes)
-      (all_moments o law.still (Answered (end_of o) 0 (answer.PvFailed pv) ∷ []) (open_entries o line version) (refl, tt) (refl, (refl, tt))
-      (λ m ge lt. is_open m ge (omega (arith, lt))) is_fenced)
+      tells o (fenced_entries o line opened version pv) law.still (omega arith)
+      (fenced_ordered o line kind_of.0 law.still.until opened law.from law.until version pv law.commits_xl) (fenced_faithful o line kind_of.0 law.still.until opened law.from law.until version law.makes pv)
+      (all_moments o law.still (Answered (end_of o) 0 (answer.PvFailed pv) ∷ []) (Opened opened 0 version ∷ []) (begun_entries o line) opened law.from law.until (refl, tt) (refl, tt) (refl, tt)
+      is_begun_line (λ m ge lt. is_open m ge (omega (arith, lt))) is_fenced)
     where
-      is_fenced : IsPhase o (fenced_entries o line version pv) (end_of o)
-      is_fenced = record {
-        quiet = record {
-          lines = (keeps.quiet, tt);
-          volumes = refl;
-          name = refl;
-          next = (keeps.volumes, keeps.named (plain_state (origin_at (end_of o) o) (fenced_entries o line version pv)) no_image refl);
-        };
-        scans = λ image is.
-            ⊎_elim
-            (λ old. inl (finds_with o.sizes image none_out (left_out (origin_at (end_of o) o) (fenced_entries o line version pv) (length (origin_at (end_of o) o).told.steps)) o.version (λ pv. out_none _ _ pv) old))
-            (λ new. inr (finds_with o.sizes image none_out (left_out (origin_at (end_of o) o) (fenced_entries o line version pv) (length (origin_at (end_of o) o).told.steps)) version (λ pv. out_none _ _ pv) new))
-            (law.between (end_of o) law.still.until (omega arith) image is);
-      }
+      is_fenced : IsPhase o (fenced_entries o line opened version pv) (end_of o)
+      is_fenced =
+          opening_phase o law.still (fenced_entries o line opened version pv) (end_of o) (let b = begins in let c = law.until in omega (arith, b, c)) (omega arith) (λ key x. refl) refl refl
+          (either_found (end_of o) (fenced_entries o line opened version pv) refl refl law.until (omega arith) (λ k. out_none _ _ k))
+          (next_part (end_of o) (fenced_entries o line opened version pv) law.until (omega arith) (λ key x. refl) refl refl)
 
 -- ---- pvcreate
 
 module _ (o : Origin) (line : Line) (disk before : ℕ) (law : CreateLaw o line disk before) where
-  kind : (is_quiet line.command ≡ true) × (commits line.command ≡ false)
-  kind = created_quiet o.names disk line.command law.names
+  kind : (is_data line.command ≡ false) × (commits line.command ≡ false)
+  kind = let k = created_quiet o.names disk line.command law.names in ((quiet_command line.command k.0).data_xl, k.1)
 
   -- the disk is left out once it was written
   half_made : (m : ℕ) → m ≤ end_of o → (pv : ℕ) → is_half_made o disk m pv ≡ leaves o line (created_disk o.names line.command) (has_written (since_start o m) pv) pv
@@ -244,29 +296,27 @@ module _ (o : Origin) (line : Line) (disk before : ℕ) (law : CreateLaw o line 
       as_it_is false = refl
 
   is_begun : (m : ℕ) → o.start ≤ m → m < before → m ≤ end_of o → IsPhase o (begun_entries o line) m
-  is_begun m ge lt le = record {
-    quiet = record { lines = (kind.0, tt); volumes = refl; name = refl; next = tt };
-    scans = λ image is. inl (finds_with o.sizes image (is_half_made o disk m) (left_out (origin_at m o) (begun_entries o line) (length (origin_at m o).told.steps)) o.version
-        (λ pv. half_made m le pv ∙ sym (out_begun o line m le pv)) (law.between m ge lt image is));
-  }
+  is_begun m ge lt le =
+      opening_phase o law.still (begun_entries o line) m (omega (arith, law.still.from, ge)) le (λ key x. refl) refl refl
+      (λ image is. inl (finds_with o.sizes image (is_half_made o disk m) (left_out (origin_at m o) (begun_entries o line) (length (origin_at m o).told.steps)) o.version
+      (λ pv. half_made m le pv ∙ sym (out_begun o line m le pv)) (law.between m ge lt image is))) tt
 
 pub done_create : DoneCreate
 done_create o line disk law done =
     tells o (taken_entries o line) law.still (omega arith)
     (created_ordered o line (kind o line disk (end_of o) law).0 law.still.until (kind o line disk (end_of o) law).1) (created_faithful o line (kind o line disk (end_of o) law).0 law.still.until)
-    (all_moments o law.still (Answered (end_of o) 0 answer.Fine ∷ Took (end_of o) 0 (zero_piece 0) ∷ []) (begun_entries o line) (refl, (refl, tt)) (refl, tt)
-    (λ m ge lt. is_begun o line disk (end_of o) law m ge lt (omega (arith, lt))) (is_taken o line (kind o line disk (end_of o) law).0 done.after))
+    (all_moments o law.still (Answered (end_of o) 0 answer.Fine ∷ Took (end_of o) 0 (zero_piece 0) ∷ []) [] (begun_entries o line) (end_of o) law.still.until (omega arith) (refl, (refl, tt)) tt (refl, tt)
+    (λ m ge lt. is_begun o line disk (end_of o) law m ge lt (omega (arith, lt))) (λ m ge lt. absurd (omega (arith, ge, lt))) (is_taken o line law.still (kind o line disk (end_of o) law).0 done.after))
 
 pub failed_create : FailedCreate
 failed_create o line disk pv law =
     tells o (answered_entries o line (answer.PvFailed pv)) law.still (omega arith)
     (undone_ordered o line (kind o line disk (end_of o + 1) law).0 law.still.until (answer.PvFailed pv) refl) (answered_faithful o line (kind o line disk (end_of o + 1) law).0 law.still.until (answer.PvFailed pv) tt)
-    (all_moments o law.still (Answered (end_of o) 0 (answer.PvFailed pv) ∷ []) (begun_entries o line) (refl, tt) (refl, tt)
-    (λ m ge lt. is_begun o line disk (end_of o + 1) law m ge (omega (arith, lt)) (omega (arith, lt))) is_failed)
+    (all_moments o law.still (Answered (end_of o) 0 (answer.PvFailed pv) ∷ []) [] (begun_entries o line) (end_of o) law.still.until (omega arith) (refl, tt) tt (refl, tt)
+    (λ m ge lt. is_begun o line disk (end_of o + 1) law m ge (omega (arith, lt)) (omega (arith, lt))) (λ m ge lt. absurd (omega (arith, ge, lt))) is_failed)
   where
     is_failed : IsPhase o (answered_entries o line (answer.PvFailed pv)) (end_of o)
-    is_failed = record {
-      quiet = record { lines = ((kind o line disk (end_of o + 1) law).0, tt); volumes = refl; name = refl; next = tt };
-      scans = λ image is. inl (finds_with o.sizes image (is_half_made o disk (end_of o)) (left_out (origin_at (end_of o) o) (answered_entries o line (answer.PvFailed pv)) (length (origin_at (end_of o) o).told.steps)) o.version
-          (λ k. half_made o line disk (end_of o + 1) law (end_of o) (omega arith) k ∙ sym (out_answered o line (answer.PvFailed pv) refl k)) (law.between (end_of o) law.still.until (omega arith) image is));
-    }
+    is_failed =
+        opening_phase o law.still (answered_entries o line (answer.PvFailed pv)) (end_of o) (omega (arith, law.still.from, law.still.until)) (omega arith) (λ key x. refl) refl refl
+        (λ image is. inl (finds_with o.sizes image (is_half_made o disk (end_of o)) (left_out (origin_at (end_of o) o) (answered_entries o line (answer.PvFailed pv)) (length (origin_at (end_of o) o).told.steps)) o.version
+        (λ k. half_made o line disk (end_of o + 1) law (end_of o) (omega arith) k ∙ sym (out_answered o line (answer.PvFailed pv) refl k)) (law.between (end_of o) law.still.until (omega arith) image is))) tt

@@ -79,21 +79,28 @@ module _ (no_group : (image : Image) → image 0 0 ≡ old_header → FindsVersi
     found = finds_with (99 ∷ []) opened none_out (left_out (origin_at 0 (origin_of told)) [] 0) None (λ pv. refl) (no_group opened refl);
   }
 
-  law : CommitLaw (origin_of told) making (Some version_1)
+  law : CommitLaw (origin_of told) making 0 (Some version_1)
   unfolding volumes_of
   law = record {
     still = still;
-    keeps = (refl, refl);
+    from = omega arith;
+    until = omega arith;
+    commits_xl = refl;
+    keeps = record { named = λ opening image. refl; volumes = λ opening image. tt; births = λ opening image key x. refl };
+    zeroed = λ m ge le image. tt;
+    before = λ m ge lt. absurd (omega (arith, lt));
     makes = makes;
     between = λ m ge le image is. ⊎_elim (λ old. inl (no_group image old)) (λ new. inr (one_group image new)) (shown m le image is);
   }
 
   done : DoneLaw (origin_of told) (Some version_1)
+  unfolding volumes_of
   done = record {
     after = λ image is. one_group image (flushed image is);
+    untouched = tt;
     found = finds_with (99 ∷ []) (now_at (origin_of told) 4) none_out (left_out (origin_of told) [] 4) (Some version_1) (λ pv. refl) (one_group (now_at (origin_of told) 4) refl);
   }
 
   -- so the run has its history
-  pub small_run : Tells (origin_of told) (done_entries (origin_of told) making (Some version_1))
-  small_run = done_commit (origin_of told) making (Some version_1) law done
+  pub small_run : Tells (origin_of told) (done_entries (origin_of told) making 0 (Some version_1))
+  small_run = done_commit (origin_of told) making 0 (Some version_1) law done

@@ -20,7 +20,7 @@ abbrev early_told : Told
 early_told = record { opened = opened; steps = Submitted 1 (Writing header (new_header ∷ [])) ∷ [] }
 
 abbrev early : Chronicle
-early = record { origin = origin_of early_told; entries = done_entries (origin_of early_told) making (Some version_1) }
+early = record { origin = origin_of early_told; entries = done_entries (origin_of early_told) making 0 (Some version_1) }
 
 -- where a scan of what was opened finds no group, and nothing else
 module _ (no_group : FindsVersion (99 ∷ []) opened none_out None) (one : (v : Option Version) → FindsVersion (99 ∷ []) opened none_out v → None ≡ v) where
@@ -28,10 +28,10 @@ module _ (no_group : FindsVersion (99 ∷ []) opened none_out None) (one : (v : 
   differ None e f = cc
   differ (Some w) e f = cc
 
-  wrong : IsConsistent (origin_at 1 (origin_of early_told)) (done_entries (origin_of early_told) making (Some version_1)) opened → ⊥
+  wrong : IsConsistent (origin_at 1 (origin_of early_told)) (done_entries (origin_of early_told) making 0 (Some version_1)) opened → ⊥
   wrong c =
       ⊎_elim
-      (λ force. differ c.version (one c.version (finds_with (99 ∷ []) opened (left_out (origin_at 1 (origin_of early_told)) (done_entries (origin_of early_told) making (Some version_1)) 1) none_out c.version (λ pv. refl) c.scan)) force.0)
+      (λ force. differ c.version (one c.version (finds_with (99 ∷ []) opened (left_out (origin_at 1 (origin_of early_told)) (done_entries (origin_of early_told) making 0 (Some version_1)) 1) none_out c.version (λ pv. refl) c.scan)) force.0)
       (λ none. none)
       c.shows
 

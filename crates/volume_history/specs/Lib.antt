@@ -6,6 +6,8 @@ pub mod Legal
 pub mod Candidates
 pub mod Sources
 pub mod Parts
+pub mod Reshaping
+pub mod Changing
 pub mod Quiet
 pub mod Runs
 pub mod Single

@@ -1,5 +1,5 @@
--- The histories of a single command that leaves the volumes as they are, by how it ends.
-use Rattle.std.specs.Prelude.{◌≡◌, ◌≤◌, ◌<◌, ◌⊎◌, ℕ, ◌-◌, ◌==◌, ◌&&◌, Bool, false, List, [], ◌∷◌, length, take, Option, Some}
+-- The histories of a single command, by how it ends.
+use Rattle.std.specs.Prelude.{◌≡◌, ◌≤◌, ◌<◌, ◌⊎◌, ℕ, ◌-◌, ◌==◌, ◌&&◌, Bool, true, false, List, [], ◌∷◌, length, take, Option, Some}
 use Rattle.disk_model.specs.CrashValues.{IsImage}
 use Rattle.disk_model.specs.Moments.{at_moment}
 use Rattle.disk_model.specs.Steps.{Image, Told}
@@ -7,13 +7,15 @@ use Rattle.image_scans.specs.Versions.{FindsVersion, Version}
 use Rattle.lvm_script.specs.declared.answer.Answer.{Answer}
 use Rattle.lvm_script.specs.declared.answer.Answer.TheVariants as answer
 use Rattle.lvm_script.specs.declared.command.Command.{Command}
-use Rattle.lvm_script.specs.declared.command.Command.TheVariants.{Vgcreate, Vgextend}
 use Rattle.lvm_script.specs.declared.line.Line.{Line}
-use Rattle.volume_history.specs.Placed.{group_name, volumes_of}
-use Rattle.volume_history.specs.Commands.{created_disk}
+use Rattle.volume_history.specs.Placed.{volumes_of}
+use Rattle.line_table.specs.Machine.{plain_after}
+use Rattle.volume_history.specs.Commands.{commits, created_disk}
 use Rattle.volume_history.specs.Chronicles.{Entry, Begun, Opened, Took, Changed, GivenUp, Answered, Origin, has_written, now_at, origin_at, steps_upto}
 use Rattle.volume_history.specs.Legal.{FindsNow, Makes}
 use Rattle.volume_history.specs.Quiet.{AllUntouched}
+use Rattle.volume_history.specs.Replay.{command_step, opening_state}
+use Rattle.volume_history.specs.Reshaping.{AllZeroed, MakesVersion}
 use Rattle.volume_history.specs.Runs.{zero_piece}
 
 -- ---- entries, the newest first
@@ -30,21 +32,21 @@ begun_entries o line = Begun o.start 0 line 0 ∷ []
 abbrev pub answered_entries : Origin → Line → Answer → List Entry
 answered_entries o line answer = Answered (end_of o) 0 answer ∷ begun_entries o line
 
--- its commit of this version starts
-abbrev pub open_entries : Origin → Line → Option Version → List Entry
-open_entries o line version = Opened o.start 0 version ∷ begun_entries o line
+-- its commit of this version starts at a moment
+abbrev pub open_entries : Origin → Line → ℕ → Option Version → List Entry
+open_entries o line opened version = Opened opened 0 version ∷ begun_entries o line
 
 -- it was made, and the line answered
-abbrev pub done_entries : Origin → Line → Option Version → List Entry
-done_entries o line version = Answered (end_of o) 0 answer.Fine ∷ Changed (end_of o) 0 version ∷ open_entries o line version
+abbrev pub done_entries : Origin → Line → ℕ → Option Version → List Entry
+done_entries o line opened version = Answered (end_of o) 0 answer.Fine ∷ Changed (end_of o) 0 version ∷ open_entries o line opened version
 
 -- it was given up, since an operation on this disk failed before it was published
-abbrev pub given_up_entries : Origin → Line → Option Version → ℕ → List Entry
-given_up_entries o line version pv = Answered (end_of o) 0 (answer.PvFailed pv) ∷ GivenUp (end_of o) 0 ∷ open_entries o line version
+abbrev pub given_up_entries : Origin → Line → ℕ → Option Version → ℕ → List Entry
+given_up_entries o line opened version pv = Answered (end_of o) 0 (answer.PvFailed pv) ∷ GivenUp (end_of o) 0 ∷ open_entries o line opened version
 
 -- it fences the group, since an operation on this disk failed while it was published
-abbrev pub fenced_entries : Origin → Line → Option Version → ℕ → List Entry
-fenced_entries o line version pv = Answered (end_of o) 0 (answer.PvFailed pv) ∷ open_entries o line version
+abbrev pub fenced_entries : Origin → Line → ℕ → Option Version → ℕ → List Entry
+fenced_entries o line opened version pv = Answered (end_of o) 0 (answer.PvFailed pv) ∷ open_entries o line opened version
 
 -- a command that commits nothing was done
 abbrev pub taken_entries : Origin → Line → List Entry
@@ -82,23 +84,30 @@ pub record StaysLaw (o : Origin) : Type 0 where
 abbrev pub LeavesDisk : Origin → Line → Type 0
 LeavesDisk o line = (disk : ℕ) → created_disk o.names line.command ≡ Some disk → has_written (take (end_of o - o.start) o.told.steps) disk ≡ false
 
--- the command makes a version with the same volumes at the same places, under the name that the machine then has
-abbrev pub KeepsVolumes : Command → Option Version → Option Version → Type 0
-KeepsVolumes (Vgcreate vg extent_size pvs) before after = (volumes_of after ≡ volumes_of before) × (group_name after ≡ Some vg)
-KeepsVolumes (Vgextend vg pvs) before after = (volumes_of after ≡ volumes_of before) × (group_name after ≡ group_name before)
-KeepsVolumes _ before after = ⊥
+-- only zeros may be left at the places of the sectors that are born as zeros in the version
+abbrev pub ZeroesStand : Origin → Command → Option Version → Type 0
+ZeroesStand o c version =
+    (image : Image)
+    → AllZeroed o (command_step c o.version version (opening_state o) image) (opening_state o) (volumes_of version)
+    (plain_after (opening_state o) (command_step c o.version version (opening_state o) image)).volumes
 
--- a commit that was begun at the start: until the end every image shows the version in force or the next one
-pub record CommitLaw (o : Origin) (line : Line) (version : Option Version) : Type 0 where
+-- a commit that starts at a moment: until then every image shows the version in force, and then that or the next one
+pub record CommitLaw (o : Origin) (line : Line) (opened : ℕ) (version : Option Version) : Type 0 where
   pub still : IsStill o
-  pub keeps : KeepsVolumes line.command o.version version
-  pub makes : Makes (origin_at o.start o) (begun_entries o line) o.start line version
-  pub between : (m : ℕ) → o.start ≤ m → m ≤ end_of o → AllFindEither o.sizes o.version version (at_moment m o.told)
+  pub from : o.start ≤ opened
+  pub until : opened ≤ end_of o
+  pub commits_xl : commits line.command ≡ true
+  pub keeps : MakesVersion line.command o.version version
+  pub zeroed : (m : ℕ) → opened ≤ m → m ≤ end_of o → ZeroesStand (origin_at m o) line.command version
+  pub before : (m : ℕ) → o.start ≤ m → m < opened → AllFind o.sizes none_out o.version (at_moment m o.told)
+  pub makes : Makes (origin_at opened o) (begun_entries o line) opened line version
+  pub between : (m : ℕ) → opened ≤ m → m ≤ end_of o → AllFindEither o.sizes o.version version (at_moment m o.told)
 
--- it was done: at the end every image shows the next version, and so does a scan
+-- it was done: at the end every image shows the next version, and so does a scan; and each place of its volumes has one value
 pub record DoneLaw (o : Origin) (version : Option Version) : Type 0 where
   pub after : AllFind o.sizes none_out version o.told
   pub found : FindsNow o [] (end_of o) version
+  pub untouched : AllUntouched (now_at o (end_of o)) (volumes_of version) o.told
 
 -- it was given up: at the end every image shows the version in force
 pub record GivenUpLaw (o : Origin) : Type 0 where

@@ -11,13 +11,13 @@ pub returns-clause-line : goal.returns-clause-line
 returns-clause-line c = λ o line law quiet alone none. done_line o line law quiet alone none
 
 pub returns-clause-done : goal.returns-clause-done
-returns-clause-done c = λ o line version law done. done_commit o line version law done
+returns-clause-done c = λ o line opened version law done. done_commit o line opened version law done
 
 pub returns-clause-given_up : goal.returns-clause-given_up
-returns-clause-given_up c = λ o line version pv law given_up. given_up_commit o line version law pv given_up
+returns-clause-given_up c = λ o line opened version pv law given_up. given_up_commit o line opened version law pv given_up
 
 pub returns-clause-fenced : goal.returns-clause-fenced
-returns-clause-fenced c = λ o line version pv law. fenced_commit o line version law pv
+returns-clause-fenced c = λ o line opened version pv law. fenced_commit o line opened version law pv
 
 pub returns-clause-created : goal.returns-clause-created
 returns-clause-created c = λ o line disk law done. done_create o line disk law done
