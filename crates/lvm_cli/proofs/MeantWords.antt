@@ -1,21 +1,21 @@
 -- What words ask for has the values that the tests of single words let through.
-use Rattle.std.proofs.Common.{◌≡◌, ◌≤◌, ◌∙◌, ◌^◌, ◌%◌, ◌+◌, ◌&&◌, ◌⊎◌, ℕ, zero, suc, Bool, true, false, if◌then◌else◌, nat_le, List, [], ◌∷◌, length, Option, Some, None, Result, Ok, Err, IfSome, is_none, is_some, find, option_map, option_and_then, unwrap_or, refl, ap, sym, subst, inl, inr, arith}
+use Rattle.std.proofs.Common.{◌≡◌, ◌≤◌, ◌<◌, ◌∙◌, ◌^◌, ◌%◌, ◌+◌, ◌-◌, ◌&&◌, ◌⊎◌, ℕ, zero, suc, Bool, true, false, if◌then◌else◌, nat_le, List, [], ◌∷◌, length, Option, Some, None, Result, Ok, Err, IfSome, is_none, is_some, find, option_map, option_and_then, unwrap_or, refl, ap, sym, subst, inl, inr, arith}
 use Rattle.std.proofs.lemmas.Bool.{and_parts, cases_Bool, eqb-true, leb-true, true≢false}
 use Rattle.std.proofs.Math.Nat.{two-pow-succ}
 use Rattle.std.specs.Int.{is_power_of_two}
 use Rattle.std.specs.List.{list_all}
 use Rattle.std.specs.Result.{result_ok}
-use Rattle.lvm_name.specs.Names.{group_name_refusal}
+use Rattle.lvm_name.specs.Names.{group_name_refusal, volume_name_refusal}
 use Rattle.lvm_script.specs.declared.amount.Amount.{Amount}
 use Rattle.lvm_script.specs.declared.amount.Growth.{Growth}
 use Rattle.lvm_script.specs.declared.command.Command.{Command}
-use Rattle.lvm_script.specs.declared.command.Command.TheVariants.{Pvck, Pvs, Vgcreate, Vgremove, Vgcfgbackup, Vgcfgrestore, Vgck, Vgs, Lvremove, Lvs}
+use Rattle.lvm_script.specs.declared.command.Command.TheVariants.{Pvck, Pvs, Vgcreate, Vgremove, Vgrename, Vgcfgbackup, Vgcfgrestore, Vgck, Vgs, Lvreduce, Lvremove, Lvrename, Lvs}
 use Rattle.lvm_script.specs.declared.command.Path.{Path}
 use Rattle.lvm_script.specs.declared.command_name.CommandName.{CommandName}
 use Rattle.lvm_script.specs.declared.command_name.CommandName.TheVariants as name
 use Rattle.lvm_script.specs.declared.fault.Fault.{Fault}
 use Rattle.lvm_script.specs.declared.fault.Fault.TheVariants.{BadCount, BadName}
-use Rattle.lvm_script.specs.declared.kind.Kind.TheVariants.{PowerSize}
+use Rattle.lvm_script.specs.declared.kind.Kind.TheVariants.{Number, PowerSize, Size}
 use Rattle.lvm_script.specs.declared.option_key.OptionKey.{OptionKey}
 use Rattle.lvm_script.specs.declared.option_key.OptionKey.TheVariants as key
 use Rattle.lvm_script.specs.declared.refusal.CommandRefusal.{CommandRefusal}
@@ -23,7 +23,7 @@ use Rattle.lvm_script.specs.declared.refusal.CommandRefusal.TheVariants.{Faulty,
 use Rattle.lvm_script.specs.declared.request.Request.{Request}
 use Rattle.lvm_script.specs.declared.request.Request.TheVariants.{One, Session}
 use Rattle.lvm_script.specs.declared.table.OptionRow.{OptionRow}
-use Rattle.lvm_script.specs.Meaning.{Given, alone, amount_of, at_place, demo, demo_of, goes_together, growth_of, longer, lvcreate, lvextend, lvreduce, lvrename, meaning_of_words, meaning_with, narrow, new_volume, one_path, one_word, path_in, pvcreate, pvmove, request_by_name, request_named, request_read, session, session_on, shorter, size, value_in, vgcreate, vgextend, vgreduce, vgrename, workers_in}
+use Rattle.lvm_script.specs.Meaning.{Given, alone, amount_of, amount_with, at_place, demo, demo_of, goes_together, growth_of, longer, lvcreate, lvextend, lvreduce, lvrename, meaning_of_words, meaning_with, narrow, new_volume, one_path, one_word, path_in, pvcreate, pvmove, request_by_name, request_named, request_read, session, session_on, shorter, size, value_in, vgcreate, vgextend, vgreduce, vgrename, workers_in}
 use Rattle.lvm_script.specs.Options.{Word, is_key}
 use Rattle.lvm_script.specs.Table.{command_named, is_for_words, options_of}
 use Rattle.lvm_script.specs.Values.{is_between, is_group_name, number_fault, number_of, size_of, unless}
@@ -34,15 +34,20 @@ use Rattle.lvm_words.specs.Disks.{Front, disks_front}
 use Rattle.lvm_words.specs.Parser.{arguments_pass, value_passes}
 use Rattle.lvm_words.proofs.FaultFree.{all_pass, fault_free, given_passes, kind_in, split_read}
 use Rattle.lvm_words.proofs.Spellings.{same_key}
+use Rattle.group_ops.specs.Sizes.{IsAmount}
 use Rattle.vg_check.proofs.OneBit.{power_from_ones}
 
 -- from 8 sectors to 2^31, and a multiple of 8
 abbrev IsExtentSize : ℕ → Type 0
 IsExtentSize n = (8 ≤ n) × (n ≤ 2 ^ 31) × (n % 8 ≡ 0)
 
--- a new group has a group's name, and extents of a size that they can have
+-- a new group has a group's name, and extents of a size that they can have; a new name is one that its kind may have;
+-- and a volume has a size that it can have
 abbrev pub IsMeant : Command → Type 0
 IsMeant (Vgcreate vg extent_size pvs) = (group_name_refusal vg ≡ None) × (8 ≤ extent_size) × (extent_size ≤ 2 ^ 31) × (extent_size % 8 ≡ 0)
+IsMeant (Vgrename vg new) = group_name_refusal new ≡ None
+IsMeant (Lvreduce path amount) = IsAmount amount
+IsMeant (Lvrename vg old new) = volume_name_refusal new ≡ None
 IsMeant _ = Unit {0}
 
 -- the same of what words ask for
@@ -104,6 +109,33 @@ size_or_usual (Some word) passes = go (size_of 2048 word) passes
     go None none = absurd (true≢false (sym none))
     go (Some n) none = size_fits n (number_passes (λ n. is_between 8 2097152 n && is_power_of_two n) n none)
 
+-- ---- how large a volume is to be
+
+between : (least most n : ℕ) → is_between least most n ≡ true → (least ≤ n) × (n ≤ most)
+between least most n passes = let bounds = and_parts (nat_le least n) (nat_le n most) passes in (leb-true least n bounds.0, leb-true n most bounds.1)
+
+extents_fit : (word : Option Word) → IfSome word (λ w. value_passes (Number 1 (2 ^ 64 - 1)) w ≡ true) → IfSome (option_and_then number_of word) (λ n. (1 ≤ n) × (n < 2 ^ 64))
+extents_fit None passes = tt
+extents_fit (Some word) passes = go (number_of word) passes
+  where
+    go : (o : Option ℕ) → is_none (number_fault (is_between 1 (2 ^ 64 - 1)) o) ≡ true → IfSome o (λ n. (1 ≤ n) × (n < 2 ^ 64))
+    go None none = tt
+    go (Some n) none = let fits = between 1 (2 ^ 64 - 1) n (number_passes (is_between 1 (2 ^ 64 - 1)) n none) in (fits.0, omega (arith, fits.1))
+
+sectors_fit : (word : Option Word) → IfSome word (λ w. value_passes (Size 2048 1 (2 ^ 48 - 1)) w ≡ true) → IfSome (option_and_then (size_of 2048) word) (λ n. (1 ≤ n) × (n < 2 ^ 48))
+sectors_fit None passes = tt
+sectors_fit (Some word) passes = go (size_of 2048 word) passes
+  where
+    go : (o : Option ℕ) → is_none (number_fault (is_between 1 (2 ^ 48 - 1)) o) ≡ true → IfSome o (λ n. (1 ≤ n) × (n < 2 ^ 48))
+    go None none = tt
+    go (Some n) none = let fits = between 1 (2 ^ 48 - 1) n (number_passes (is_between 1 (2 ^ 48 - 1)) n none) in (fits.0, omega (arith, fits.1))
+
+amount_fits : (extents sectors : Option ℕ) → IfSome extents (λ n. (1 ≤ n) × (n < 2 ^ 64)) → IfSome sectors (λ n. (1 ≤ n) × (n < 2 ^ 48)) → IfSome (amount_with extents sectors) IsAmount
+amount_fits None None extents_fit sectors_fit = tt
+amount_fits None (Some n) extents_fit sectors_fit = sectors_fit
+amount_fits (Some n) None extents_fit sectors_fit = extents_fit
+amount_fits (Some n) (Some m) extents_fit sectors_fit = tt
+
 -- the value of an option is what it has to be
 value_fits : (rows : List OptionRow) (given : List (OptionKey × Word)) (k : OptionKey) → list_all (given_passes rows) given ≡ true
     → IfSome (value_in given k) (λ word. value_passes (kind_in rows k) word ≡ true)
@@ -152,18 +184,23 @@ vgreduce_meant (vg ∷ []) = tt
 vgreduce_meant (vg ∷ pv ∷ []) = tt
 vgreduce_meant (vg ∷ pv ∷ other ∷ more) = tt
 
-vgrename_meant : (arguments : List Word) → IfSome (vgrename arguments) IsMeant
-vgrename_meant [] = tt
-vgrename_meant (vg ∷ []) = tt
-vgrename_meant (vg ∷ new ∷ []) = tt
-vgrename_meant (vg ∷ new ∷ other ∷ more) = tt
+vgrename_meant : (arguments : List Word) → arguments_pass name.Vgrename 0 arguments ≡ true → IfSome (vgrename arguments) IsMeant
+vgrename_meant [] pass = tt
+vgrename_meant (vg ∷ []) pass = tt
+vgrename_meant (vg ∷ new ∷ []) pass =
+    let rest = (and_parts _ (arguments_pass name.Vgrename 1 (new ∷ [])) pass).1 in
+    name_fits (group_name_refusal new) (and_parts _ (arguments_pass name.Vgrename 2 []) rest).0
+vgrename_meant (vg ∷ new ∷ other ∷ more) pass = tt
 
-lvrename_meant : (arguments : List Word) → IfSome (lvrename arguments) IsMeant
-lvrename_meant [] = tt
-lvrename_meant (vg ∷ []) = tt
-lvrename_meant (vg ∷ old ∷ []) = tt
-lvrename_meant (vg ∷ old ∷ new ∷ []) = tt
-lvrename_meant (vg ∷ old ∷ new ∷ other ∷ more) = tt
+lvrename_meant : (arguments : List Word) → arguments_pass name.Lvrename 0 arguments ≡ true → IfSome (lvrename arguments) IsMeant
+lvrename_meant [] pass = tt
+lvrename_meant (vg ∷ []) pass = tt
+lvrename_meant (vg ∷ old ∷ []) pass = tt
+lvrename_meant (vg ∷ old ∷ new ∷ []) pass =
+    let rest = (and_parts _ (arguments_pass name.Lvrename 1 (old ∷ new ∷ [])) pass).1 in
+    let last = (and_parts _ (arguments_pass name.Lvrename 2 (new ∷ [])) rest).1 in
+    name_fits (volume_name_refusal new) (and_parts _ (arguments_pass name.Lvrename 3 []) last).0
+lvrename_meant (vg ∷ old ∷ new ∷ other ∷ more) pass = tt
 
 lvcreate_meant : (given : Given) (arguments : List Word) → IfSome (lvcreate given arguments) IsMeant
 lvcreate_meant given [] = tt
@@ -187,13 +224,13 @@ lvextend_meant given (path ∷ pvs) = go (growth_of given) (path_in path)
     go (Some growth) None = tt
     go (Some growth) (Some path) = tt
 
-lvreduce_meant : (given : Given) (arguments : List Word) → IfSome (lvreduce given arguments) IsMeant
-lvreduce_meant given arguments = go (amount_of given) (one_path arguments)
+lvreduce_meant : (given : Given) (arguments : List Word) → IfSome (amount_of given) IsAmount → IfSome (lvreduce given arguments) IsMeant
+lvreduce_meant given arguments fits = go (amount_of given) fits (one_path arguments)
   where
-    go : (amount : Option Amount) (path : Option Path) → IfSome (shorter amount path) IsMeant
-    go None path = tt
-    go (Some amount) None = tt
-    go (Some amount) (Some path) = tt
+    go : (amount : Option Amount) → IfSome amount IsAmount → (path : Option Path) → IfSome (shorter amount path) IsMeant
+    go None fits path = tt
+    go (Some amount) fits None = tt
+    go (Some amount) fits (Some path) = fits
 
 alone_meant : (command : Command) → IsMeant command → (arguments : List Word) → IfSome (alone command arguments) IsMeant
 alone_meant command meant [] = meant
@@ -243,16 +280,22 @@ request_meant name.Vgcreate split here pass =
 request_meant name.Vgextend split here pass = one_meant _ (vgextend_meant split.arguments)
 request_meant name.Vgreduce split here pass = one_meant _ (vgreduce_meant split.arguments)
 request_meant name.Vgremove split here pass = one_meant _ (mapped IsMeant Vgremove (λ vg. tt) (one_word split.arguments))
-request_meant name.Vgrename split here pass = one_meant _ (vgrename_meant split.arguments)
+request_meant name.Vgrename split here pass =
+    one_meant _ (vgrename_meant split.arguments (and_parts (list_all (given_passes (options_of name.Vgrename)) split.given) (arguments_pass name.Vgrename 0 split.arguments) pass).1)
 request_meant name.Vgcfgbackup split here pass = one_meant _ (mapped IsMeant Vgcfgbackup (λ vg. tt) (one_word split.arguments))
 request_meant name.Vgcfgrestore split here pass = one_meant _ (mapped IsMeant (λ vg. Vgcfgrestore vg []) (λ vg. tt) (one_word split.arguments))
 request_meant name.Vgck split here pass = one_meant _ (alone_meant Vgck tt split.arguments)
 request_meant name.Vgs split here pass = one_meant _ (alone_meant Vgs tt split.arguments)
 request_meant name.Lvcreate split here pass = one_meant _ (lvcreate_meant (value_in split.given) split.arguments)
 request_meant name.Lvextend split here pass = one_meant _ (lvextend_meant (value_in split.given) split.arguments)
-request_meant name.Lvreduce split here pass = one_meant _ (lvreduce_meant (value_in split.given) split.arguments)
+request_meant name.Lvreduce split here pass =
+    let all = (and_parts (list_all (given_passes (options_of name.Lvreduce)) split.given) (arguments_pass name.Lvreduce 0 split.arguments) pass).0 in
+    let extents = extents_fit (value_in split.given key.Extents) (value_fits (options_of name.Lvreduce) split.given key.Extents all) in
+    let sectors = sectors_fit (value_in split.given key.Size) (value_fits (options_of name.Lvreduce) split.given key.Size all) in
+    one_meant _ (lvreduce_meant (value_in split.given) split.arguments (amount_fits _ _ extents sectors))
 request_meant name.Lvremove split here pass = one_meant _ (mapped IsMeant Lvremove (λ path. tt) (one_path split.arguments))
-request_meant name.Lvrename split here pass = one_meant _ (lvrename_meant split.arguments)
+request_meant name.Lvrename split here pass =
+    one_meant _ (lvrename_meant split.arguments (and_parts (list_all (given_passes (options_of name.Lvrename)) split.given) (arguments_pass name.Lvrename 0 split.arguments) pass).1)
 request_meant name.Lvs split here pass = one_meant _ (alone_meant Lvs tt split.arguments)
 request_meant name.Session split here pass = session_meant (value_in split.given) split.arguments
 request_meant name.Demo split here pass = demo_meant split.arguments

@@ -14,7 +14,7 @@ use Rattle.lvm_script.specs.Options.{Word}
 use Rattle.lvm_script.specs.declared.answer.Answer.{Answer}
 use Rattle.lvm_script.specs.declared.answer.Answer.TheVariants as answer
 use Rattle.lvm_script.specs.declared.command.Command.{Command}
-use Rattle.lvm_script.specs.declared.command.Command.TheVariants.{Lvs, Pvcreate, Pvck, Pvs, Vgcfgbackup, Vgck, Vgcreate, Vgextend, Vgs}
+use Rattle.lvm_script.specs.declared.command.Command.TheVariants.{Lvreduce, Lvremove, Lvrename, Lvs, Pvcreate, Pvck, Pvs, Vgcfgbackup, Vgck, Vgcreate, Vgextend, Vgrename, Vgs}
 use Rattle.lvm_script.specs.declared.line.Line.{Line}
 use Rattle.volume_history.specs.Commands.{commits}
 use Rattle.volume_history.specs.Quiet.{is_quiet}
@@ -43,6 +43,10 @@ report_is Vgck built reads = record { unflushed = refl; quiet = refl; uncommitte
 report_is (Pvcreate pv copies) built reads = absurd (true≢false reads)
 report_is (Vgcreate vg extent_size pvs) built reads = absurd (true≢false reads)
 report_is (Vgextend vg pvs) built reads = absurd (true≢false reads)
+report_is (Vgrename vg new) built reads = absurd (true≢false reads)
+report_is (Lvreduce path amount) built reads = absurd (true≢false reads)
+report_is (Lvremove path) built reads = absurd (true≢false reads)
+report_is (Lvrename vg old new) built reads = absurd (true≢false reads)
 report_is _ built reads = absurd (cc)
 
 module _ (names : List Word) (now : ℕ) (line : Line) (old new : State) (told_old : IsTold old) (told_new : IsTold new) (report : IsReport line.command) where

@@ -6,7 +6,7 @@ use lvm_script::Command;
 
 /// Which commands run so far, as it is told to a user.
 pub const BUILT: &str =
-    "So far pvs, vgs, lvs, vgck, pvck, vgcfgbackup, pvcreate, vgcreate and vgextend run.\n";
+    "So far pvs, vgs, lvs, vgck, pvck, vgcfgbackup, pvcreate, vgcreate, vgextend, vgrename, lvreduce, lvremove and lvrename run.\n";
 
 /// Whether the command is built. Words that ask for another are refused until it is.
 pub fn is_built(command: &Command) -> bool
@@ -18,6 +18,10 @@ pub fn is_built(command: &Command) -> bool
             | Command::Pvck { .. }
             | Command::Vgcreate { .. }
             | Command::Vgextend { .. }
+            | Command::Vgrename { .. }
+            | Command::Lvreduce { .. }
+            | Command::Lvremove { .. }
+            | Command::Lvrename { .. }
             | Command::Vgcfgbackup { .. }
             | Command::Pvs
             | Command::Vgs

@@ -21,6 +21,7 @@ mod backups;
 mod groups;
 mod journals;
 mod reports;
+mod volumes;
 
 /// Creates a physical volume without a metadata area.
 const PVCREATE: [&str; 6] = ["-d", "a", "pvcreate", "--metadatacopies", "0", "a"];

@@ -6,7 +6,8 @@ use super::{WITH_AREA, blank, run, shelf_of};
 use dev_shelf::{Fail as Failure, MemShelf, Shelf};
 use lvm_script::MemSink;
 use mda_header::{Locn, MdaHeader, write_mda};
-use sector_base::{Bytes512, LVM_CRC_START, Sectors, crc};
+use mda_ring::{Place, scatter};
+use sector_base::{Bytes512, LVM_CRC_START, Sectors, Text, crc};
 use std::alloc::Global;
 use std::process::Abort;
 use std::sync::Wait;
@@ -39,7 +40,7 @@ pe_count = 15
 ";
 
 /// What stands behind the group in its text, and before it in a backup.
-const TRAILER: &str = "contents = \"Text Format Volume Group\"
+pub(super) const TRAILER: &str = "contents = \"Text Format Volume Group\"
 version = 1
 description = \"\"
 creation_host = \"localhost\"
@@ -52,7 +53,7 @@ pub(super) const DISK_SECTORS: usize = 131_072;
 /// Backs the group up.
 const BACKUP: [&str; 4] = ["-d", "a", "vgcfgbackup", "vg0"];
 
-// A disk with a physical volume, in whose metadata area this text is committed, with a zero byte behind it.
+// A disk with a physical volume, in whose metadata area this text is committed.
 pub(super) fn disk_with<T: Threads + Wait + Sync + Abort>(
     rt: &T,
     alloc: Global,
@@ -64,27 +65,48 @@ pub(super) fn disk_with<T: Threads + Wait + Sync + Abort>(
     let shelf = blank(alloc, DISK_SECTORS as u32, Vec::new(alloc))?;
     let shelf = run(rt, alloc, &WITH_AREA, 1, shelf, &mut out)?.shelf;
     let images = shelf.images_at(shelf.moments(), &Vec::new(alloc))?;
-    assert!(rt; images.len() == 1 && text.len() < 512);
+    assert!(rt; images.len() == 1);
     let mut disk = images.get(0).try_copy(alloc)?;
+    commit_text(rt, alloc, &mut disk, text)?;
     assert!(rt; disk.len() == DISK_SECTORS);
-    let mut sector = Bytes512::zeroed();
-    sector.put(0, text);
-    let header = MdaHeader {
+    Ok(disk)
+}
+
+// Commits the text, with a zero byte behind it, to the metadata area of the disk, from the first sector of its ring on.
+pub(super) fn commit_text(
+    rt: &impl Abort,
+    alloc: Global,
+    disk: &mut Sectors,
+    text: &[u8],
+) -> Result<(), Fail> {
+    let mut stored = Vec::from_slice(alloc, text)?;
+    stored.push(0)?;
+    let mut area = Bytes512::zeroed();
+    write_mda(&header_of(&stored), &mut area);
+    let place = Place {
+        offset: 512,
+        sectors: (stored.len() as u64).div_ceil(512),
+    };
+    let sectors = scatter(alloc, &Text::from_vec(stored), place)?;
+    assert!(rt; disk.len() >= 2_048 && sectors.len() < 2_039);
+    disk.copy_in(9, &sectors, sectors.len());
+    disk.set(8, area);
+    Ok(())
+}
+
+// The header of the area once these bytes are committed.
+fn header_of(stored: &[u8]) -> MdaHeader {
+    MdaHeader {
         start: 4096,
         size: 1_044_480,
         committed: Some(Locn {
             offset: 512,
-            size: text.len() as u64 + 1,
-            sum: crc(LVM_CRC_START, &sector.as_bytes()[..=text.len()]),
+            size: stored.len() as u64,
+            sum: crc(LVM_CRC_START, stored),
         }),
         precommitted: None,
         ignored: false,
-    };
-    let mut area = Bytes512::zeroed();
-    write_mda(&header, &mut area);
-    disk.set(8, area);
-    disk.set(9, sector);
-    Ok(disk)
+    }
 }
 
 // The whole text of the group.

@@ -14,10 +14,10 @@ use std::test::Fail;
 use std::thread::Threads;
 
 mod repairs;
-mod stops;
+pub(in crate::tests) mod stops;
 
 // A shelf of these three disks, of which these operations are to fail.
-fn shelf_of(
+pub(super) fn shelf_of(
     alloc: Global,
     a: Sectors,
     b: Sectors,
@@ -43,7 +43,7 @@ fn shelf_of(
 }
 
 // Three blank disks.
-fn blank(alloc: Global) -> Result<MemShelf, AllocError>
+pub(super) fn blank(alloc: Global) -> Result<MemShelf, AllocError>
     ensures { IfOk result (λ shelf. AreDisks 3 (⟦<MemShelf as Shelf>⟧.state shelf)) }
 {
     let a = Sectors::zeroed(alloc, 2_056)?;
@@ -54,7 +54,7 @@ fn blank(alloc: Global) -> Result<MemShelf, AllocError>
 
 // The disks as a crash at this moment may leave them, where of each two values the one of this number is taken; these
 // operations are to fail.
-fn reopened(
+pub(super) fn reopened(
     rt: &impl Abort,
     alloc: Global,
     shelf: &MemShelf,
@@ -81,7 +81,7 @@ fn reopened(
 }
 
 // Runs the command of these words on the disks. An id that it draws begins with this number.
-fn run_on_three<T: Threads + Wait + Sync + Abort>(
+pub(super) fn run_on_three<T: Threads + Wait + Sync + Abort>(
     rt: &T,
     alloc: Global,
     shelf: MemShelf,
@@ -97,7 +97,7 @@ fn run_on_three<T: Threads + Wait + Sync + Abort>(
 }
 
 // The same, and checks what it prints and its status.
-fn answers<T: Threads + Wait + Sync + Abort>(
+pub(super) fn answers<T: Threads + Wait + Sync + Abort>(
     rt: &T,
     alloc: Global,
     shelf: MemShelf,
@@ -116,7 +116,7 @@ fn answers<T: Threads + Wait + Sync + Abort>(
 }
 
 // Runs these one after another on blank disks, each on what the one before left.
-fn run_rows<T: Threads + Wait + Sync + Abort>(
+pub(super) fn run_rows<T: Threads + Wait + Sync + Abort>(
     rt: &T,
     alloc: Global,
     rows: &[(&[&str], u64, &str, u8)],
@@ -127,7 +127,7 @@ fn run_rows<T: Threads + Wait + Sync + Abort>(
 }
 
 // Runs these one after another on the disks, each on what the one before left.
-fn run_rows_on<T: Threads + Wait + Sync + Abort>(
+pub(super) fn run_rows_on<T: Threads + Wait + Sync + Abort>(
     rt: &T,
     alloc: Global,
     disks: MemShelf,
@@ -145,11 +145,11 @@ fn run_rows_on<T: Threads + Wait + Sync + Abort>(
     Ok(shelf)
 }
 
-const PVCREATE_A: &[&str] = &["pvcreate", "a"];
+pub(super) const PVCREATE_A: &[&str] = &["pvcreate", "a"];
 
-const PVCREATE_B: &[&str] = &["pvcreate", "b"];
+pub(super) const PVCREATE_B: &[&str] = &["pvcreate", "b"];
 
-const PVCREATE_C: &[&str] = &["pvcreate", "c", "--metadatacopies", "0"];
+pub(super) const PVCREATE_C: &[&str] = &["pvcreate", "c", "--metadatacopies", "0"];
 
 const VGCREATE: &[&str] = &["vgcreate", "-s", "4k", "vg0", "a"];
 

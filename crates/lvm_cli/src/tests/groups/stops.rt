@@ -60,19 +60,20 @@ fn choices_at(turn: u64) -> [u64; 3] {
     [0, 0xffff, MIXED[(turn % 6) as usize]]
 }
 
-// Whether vgs prints the second of these texts, where it else prints the first, on the disks as a crash at this moment
-// may leave them, where of each two values the one of this number is taken.
-fn is_new<T: Threads + Wait + Sync + Abort>(
+// Whether the report is the second of these texts, where it else is the first, on the disks as a crash at this moment may
+// leave them, where of each two values the one of this number is taken.
+pub(in crate::tests) fn is_new<T: Threads + Wait + Sync + Abort>(
     rt: &T,
     alloc: Global,
     left: &MemShelf,
     moment: u64,
     choice: u64,
+    report: &str,
     found: [&str; 2],
 ) -> Result<bool, Fail> {
     let shelf = reopened(rt, alloc, left, moment, choice, Vec::new(alloc))?;
     let mut out = MemSink::new(alloc, 1_000, Vec::new(alloc))?;
-    let ended = run_on_three(rt, alloc, shelf, &["vgs"], 0, &mut out)?;
+    let ended = run_on_three(rt, alloc, shelf, &[report], 0, &mut out)?;
     assert_eq!(rt; ended.status, 0, "{moment}, {choice}");
     let new = out.bytes() == found[1].as_bytes();
     assert!(rt;
@@ -102,7 +103,7 @@ fn is_stopped_at_each_moment<T: Threads + Wait + Sync + Abort>(
     let mut seen = [false; 2];
     for moment in 0..=left.moments() {
         for choice in choices_at(moment) {
-            let new = is_new(rt, alloc, &left, moment, choice, found)?;
+            let new = is_new(rt, alloc, &left, moment, choice, "vgs", found)?;
             seen[usize::from(new)] = true;
             assert!(rt;
                 if new { begun < moment } else { moment < took },
@@ -139,7 +140,7 @@ fn is_failed_at_each_operation<T: Threads + Wait + Sync + Abort>(
             assert_eq!(rt; ended.status, 6, "{tag}, {fresh}");
             let left = ended.shelf;
             for choice in choices_at(tag) {
-                let new = is_new(rt, alloc, &left, left.moments(), choice, found)?;
+                let new = is_new(rt, alloc, &left, left.moments(), choice, "vgs", found)?;
                 seen[usize::from(new)] = true;
             }
         }

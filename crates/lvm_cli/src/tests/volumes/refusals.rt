@@ -1,0 +1,152 @@
+//! What vgrename, lvrename and lvremove are refused for: each refusal, where also those stand that come after it, as far as they
+//! can. `NoArea` has no row, since a group is found in an area on one of its own disks.
+use super::super::groups::{run_on_three, run_rows};
+use super::disks_with;
+use super::texts::{changed, committed};
+use dev_shelf::Shelf;
+use lvm_script::MemSink;
+use std::alloc::Global;
+use std::process::Abort;
+use std::sync::Wait;
+use std::test::Fail;
+use std::thread::Threads;
+
+/// The group as it is: nothing is replaced in its text.
+pub(super) const USUAL: &[(&str, &str)] = &[];
+
+/// No number is left for its next version.
+pub(super) const AT_END: &[(&str, &str)] = &[("seqno = 1\n", "seqno = 4294967295\n")];
+
+/// It can't be changed either.
+pub(super) const READ_ONLY_AT_END: &[(&str, &str)] = &[
+    (
+        "[\"RESIZEABLE\", \"READ\", \"WRITE\"]",
+        "[\"RESIZEABLE\", \"READ\"]",
+    ),
+    ("seqno = 1\n", "seqno = 4294967295\n"),
+];
+
+// The command of these words is answered so on disks with the group, in whose text this is replaced, and writes nothing:
+// three flushes and the seven reads of a scan, of two steps each, are all that it does.
+pub(super) fn is_refused<T: Threads + Wait + Sync + Abort>(
+    rt: &T,
+    alloc: Global,
+    changes: &[(&str, &str)],
+    words: &[&str],
+    answer: &str,
+) -> Result<(), Fail> {
+    let text = changed(alloc, committed(alloc)?, changes)?;
+    let shelf = disks_with(rt, alloc, text.as_str())?;
+    let mut out = MemSink::new(alloc, 100, Vec::new(alloc))?;
+    let ended = run_on_three(rt, alloc, shelf, words, 5, &mut out)?;
+    assert_eq!(rt; out.bytes(), answer.as_bytes());
+    assert_eq!(rt; (ended.status, ended.shelf.steps()), (5, 20), "{answer}");
+    Ok(())
+}
+
+#[test]
+fn rows_where_no_group_is_found(rt: HostRuntime) -> Result<(), Fail> {
+    let unknown = "1: refused UnknownGroup vg0\n";
+    let rows: [(&[&str], u64, &str, u8); 3] = [
+        (&["vgrename", "vg0", "vg1"], 5, unknown, 5),
+        (&["lvrename", "vg0", "data", "files"], 5, unknown, 5),
+        (&["lvremove", "vg0/data"], 5, unknown, 5),
+    ];
+    run_rows(&rt, rt.alloc(), &rows)?;
+    Ok(())
+}
+
+#[test]
+fn rows_of_vgrename(rt: HostRuntime) -> Result<(), Fail> {
+    let rows: [(&[(&str, &str)], [&str; 2], &str); 4] = [
+        (
+            READ_ONLY_AT_END,
+            ["vg1", "vg0"],
+            "1: refused UnknownGroup vg1\n",
+        ),
+        (READ_ONLY_AT_END, ["vg0", "vg0"], "1: refused ReadOnly\n"),
+        (AT_END, ["vg0", "vg0"], "1: refused NameTaken vg0\n"),
+        (AT_END, ["vg0", "vg1"], "1: refused SeqnoEnd\n"),
+    ];
+    for (changes, [vg, new], answer) in rows {
+        is_refused(&rt, rt.alloc(), changes, &["vgrename", vg, new], answer)?;
+    }
+    Ok(())
+}
+
+#[test]
+fn rows_of_lvrename(rt: HostRuntime) -> Result<(), Fail> {
+    let rows: [(&[(&str, &str)], [&str; 3], &str); 9] = [
+        (
+            READ_ONLY_AT_END,
+            ["vg1", "none", "data"],
+            "1: refused UnknownGroup vg1\n",
+        ),
+        (
+            READ_ONLY_AT_END,
+            ["vg0", "none", "data"],
+            "1: refused ReadOnly\n",
+        ),
+        (
+            AT_END,
+            ["vg0", "none", "data"],
+            "1: refused UnknownVolume none\n",
+        ),
+        (
+            AT_END,
+            ["vg0", "safe_a", "data"],
+            "1: refused UnknownVolume safe_a\n",
+        ),
+        (
+            AT_END,
+            ["vg0", "moving", "data"],
+            "1: refused NameTaken data\n",
+        ),
+        (
+            USUAL,
+            ["vg0", "data", "safe_b"],
+            "1: refused NameTaken safe_b\n",
+        ),
+        (
+            USUAL,
+            ["vg0", "data", "data"],
+            "1: refused NameTaken data\n",
+        ),
+        (
+            AT_END,
+            ["vg0", "moving", "files"],
+            "1: refused Locked moving\n",
+        ),
+        (AT_END, ["vg0", "data", "files"], "1: refused SeqnoEnd\n"),
+    ];
+    for (changes, [vg, old, new], answer) in rows {
+        is_refused(
+            &rt,
+            rt.alloc(),
+            changes,
+            &["lvrename", vg, old, new],
+            answer,
+        )?;
+    }
+    Ok(())
+}
+
+#[test]
+fn rows_of_lvremove(rt: HostRuntime) -> Result<(), Fail> {
+    let rows: [(&[(&str, &str)], &str, &str); 6] = [
+        (
+            READ_ONLY_AT_END,
+            "vg1/none",
+            "1: refused UnknownGroup vg1\n",
+        ),
+        (READ_ONLY_AT_END, "vg0/none", "1: refused ReadOnly\n"),
+        (AT_END, "vg0/none", "1: refused UnknownVolume none\n"),
+        (AT_END, "vg0/safe_b", "1: refused UnknownVolume safe_b\n"),
+        (AT_END, "vg0/moving", "1: refused Locked moving\n"),
+        (AT_END, "vg0/data", "1: refused SeqnoEnd\n"),
+    ];
+    for (changes, path, answer) in rows {
+        is_refused(&rt, rt.alloc(), changes, &["lvremove", path], answer)?;
+    }
+    Ok(())
+}

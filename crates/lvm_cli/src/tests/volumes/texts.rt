@@ -1,0 +1,303 @@
+//! The text of a group on three disks, and what it becomes.
+use super::super::backups::TRAILER;
+use std::alloc::Global;
+use std::test::Fail;
+
+// The text up to its logical volumes.
+fn head() -> &'static str {
+    "vg0 {
+id = \"400000-0000-0000-0000-0000-0000-000000\"
+seqno = 1
+format = \"lvm2\"
+status = [\"RESIZEABLE\", \"READ\", \"WRITE\"]
+flags = []
+extent_size = 8
+max_lv = 0
+max_pv = 0
+metadata_copies = 0
+physical_volumes {
+pv0 {
+id = \"100000-0000-0000-0000-0000-0000-000000\"
+device = \"a\"
+status = [\"ALLOCATABLE\"]
+flags = []
+dev_size = 2304
+pe_start = 2048
+pe_count = 32
+}
+pv1 {
+id = \"200000-0000-0000-0000-0000-0000-000000\"
+device = \"b\"
+status = [\"ALLOCATABLE\"]
+flags = []
+dev_size = 2304
+pe_start = 2048
+pe_count = 32
+}
+pv2 {
+id = \"300000-0000-0000-0000-0000-0000-000000\"
+device = \"c\"
+status = [\"ALLOCATABLE\"]
+flags = []
+dev_size = 2304
+pe_start = 2048
+pe_count = 32
+}
+}
+logical_volumes {
+"
+}
+
+// A mirror of 3 extents, whose legs lie on two hidden volumes.
+pub(super) fn safe() -> &'static str {
+    "safe {
+id = \"500000-0000-0000-0000-0000-0000-000000\"
+status = [\"READ\", \"WRITE\", \"VISIBLE\"]
+flags = []
+creation_time = 7
+creation_host = \"h\"
+segment_count = 1
+segment1 {
+start_extent = 0
+extent_count = 3
+type = \"mirror\"
+mirror_count = 2
+region_size = 8
+mirrors = [\"safe_a\", 0, \"safe_b\", 0]
+}
+}
+"
+}
+
+// The hidden volume of its first leg, on the first disk.
+pub(super) fn safe_a() -> &'static str {
+    "safe_a {
+id = \"500000-0000-0000-0000-0000-0000-000001\"
+status = [\"READ\", \"WRITE\"]
+flags = []
+creation_time = 7
+creation_host = \"h\"
+segment_count = 1
+segment1 {
+start_extent = 0
+extent_count = 3
+type = \"striped\"
+stripe_count = 1
+stripes = [\"pv0\", 6]
+}
+}
+"
+}
+
+// A volume of 4 extents on the first disk.
+pub(super) fn data() -> &'static str {
+    "data {
+id = \"500000-0000-0000-0000-0000-0000-000002\"
+status = [\"READ\", \"WRITE\", \"VISIBLE\"]
+flags = []
+creation_time = 7
+creation_host = \"h\"
+segment_count = 1
+segment1 {
+start_extent = 0
+extent_count = 4
+type = \"striped\"
+stripe_count = 1
+stripes = [\"pv0\", 0]
+}
+}
+"
+}
+
+// The hidden volume of the mirror's second leg, on the second disk.
+pub(super) fn safe_b() -> &'static str {
+    "safe_b {
+id = \"500000-0000-0000-0000-0000-0000-000003\"
+status = [\"READ\", \"WRITE\"]
+flags = []
+creation_time = 7
+creation_host = \"h\"
+segment_count = 1
+segment1 {
+start_extent = 0
+extent_count = 3
+type = \"striped\"
+stripe_count = 1
+stripes = [\"pv1\", 2]
+}
+}
+"
+}
+
+// A volume of 6 extents, in stripes over the three disks.
+fn wide() -> &'static str {
+    "wide {
+id = \"500000-0000-0000-0000-0000-0000-000004\"
+status = [\"READ\", \"WRITE\", \"VISIBLE\"]
+flags = []
+creation_time = 7
+creation_host = \"h\"
+segment_count = 1
+segment1 {
+start_extent = 0
+extent_count = 6
+type = \"striped\"
+stripe_count = 3
+stripe_size = 8
+stripes = [\"pv0\", 4, \"pv1\", 0, \"pv2\", 0]
+}
+}
+"
+}
+
+// A volume of 2 extents that is moving.
+fn moving() -> &'static str {
+    "moving {
+id = \"500000-0000-0000-0000-0000-0000-000005\"
+status = [\"READ\", \"WRITE\", \"VISIBLE\", \"LOCKED\"]
+flags = []
+creation_time = 7
+creation_host = \"h\"
+segment_count = 1
+segment1 {
+start_extent = 0
+extent_count = 2
+type = \"striped\"
+stripe_count = 1
+stripes = [\"pvmove0\", 0]
+}
+}
+"
+}
+
+// The volume of its move, from the first disk to the second.
+fn pvmove0() -> &'static str {
+    "pvmove0 {
+id = \"500000-0000-0000-0000-0000-0000-000006\"
+status = [\"READ\", \"WRITE\", \"PVMOVE\", \"LOCKED\"]
+flags = []
+creation_time = 7
+creation_host = \"h\"
+segment_count = 1
+segment1 {
+start_extent = 0
+extent_count = 2
+type = \"mirror\"
+mirror_count = 2
+region_size = 1024
+extents_moved = 0
+mirrors = [\"pv0\", 9, \"pv1\", 5]
+}
+}
+"
+}
+
+// Two volumes of an extent each in one hidden volume, which lies in another one, on the last disk.
+fn halves() -> &'static str {
+    "left {
+id = \"500000-0000-0000-0000-0000-0000-000007\"
+status = [\"READ\", \"WRITE\", \"VISIBLE\"]
+segment_count = 1
+segment1 {
+start_extent = 0
+extent_count = 1
+type = \"striped\"
+stripe_count = 1
+stripes = [\"both\", 0]
+}
+}
+right {
+id = \"500000-0000-0000-0000-0000-0000-000008\"
+status = [\"READ\", \"WRITE\", \"VISIBLE\"]
+segment_count = 1
+segment1 {
+start_extent = 0
+extent_count = 1
+type = \"striped\"
+stripe_count = 1
+stripes = [\"both\", 1]
+}
+}
+both {
+id = \"500000-0000-0000-0000-0000-0000-000009\"
+status = [\"READ\", \"WRITE\"]
+segment_count = 1
+segment1 {
+start_extent = 0
+extent_count = 2
+type = \"striped\"
+stripe_count = 1
+stripes = [\"below\", 0]
+}
+}
+below {
+id = \"500000-0000-0000-0000-0000-0000-00000a\"
+status = [\"READ\", \"WRITE\"]
+segment_count = 1
+segment1 {
+start_extent = 0
+extent_count = 2
+type = \"striped\"
+stripe_count = 1
+stripes = [\"pv2\", 2]
+}
+}
+"
+}
+
+// These parts, one behind the other.
+fn joined(alloc: Global, parts: &[&str]) -> Result<String, Fail> {
+    let mut text = String::new(alloc);
+    for part in parts {
+        text.push_str(part)?;
+    }
+    Ok(text)
+}
+
+// The text of the group, without what stands beside it.
+fn group(alloc: Global) -> Result<String, Fail> {
+    joined(
+        alloc,
+        &[
+            head(),
+            safe(),
+            safe_a(),
+            data(),
+            safe_b(),
+            wide(),
+            moving(),
+            pvmove0(),
+            "}\n}\n",
+        ],
+    )
+}
+
+// The text, as it is committed, of a group with the two halves and `data`.
+pub(super) fn with_halves(alloc: Global) -> Result<String, Fail> {
+    joined(alloc, &[head(), halves(), data(), "}\n}\n", TRAILER])
+}
+
+// The text as it is committed.
+pub(super) fn committed(alloc: Global) -> Result<String, Fail> {
+    let text = group(alloc)?;
+    joined(alloc, &[text.as_str(), TRAILER])
+}
+
+// The text of a backup.
+pub(super) fn backup(alloc: Global) -> Result<String, Fail> {
+    let text = group(alloc)?;
+    joined(alloc, &[TRAILER, text.as_str()])
+}
+
+// The text where the first of each pair is replaced by the second, where it stands first.
+pub(super) fn changed(
+    alloc: Global,
+    text: String,
+    changes: &[(&str, &str)],
+) -> Result<String, Fail> {
+    let mut text = text;
+    for (from, to) in changes {
+        text = text.as_str().replacen(alloc, from, to, 1)?;
+    }
+    Ok(text)
+}
