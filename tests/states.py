@@ -1,39 +1,86 @@
 """A row of disks with one group: what the reports are to say of it, and how commands change that."""
+from collections import namedtuple
 
 NAMES = ("a", "b", "c", "d")
 SIZE = 3 << 20
 # The metadata area of a new physical volume, from its start to its end; the data follow.
 AREA = (4096, 1 << 20)
-EXTENT = 512 << 10
+EXTENT = 256 << 10
 NEW_EXTENTS = (SIZE - AREA[1]) // EXTENT
+# What groups and volumes may be called.
+GROUPS = ("vg0", "vg1", "g.R+o-u_p." * 6)
+VOLUMES = ("data", "both", "more", "v-0_1.+" * 9)
+
+
+class Volume(namedtuple("Volume", ("name", "kind", "segments"))):
+    """A volume: its name, its kind, and its segments in their order, each as a pair of how many extents it has and the disks on
+    which these lie in equal parts."""
+
+    @property
+    def extents(self):
+        return sum(count for count, _ in self.segments)
+
+    @property
+    def sectors(self):
+        return self.extents * (EXTENT // 512)
+
+    def used_of(self, disk):
+        """How many extents it has on this disk."""
+        return sum(count // len(disks) for count, disks in self.segments if disk in disks)
+
+    def first(self, extents):
+        """The volume with so many of its first extents, and with those that make whole stripes of the segment that is cut."""
+        kept = []
+        for count, disks in self.segments:
+            if extents > 0:
+                kept.append((min(count, -(-extents // len(disks)) * len(disks)), disks))
+            extents -= count
+        return self._replace(segments=tuple(kept))
 
 
 class State:
-    """The disks with a physical volume, and of the group its sequence number, how many extents of each member there are and
-    are used, and the lines of its volumes."""
+    """The disks with a physical volume, and of the group its name, its sequence number, how many extents each member has, and
+    its volumes."""
 
-    def __init__(self, labels=(), members=(), seqno=0, volumes=()):
-        self.labels, self.members, self.seqno, self.volumes = frozenset(labels), dict(members), seqno, tuple(volumes)
+    def __init__(self, labels=(), group="vg0", seqno=0, members=(), volumes=()):
+        self.labels, self.group, self.seqno = frozenset(labels), group, seqno
+        self.members, self.volumes = dict(members), tuple(sorted(volumes))
 
     def reports(self):
         """What pvs, vgs and lvs print, the last with its lines sorted."""
         pvs = []
         for name in NAMES:
             if name in self.labels:
-                extents, used = self.members.get(name, (0, 0))
-                group = "vg0" if name in self.members else "-"
-                pvs.append(f"{name:<20} {group:<16} {extents:>10} {extents - used:>10}\n")
-        extents, used = (sum(it[of] for it in self.members.values()) for of in (0, 1))
-        counts = f"{len(self.members):>6} {len(self.volumes):>6} {self.seqno:>10} {extents:>10} {extents - used:>10}"
-        vgs = f"{'vg0':<16} {counts}\n" if self.members else ""
-        return {"pvs": "".join(pvs), "vgs": vgs, "lvs": "".join(sorted(self.volumes))}
+                group = self.group if name in self.members else "-"
+                extents = self.members.get(name, 0)
+                free = extents - sum(it.used_of(name) for it in self.volumes)
+                pvs.append(f"{name:<20} {group:<16} {extents:>10} {free:>10}\n")
+        extents = sum(self.members.values())
+        free = extents - sum(it.extents for it in self.volumes)
+        counts = f"{len(self.members):>6} {len(self.volumes):>6} {self.seqno:>10} {extents:>10} {free:>10}"
+        vgs = f"{self.group:<16} {counts}\n" if self.members else ""
+        lvs = [f"{it.name:<16} {self.group:<16} {it.kind:<6} {it.sectors:>12}\n" for it in self.volumes]
+        return {"pvs": "".join(pvs), "vgs": vgs, "lvs": "".join(sorted(lvs))}
+
+    def is_same(self, other):
+        return vars(self) == vars(other)
 
     def with_label(self, name):
-        return State(self.labels | {name}, self.members, self.seqno, self.volumes)
+        return State(**{**vars(self), "labels": self.labels | {name}})
+
+    def next(self, **changed):
+        """The next version of the group, with other values of what is given."""
+        return State(**{**vars(self), "seqno": self.seqno + 1, **changed})
 
     def with_members(self, names):
-        members = {**self.members, **{name: (NEW_EXTENTS, 0) for name in names}}
-        return State(self.labels, members, self.seqno + 1, self.volumes)
+        return self.next(members={**self.members, **{name: NEW_EXTENTS for name in names}})
+
+    def with_volume(self, name, *instead):
+        """The next version with these volumes in the place of the one of this name."""
+        return self.next(volumes=[it for it in self.volumes if it.name != name] + [*instead])
+
+    def has_volume(self, name):
+        return any(it.name == name for it in self.volumes)
 
     def may_be_wrong(self):
         """The lines that vgck may print of it after a stop."""
@@ -42,24 +89,71 @@ class State:
 
 
 class Command:
-    """A command: its words, the disks that it names, those of which it makes the area, the state after it, and its answer
-    where that state is there already."""
+    """A command: its words, what it makes of a state, whether a state is the one after it already, and its answer then; the
+    disks that it names, and those of which it makes the area."""
 
-    def __init__(self, words, disks, areas, after, again):
-        self.words, self.disks, self.areas, self.after, self.again = words, disks, areas, after, again
+    def __init__(self, words, change, is_done, again, disks=(), areas=()):
+        self.words, self.change, self.is_done, self.again = words, change, is_done, again
+        self.disks, self.areas = disks, areas
+
+    def after(self, state):
+        return state if self.is_done(state) else self.change(state)
+
+    def answer(self, state):
+        return self.again if self.is_done(state) else "1: ok\n"
 
 
 def pvcreate(name, copies):
-    option = "" if copies else "--metadatacopies 0 "
+    words = f"pvcreate {'' if copies else '--metadatacopies 0 '}{name}"
     areas = [name] if copies else []
-    return Command(f"pvcreate {option}{name}", [name], areas, lambda state: state.with_label(name), "1: ok\n")
+    return Command(words, lambda it: it.with_label(name), lambda it: name in it.labels, "1: ok\n", [name], areas)
 
 
 def vgcreate(disks):
-    words = f"vgcreate -s 512k vg0 {' '.join(disks)}"
-    return Command(words, disks, [], lambda state: state.with_members(disks), "1: refused GroupStands vg0\n")
+    words = f"vgcreate -s {EXTENT >> 10}k vg0 {' '.join(disks)}"
+    again = "1: refused GroupStands vg0\n"
+    return Command(words, lambda it: it.with_members(disks), lambda it: disks[0] in it.members, again, disks)
 
 
-def vgextend(disks):
-    words = f"vgextend vg0 {' '.join(disks)}"
-    return Command(words, disks, [], lambda state: state.with_members(disks), f"1: refused PvUsed {disks[0]}\n")
+def vgextend(group, disks):
+    words = f"vgextend {group} {' '.join(disks)}"
+    again = f"1: refused PvUsed {disks[0]}\n"
+    return Command(words, lambda it: it.with_members(disks), lambda it: disks[0] in it.members, again, disks)
+
+
+def vgrename(group, new):
+    words = f"vgrename {group} {new}"
+    again = f"1: refused UnknownGroup {group}\n"
+    return Command(words, lambda it: it.next(group=new), lambda it: it.group == new, again)
+
+
+def lvrename(group, volume, new):
+    name, renamed = volume.name, volume._replace(name=new)
+    words = f"lvrename {group} {name} {new}"
+    again = f"1: refused UnknownVolume {name}\n"
+    return Command(words, lambda it: it.with_volume(name, renamed), lambda it: not it.has_volume(name), again)
+
+
+def lvreduce(group, volume, extents):
+    name, less = volume.name, volume.first(extents)
+    words = f"lvreduce -l {extents} {group}/{name}"
+    again = f"1: refused NotShorter {less.extents} {less.extents}\n"
+    return Command(words, lambda it: it.with_volume(name, less), lambda it: less in it.volumes, again)
+
+
+def lvremove(group, volume):
+    name = volume.name
+    words = f"lvremove {group}/{name}"
+    again = f"1: refused UnknownVolume {name}\n"
+    return Command(words, lambda it: it.with_volume(name), lambda it: not it.has_volume(name), again)
+
+
+def edits(state):
+    """What may be done to the names and the volumes of such a state: of each kind that goes, a list of its commands."""
+    group, volumes = state.group, state.volumes
+    shorter = [(it, extents) for it in volumes for extents in range(1, it.extents) if it.first(extents) != it]
+    kinds = ([vgrename(group, new) for new in GROUPS if new != group],
+             [lvrename(group, it, new) for it in volumes for new in VOLUMES if not state.has_volume(new)],
+             [lvreduce(group, it, extents) for it, extents in shorter],
+             [lvremove(group, it) for it in volumes])
+    return [it for it in kinds if it]
