@@ -1,5 +1,5 @@
 //! Batches that are carried out one after another.
-ghost use Rattle.std.specs.Prelude.{◌≡◌, ◌≤◌, ◌<◌, ◌-◌, ◌^◌, [], length, map, min, sum_by, is_ok, All, MatchResult, OnErr, OnOk};
+ghost use Rattle.std.specs.Prelude.{◌≡◌, ◌≤◌, ◌<◌, ◌+◌, ◌-◌, ◌^◌, [], length, map, min, sum_by, is_ok, All, MatchResult, OnErr, OnOk};
 ghost use Rattle.disk_model.specs.Calls.{Reserves};
 ghost use Rattle.disk_model.specs.Faults.{HasSameFaults};
 ghost use Rattle.disk_model.specs.Idle.{SpendsAtMost};
@@ -20,6 +20,29 @@ pub fn reserve_all<S: Shelf>(batches: &[Batch], shelf: &mut S) -> Result<(), All
     ensures room { OnOk result (Reserves (S.state shelf.old) (sum_by ops_of batches.now) (sum_by sectors_of batches.now) (S.state shelf.new)) }
 {
     let (ops, sectors) = needed_by(batches);
+    if ops == u64::MAX || sectors == u64::MAX {
+        return Err(AllocError);
+    }
+    shelf.reserve(ops, sectors)
+}
+
+/// Makes spare what these batches use up in turn, and more of them behind these.
+///
+/// # Errors
+///
+/// `AllocError` where memory is wanting; then the shelf is as before.
+pub fn reserve_both<S: Shelf>(
+    first: &[Batch],
+    more: &[Batch],
+    shelf: &mut S,
+) -> Result<(), AllocError>
+    ensures err { OnErr result (S.state shelf.new ≡ S.state shelf.old) }
+    ensures room { OnOk result (Reserves (S.state shelf.old) (sum_by ops_of first.now + sum_by ops_of more.now) (sum_by sectors_of first.now + sum_by sectors_of more.now) (S.state shelf.new)) }
+{
+    let (first_ops, first_sectors) = needed_by(first);
+    let (more_ops, more_sectors) = needed_by(more);
+    let ops = first_ops.saturating_add(more_ops);
+    let sectors = first_sectors.saturating_add(more_sectors);
     if ops == u64::MAX || sectors == u64::MAX {
         return Err(AllocError);
     }
