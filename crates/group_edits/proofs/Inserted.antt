@@ -19,10 +19,10 @@ module _ {X : Type 0} (P : X → Type 0) where
   all_pushed xs y all here = All-from_recursion P (xs ++ y ∷ []) (each_pushed xs y (recursion_from_All P xs all) here)
 
 module _ {X : Type 0} (R : X → X → Type 0) where
-  first_pairs : (x : X) (xs : List X) → AllPairs R (x ∷ xs) → All (R x) xs
+  pub first_pairs : (x : X) (xs : List X) → AllPairs R (x ∷ xs) → All (R x) xs
   first_pairs x xs pairs k d within = pairs 0 (suc k) d (omega arith) (omega arith)
 
-  later_pairs : (x : X) (xs : List X) → AllPairs R (x ∷ xs) → AllPairs R xs
+  pub later_pairs : (x : X) (xs : List X) → AllPairs R (x ∷ xs) → AllPairs R xs
   later_pairs x xs pairs i j d before within = pairs (suc i) (suc j) d (omega arith) (omega arith)
 
   -- an element that is related to all of them, whatever the order
@@ -38,7 +38,7 @@ slice_get-pushed [] ys k x is = absurd cc
 slice_get-pushed (y ∷ xs) ys zero x is = is
 slice_get-pushed (y ∷ xs) ys (suc k) x is = slice_get-pushed xs ys k x is
 
-none_by : (a b : Bool) → (a || b) ≡ false → (a ≡ false) × (b ≡ false)
+pub none_by : (a b : Bool) → (a || b) ≡ false → (a ≡ false) × (b ≡ false)
 none_by true b none = absurd (true≢false none)
 none_by false b none = (refl, none)
 

@@ -20,7 +20,8 @@ use Rattle.group_edits.proofs.Removed.{any_found, leg_lies, removed_whole, same_
 use Rattle.group_edits.proofs.Whole.{IsWhole}
 use Rattle.group_edits.specs.NextVersion.{with_lvs}
 use Rattle.group_edits.specs.Marking.{unmarked}
-use Rattle.group_edits.specs.Removing.{goes_with, has_leg_on, lv_numbers, row_after, stays, that_stay, without_volume}
+use Rattle.group_edits.specs.Removing.{goes_with, has_leg_on, lv_numbers, on_after, stays, that_stay, without_volume}
+use Rattle.group_edits.specs.Renumbered.{renumbered_row}
 use Rattle.group_edits.specs.Visible.{IsVisible}
 
 module _ (group : Group) (accepted : IsAccepted group) where
@@ -58,13 +59,17 @@ module _ (group : Group) (accepted : IsAccepted group) where
 
 -- what is made of the volumes that aren't marked
 pub without_is : (group next : Group) (removed : ℕ) (goes : List Bool) (lvs : List (List ℕ × Lv)) → IsAccepted group → removed < length group.lvs → ((lv : ℕ) → lv < 1024 → is_marked goes lv ≡ goes_with group removed 4 lv) → ((lv : ℕ) → 1024 ≤ lv → is_marked goes lv ≡ false)
-    → lvs ≡ map (row_after (unmarked goes)) (that_stay (unmarked goes) 0 group.lvs) → next ≡ with_lvs group lvs → next ≡ without_volume group removed
+    → lvs ≡ map (renumbered_row (on_after (unmarked goes))) (that_stay (unmarked goes) 0 group.lvs) → next ≡ with_lvs group lvs → next ≡ without_volume group removed
 without_is group next removed goes lvs accepted stands told past rows made =
-    made ∙ ap (with_lvs group) (rows ∙ ap (λ (s : ℕ → Bool). map (row_after s) (that_stay s 0 group.lvs)) (same_stays group accepted removed goes stands told past))
+    made ∙ ap (with_lvs group) (rows ∙ ap (λ (s : ℕ → Bool). map (renumbered_row (on_after s)) (that_stay s 0 group.lvs)) (same_stays group accepted removed goes stands told past))
+
+pub rows_by : (group : Group) (numbers goes : List Bool) (lvs : List (List ℕ × Lv)) → numbers ≡ goes → lvs ≡ map (renumbered_row (on_after (unmarked numbers))) (that_stay (unmarked numbers) 0 group.lvs)
+    → lvs ≡ map (renumbered_row (on_after (unmarked goes))) (that_stay (unmarked goes) 0 group.lvs)
+rows_by group numbers goes lvs same rows = rows ∙ ap (λ (marks : List Bool). map (renumbered_row (on_after (unmarked marks))) (that_stay (unmarked marks) 0 group.lvs)) same
 
 -- as it is made
 pub rest_is : (group found next : Group) (removed : ℕ) (goes : List Bool) (lvs : List (List ℕ × Lv)) → found ≡ group → IsAccepted found → IsVisible group removed → ((lv : ℕ) → lv < 1024 → is_marked goes lv ≡ goes_with found removed 4 lv) → ((lv : ℕ) → 1024 ≤ lv → is_marked goes lv ≡ false)
-    → lvs ≡ map (row_after (unmarked goes)) (that_stay (unmarked goes) 0 found.lvs) → next ≡ with_lvs found lvs → next ≡ without_volume group removed
+    → lvs ≡ map (renumbered_row (on_after (unmarked goes))) (that_stay (unmarked goes) 0 found.lvs) → next ≡ with_lvs found lvs → next ≡ without_volume group removed
 rest_is group found next removed goes lvs same accepted visible told past rows made =
     without_is found next removed goes lvs accepted (subst (λ (g : Group). removed < length g.lvs) (sym same) (visible_stands group removed visible)) told past rows made
     ∙ ap (λ (g : Group). without_volume g removed) same

@@ -19,7 +19,8 @@ use Rattle.seg_place.specs.Marks.{is_marked}
 use Rattle.volume_rules.specs.Moving.{lv_number}
 use Rattle.group_edits.proofs.Staying.{next_going, next_staying, rows_after, rows_going, rows_staying}
 use Rattle.group_edits.specs.Marking.{goes_by, holds, leg_names, on_names, segment_names, unmarked}
-use Rattle.group_edits.specs.Removing.{goes_with, has_leg_on, lv_after, lv_numbers, number_after}
+use Rattle.group_edits.specs.Removing.{goes_with, has_leg_on, lv_numbers, number_after, on_after}
+use Rattle.group_edits.specs.Renumbered.{renumbered_lv}
 
 or_false : (b : Bool) → (b || false) ≡ b
 or_false true = refl
@@ -172,7 +173,7 @@ count_same marks n number later old is made =
 -- ---- rows
 
 pub rows_more : (stays : ℕ → Bool) (lvs all later : List (List ℕ × Lv)) (n : ℕ) (row : List ℕ × Lv) (name : List ℕ) (lv : Lv) → all ++ rows_after stays n (drop n lvs) ≡ rows_after stays 0 lvs → slice_get lvs n ≡ Some row → stays n ≡ true
-    → name ≡ row.0 → lv ≡ lv_after stays row.1 → later ≡ all ++ (name, lv) ∷ [] → later ++ rows_after stays (n + 1) (drop (n + 1) lvs) ≡ rows_after stays 0 lvs
+    → name ≡ row.0 → lv ≡ renumbered_lv (on_after stays) row.1 → later ≡ all ++ (name, lv) ∷ [] → later ++ rows_after stays (n + 1) (drop (n + 1) lvs) ≡ rows_after stays 0 lvs
 rows_more stays lvs all later n row name lv old there is named made pushed =
     ap (λ (l : List (List ℕ × Lv)). l ++ rows_after stays (n + 1) (drop (n + 1) lvs)) pushed
     ∙ append_assoc all ((name, lv) ∷ []) (rows_after stays (n + 1) (drop (n + 1) lvs))

@@ -3,7 +3,7 @@ use Rattle.std.proofs.Common.{◌≡◌, ℕ, suc, ◌+◌, Bool, true, false, �
 use Rattle.std.specs.Prelude.{nat_eq, option_map, slice_get, Contains}
 use Rattle.std.specs.List.{AllByRecursion as Each}
 use Rattle.std.specs.Cmp.Lexicographic.{pointwise}
-use Rattle.std.proofs.lemmas.Bool.{false≢true, true≢false}
+use Rattle.std.proofs.lemmas.Bool.{false≢true, or_right, true≢false}
 use Rattle.std.proofs.lemmas.List.Elements.{All-contains, All-from_recursion}
 use Rattle.std.proofs.lemmas.Option.{same_Some}
 use Rattle.lvm_name.specs.Names.{is_among}
@@ -18,13 +18,9 @@ use Rattle.group_edits.specs.Visible.{visible_from, visible_named}
 abbrev Row : Type 0
 Row = List ℕ × Lv
 
-both_true : (a b : Bool) → (a && b) ≡ true → (a ≡ true) × (b ≡ true)
+pub both_true : (a b : Bool) → (a && b) ≡ true → (a ≡ true) × (b ≡ true)
 both_true true b is = (refl, is)
 both_true false b is = absurd (false≢true is)
-
-or_true : (a b : Bool) → b ≡ true → (a || b) ≡ true
-or_true true b is = refl
-or_true false b is = is
 
 -- where the visible volume stands that was found
 pub record IsVisibleAt (number : ℕ) (name : List ℕ) (rows : List Row) (v : ℕ × Lv) : Type 0 where
@@ -64,13 +60,13 @@ module _ (name : List ℕ) where
   abbrev pub IsThis : Lv → Row → Type 0
   IsThis lv row = same_bytes row.0 name ≡ true → row.1 ≡ lv
 
-  among_first : (own : List ℕ) (names : List (List ℕ)) → own ≡ name → is_among (own ∷ names) name ≡ true
+  pub among_first : (own : List ℕ) (names : List (List ℕ)) → own ≡ name → is_among (own ∷ names) name ≡ true
   among_first own names same = ap (λ (b : Bool). b || is_among names name) (ap (pointwise nat_eq name) same ∙ pointwise_same name)
 
   -- none has it where it stood before
   others : (rows : List Row) (taken : List (List ℕ)) → AreNames taken (map (λ (row : Row). row.0) rows) → is_among taken name ≡ true → Each HasOther rows
   others [] taken are among = tt
-  others (row ∷ rows) taken are among = (by (same_bytes row.0 name) refl, others rows (row.0 ∷ taken) are.2 (or_true (pointwise nat_eq name row.0) (is_among taken name) among)) where
+  others (row ∷ rows) taken are among = (by (same_bytes row.0 name) refl, others rows (row.0 ∷ taken) are.2 (or_right (pointwise nat_eq name row.0) (is_among taken name) among)) where
     by : (b : Bool) → same_bytes row.0 name ≡ b → b ≡ false
     by true is = absurd (true≢false (sym among ∙ ap (is_among taken) (sym (same_bytes_tells row.0 name is)) ∙ are.1))
     by false is = refl

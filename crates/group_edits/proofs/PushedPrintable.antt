@@ -28,7 +28,7 @@ use Rattle.group_edits.proofs.Pushed.{pushed}
 
 -- ---- names that stand once
 
-names_pushed : (taken names : List (List ℕ)) (name : List ℕ) → is_none (any_name_refusal name) ≡ true → is_among taken name ≡ false → is_among names name ≡ false → AreNames taken names → AreNames taken (names ++ name ∷ [])
+pub names_pushed : (taken names : List (List ℕ)) (name : List ℕ) → is_none (any_name_refusal name) ≡ true → is_among taken name ≡ false → is_among names name ≡ false → AreNames taken names → AreNames taken (names ++ name ∷ [])
 names_pushed taken [] name named other free are = (named, other, tt)
 names_pushed taken (first ∷ names) name named other free are =
     let parts : (pointwise nat_eq name first ≡ false) × (is_among names name ≡ false) = both_false (pointwise nat_eq name first) (is_among names name) free in
@@ -56,7 +56,7 @@ no_place_kept : {X : Type 0} (p : X → Bool) (i : ℕ) (xs : List X) (y : X) �
 no_place_kept p i [] y other none = rw other refl
 no_place_kept p i (x ∷ xs) y other none = no_place_by (p x) i (position_from p (i + 1) xs) (position_from p (i + 1) (xs ++ y ∷ [])) (no_place_kept p (i + 1) xs y other) none
 
-position_kept : {X : Type 0} (p : X → Bool) (xs ys : List X) (k : ℕ) → position p xs ≡ Some k → position p (xs ++ ys) ≡ Some k
+pub position_kept : {X : Type 0} (p : X → Bool) (xs ys : List X) (k : ℕ) → position p xs ≡ Some k → position p (xs ++ ys) ≡ Some k
 position_kept p xs ys k is = position_from-zero p (xs ++ ys) ∙ place_kept p 0 xs ys k (sym (position_from-zero p xs) ∙ is)
 
 no_position_kept : {X : Type 0} (p : X → Bool) (xs : List X) (y : X) → p y ≡ false → position p xs ≡ None → position p (xs ++ y ∷ []) ≡ None

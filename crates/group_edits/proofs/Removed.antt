@@ -23,7 +23,7 @@ use Rattle.volume_rules.specs.Legs.{IsWayDown, LegRun, LiesOn, runs_of}
 use Rattle.volume_rules.specs.Moving.{leads_to_pvmove, named_by}
 use Rattle.volume_rules.specs.Rules.{IsAccepted, IsMoving, IsPvmove, LiesWithin}
 use Rattle.volume_rules.specs.declared.rule.Rule.TheVariants as rule
-use Rattle.group_edits.proofs.Renamed.{both_true}
+use Rattle.group_edits.proofs.OneNamed.{both_true}
 use Rattle.group_edits.proofs.StayingPrintable.{IsStaying, staying_printable}
 use Rattle.group_edits.proofs.StayingRules.{staying_accepted}
 use Rattle.group_edits.proofs.Whole.{IsWhole, seqno_below}

@@ -1,10 +1,8 @@
 -- A group in which a visible volume has a new name keeps all rules, and a tree stands for it.
-use Rattle.std.proofs.Common.{◌≡◌, ◌<◌, ℕ, ◌+◌, Bool, true, false, ◌||◌, ◌&&◌, cond, List, [], ◌∷◌, get_or, map, Option, Some, None, refl, sym, ap, subst, ◌∙◌}
-use Rattle.std.specs.Prelude.{◌≢◌, is_none, is_some, nat_eq, option_map, slice_get, Contains}
-use Rattle.std.specs.List.{AllByRecursion as Each}
-use Rattle.std.specs.Cmp.Lexicographic.{pointwise}
+use Rattle.std.proofs.Common.{◌≡◌, ◌<◌, ℕ, ◌+◌, Bool, true, false, cond, List, [], get_or, map, Option, Some, None, refl, sym, ap, subst, ◌∙◌}
+use Rattle.std.specs.Prelude.{◌≢◌, is_none, is_some, option_map, slice_get, Contains}
 use Rattle.std.proofs.lemmas.Bool.{false≢true, true≢false}
-use Rattle.std.proofs.lemmas.List.Elements.{All-contains, All-from_recursion}
+use Rattle.std.proofs.lemmas.List.Elements.{All-contains}
 use Rattle.std.proofs.lemmas.Option.{get_or_from_slice_get, slice_get-map}
 use Rattle.lvm_name.specs.Names.{any_name_refusal, is_among, volume_name_refusal, is_reserved}
 use Rattle.meta_model.specs.Runs.{legs_of}
@@ -17,76 +15,26 @@ use Rattle.meta_model.specs.declared.segment.On.{On}
 use Rattle.meta_model.specs.declared.segment.On.TheVariants as on
 use Rattle.meta_model.specs.declared.segment.Segment.{Segment}
 use Rattle.meta_print.proofs.GroupFrom.{printable}
-use Rattle.meta_print.proofs.NamesOfText.{Passes, passes_by, pointwise_same}
-use Rattle.meta_print.proofs.Printable.{AreNames, IsPrintable}
+use Rattle.meta_print.proofs.NamesOfText.{Passes, passes_by}
+use Rattle.meta_print.proofs.Printable.{IsPrintable}
 use Rattle.meta_print.proofs.ReadAgain.{has_tree}
-use Rattle.scan_rules.proofs.Scanning.{same_bytes_tells}
 use Rattle.scan_rules.specs.Decision.{same_bytes}
 use Rattle.volume_rules.proofs.LegRuns.{run_of}
 use Rattle.volume_rules.specs.Legs.{LegRun, runs_of}
 use Rattle.volume_rules.specs.Rules.{IsAccepted, LiesWithin}
 use Rattle.volume_rules.specs.declared.rule.Rule.TheVariants.{Depth, Within}
 use Rattle.group_edits.proofs.Whole.{IsWhole, seqno_below}
+use Rattle.group_edits.proofs.OneNamed.{IsVisibleAt, is_this, visible_at}
 use Rattle.group_edits.proofs.OtherNames.{contains_at, other_accepted}
 use Rattle.group_edits.proofs.PushedPrintable.{lv_names}
 use Rattle.group_edits.proofs.RenamedPrintable.{IsOther, printable_renamed}
 use Rattle.group_edits.specs.NextVersion.{changed_if, with_lvs}
-use Rattle.group_edits.specs.Visible.{visible_from, visible_named}
+use Rattle.group_edits.specs.Visible.{visible_named}
 use Rattle.group_edits.specs.RenamedVolume.{renamed_volume}
 
 -- a name that users may give is one of a volume
 pub given_named : (name : List ℕ) → volume_name_refusal name ≡ None → is_none (any_name_refusal name) ≡ true
 given_named name none = let p : Passes name = passes_by is_reserved name (ap is_none none) in rw (p.some, p.short, p.no_dash, p.no_dots, p.bytes) refl
-
-pub both_true : (a b : Bool) → (a && b) ≡ true → (a ≡ true) × (b ≡ true)
-both_true true b is = (refl, is)
-both_true false b is = absurd (false≢true is)
-
--- ---- the volumes of the old name
-
-module _ (old : List ℕ) where
-  -- it is visible, where it has the old name
-  abbrev pub IsSeen : List ℕ × Lv → Type 0
-  IsSeen row = same_bytes row.0 old ≡ true → row.1.status.visible ≡ true
-
-  or_true : (a b : Bool) → b ≡ true → (a || b) ≡ true
-  or_true true b is = refl
-  or_true false b is = is
-
-  among_first : (name : List ℕ) (names : List (List ℕ)) → name ≡ old → is_among (name ∷ names) old ≡ true
-  among_first name names same = ap (λ (b : Bool). b || is_among names old) (ap (pointwise nat_eq old) same ∙ pointwise_same old)
-
-  -- none is found where the name stood before
-  none_twice : (number : ℕ) (rows : List (List ℕ × Lv)) (taken : List (List ℕ)) (v : ℕ × Lv) → visible_from number old rows ≡ Some v → AreNames taken (map (λ (row : List ℕ × Lv). row.0) rows) → is_among taken old ≡ true → true ≡ false
-  none_twice number [] taken v found are among = absurd cc
-  none_twice number (row ∷ rows) taken v found are among =
-      by (row.1.status.visible && same_bytes row.0 old) refl found (λ made. none_twice (number + 1) rows (row.0 ∷ taken) v made are.2 (or_true (pointwise nat_eq old row.0) (is_among taken old) among)) where
-        by : (b : Bool) → (row.1.status.visible && same_bytes row.0 old) ≡ b → cond b (Some (number, row.1)) (visible_from (number + 1) old rows) ≡ Some v → (visible_from (number + 1) old rows ≡ Some v → true ≡ false) → true ≡ false
-        by true is made later =
-            let same : row.0 ≡ old = same_bytes_tells row.0 old (both_true row.1.status.visible (same_bytes row.0 old) is).1 in
-            sym among ∙ ap (is_among taken) (sym same) ∙ are.1
-        by false is made later = later made
-
-  -- no row has a name that stood before
-  all_seen : (rows : List (List ℕ × Lv)) (taken : List (List ℕ)) → AreNames taken (map (λ (row : List ℕ × Lv). row.0) rows) → is_among taken old ≡ true → Each IsSeen rows
-  all_seen [] taken are among = tt
-  all_seen (row ∷ rows) taken are among = (
-    λ is. absurd (true≢false (sym among ∙ ap (is_among taken) (sym (same_bytes_tells row.0 old is)) ∙ are.1)),
-    all_seen rows (row.0 ∷ taken) are.2 (or_true (pointwise nat_eq old row.0) (is_among taken old) among),
-  )
-
-  each_seen : (number : ℕ) (rows : List (List ℕ × Lv)) (taken : List (List ℕ)) (v : ℕ × Lv) → visible_from number old rows ≡ Some v → AreNames taken (map (λ (row : List ℕ × Lv). row.0) rows) → Each IsSeen rows
-  each_seen number [] taken v found are = tt
-  each_seen number (row ∷ rows) taken v found are =
-      by (row.1.status.visible && same_bytes row.0 old) refl found (λ made. each_seen (number + 1) rows (row.0 ∷ taken) v made are.2) where
-        by : (b : Bool) → (row.1.status.visible && same_bytes row.0 old) ≡ b → cond b (Some (number, row.1)) (visible_from (number + 1) old rows) ≡ Some v → (visible_from (number + 1) old rows ≡ Some v → Each IsSeen rows) → Each IsSeen (row ∷ rows)
-        by true is made later =
-            let both = both_true row.1.status.visible (same_bytes row.0 old) is in
-            (λ same. both.0, all_seen rows (row.0 ∷ taken) are.2 (among_first row.0 taken (same_bytes_tells row.0 old both.1)))
-        by false is made later = (
-          λ same. absurd (true≢false (none_twice (number + 1) rows (row.0 ∷ taken) v made are.2 (among_first row.0 taken (same_bytes_tells row.0 old same)))),
-          later made,
-        )
 
 -- ---- the group
 
@@ -94,9 +42,11 @@ module _ (group : Group) (old new : List ℕ) (v : ℕ × Lv) (accepted : IsAcce
   can : IsPrintable group
   can = printable group tree
 
-  seen : (row : List ℕ × Lv) → Contains group.lvs row → IsSeen old row
-  unfolding visible_named
-  seen row within = All-contains (IsSeen old) group.lvs row (All-from_recursion (IsSeen old) group.lvs (each_seen old 0 group.lvs [] v found can.lv_names)) within
+  -- a volume is visible, where it has the old name
+  seen : (row : List ℕ × Lv) → Contains group.lvs row → same_bytes row.0 old ≡ true → row.1.status.visible ≡ true
+  seen row within same =
+      let at : IsVisibleAt 0 old group.lvs v = visible_at group old v found in
+      ap (λ (lv : Lv). lv.status.visible) (is_this group old v can found row within same ∙ sym at.volume) ∙ at.visible
 
   name_kept : (row : List ℕ × Lv) → Contains group.lvs row → row.1.status.visible ≡ false → (changed_if old (λ (r : List ℕ × Lv). (new, r.1)) row).0 ≡ row.0
   name_kept row within hidden = by (same_bytes row.0 old) refl where

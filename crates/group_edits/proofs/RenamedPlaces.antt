@@ -23,7 +23,7 @@ module _ (group : Group) (name : List ℕ) where
   met_named lv sector m is = is
 
   pub primary_named : (lv sector : ℕ) (at : At) → primary group lv sector ≡ Some at → primary (renamed_group group name) lv sector ≡ Some at
-  primary_named lv sector at is = primary_where_met group (renamed_group group name) (λ k pv there. there) refl met_named lv sector at is
+  primary_named lv sector at is = primary_where_met group (renamed_group group name) (λ k pv stays there. there) refl met_named lv sector at is
 
 -- ---- a volume
 
@@ -52,4 +52,4 @@ module _ (old new : List ℕ) (group : Group) where
       ap (option_and_then (λ (row : List ℕ × Lv). met_in lv sector row.1)) (slice_get-map named group.lvs lv) ∙ met_row lv sector m (slice_get group.lvs lv) is
 
   pub primary_renamed : (lv sector : ℕ) (at : At) → primary group lv sector ≡ Some at → primary (renamed_volume old new group) lv sector ≡ Some at
-  primary_renamed lv sector at is = primary_where_met group (renamed_volume old new group) (λ k pv there. there) refl met_renamed lv sector at is
+  primary_renamed lv sector at is = primary_where_met group (renamed_volume old new group) (λ k pv stays there. there) refl met_renamed lv sector at is

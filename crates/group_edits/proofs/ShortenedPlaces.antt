@@ -26,7 +26,8 @@ use Rattle.volume_view.specs.Places.{down, primary}
 use Rattle.volume_view.proofs.GoingDown.{GoesDown, goes_down, step_down}
 use Rattle.volume_view.proofs.MetSegments.{ByLeg, Meets, all_at, by_leg, make, meets_is}
 use Rattle.volume_view.proofs.PrimariesStand.{LeadsOn, ToLv, ToPv, leads_on}
-use Rattle.group_edits.proofs.KeptPlaces.{IsTaken, OnStays, down_kept, on_same, primary_by, spot_same}
+use Rattle.group_edits.proofs.KeptPlaces.{Any, IsTaken, OnStays, down_kept, on_same, primary_by, spot_same}
+use Rattle.group_edits.proofs.Renumbered.{unchanged}
 use Rattle.group_edits.proofs.OneNamed.{is_this}
 use Rattle.group_edits.proofs.OtherNames.{contains_at}
 use Rattle.group_edits.proofs.ShortFront.{cut, le_by, lt_by}
@@ -137,19 +138,19 @@ module _ (group : Group) (name : List ℕ) (left : ℕ) (v : ℕ × Lv) (accepte
       by false same = refl
 
     -- and what a leg lies on
-    leads_other : (n : ℕ) (spot : Spot) → LeadsOn group n spot → OnStays HasOther spot.on
-    leads_other n spot (ToPv number pv is_on is less) = subst (OnStays HasOther) (sym is_on) tt
+    leads_other : (n : ℕ) (spot : Spot) → LeadsOn group n spot → OnStays Any HasOther spot.on
+    leads_other n spot (ToPv number pv is_on is less) = subst (OnStays Any HasOther) (sym is_on) tt
     leads_other n spot (ToLv number volume is_on is less lies) =
-        subst (OnStays HasOther) (sym is_on)
+        subst (OnStays Any HasOther) (sym is_on)
         (λ row there.
         let same : volume ≡ row = same_Some volume row (sym is ∙ there) in
         subst (λ (r : Row). same_bytes r.0 name ≡ false) same (hidden_other volume (contains_at group.lvs number volume is) ((accepted Depth).hidden n number volume.1 lies (volume.0, is))))
 
-    step_other : (n sector : ℕ) (m : Met) (spot : Spot) → Meets group n sector m → primary_spot group.extent_size m ≡ Some spot → OnStays HasOther spot.on
+    step_other : (n sector : ℕ) (m : Met) (spot : Spot) → Meets group n sector m → primary_spot group.extent_size m ≡ Some spot → OnStays Any HasOther spot.on
     step_other n sector m spot meets is_spot =
         let j : ℕ = primary_leg m.segment.count m.segment.kind m.at in
         let leg : ByLeg group m j spot = by_leg group m j spot is_spot in
-        subst (OnStays HasOther) leg.on (leads_other n (spot_in group.extent_size (offset_in m.segment.kind m.at) leg.it) (leads_on group n sector m j leg.it accepted meets leg.is_leg))
+        subst (OnStays Any HasOther) leg.on (leads_other n (spot_in group.extent_size (offset_in m.segment.kind m.at) leg.it) (leads_on group n sector m j leg.it accepted meets leg.is_leg))
 
     -- what is met in a row
     abbrev met_in : ℕ → ℕ → Row → Option Met
@@ -159,7 +160,7 @@ module _ (group : Group) (name : List ℕ) (left : ℕ) (v : ℕ × Lv) (accepte
     unfolding met
     met_other n sector m stays is row there = ap (option_and_then (met_in n sector)) (row_there n row false there (stays row there) ∙ sym there) ∙ is
 
-    taken : (n sector : ℕ) (m : Met) (spot : Spot) → HasOther n → met group n sector ≡ Some m → primary_spot group.extent_size m ≡ Some spot → IsTaken other (λ (lv : ℕ). lv) HasOther n sector spot
+    taken : (n sector : ℕ) (m : Met) (spot : Spot) → HasOther n → met group n sector ≡ Some m → primary_spot group.extent_size m ≡ Some spot → IsTaken other unchanged unchanged Any HasOther n sector spot
     taken n sector m spot stays is is_spot =
         let meets : Meets group n sector m = meets_is group n sector m is in
         record {
@@ -171,7 +172,7 @@ module _ (group : Group) (name : List ℕ) (left : ℕ) (v : ℕ × Lv) (accepte
 
     -- a volume of another name keeps each primary place
     pub primary_others : (n sector : ℕ) (at : At) → HasOther n → primary group n sector ≡ Some at → primary other n sector ≡ Some at
-    primary_others n sector at stays is = primary_by group other (λ (lv : ℕ). lv) HasOther (λ k pv there. there) taken n sector at stays is
+    primary_others n sector at stays is = primary_by group other unchanged unchanged Any HasOther (λ k pv stays there. there) taken n sector at stays is
 
     -- ---- the shorter one
 
@@ -222,7 +223,7 @@ module _ (group : Group) (name : List ℕ) (left : ℕ) (v : ℕ × Lv) (accepte
           in
           step_down other n sector 4 (met_cut m front.0) g.spot at (met_front sector front.0 m meets front.1) (spot_front front.0 m g.spot leg g.is_spot)
           (ap (λ (o : On). down other o 4 g.spot.sector) (sym (on_same g.spot.on))
-          ∙ down_kept group other (λ (lv : ℕ). lv) HasOther (λ k pv stands. stands) taken 4 g.spot.on g.spot.sector at (step_other n sector m g.spot meets g.is_spot) g.rest)
+          ∙ down_kept group other unchanged unchanged Any HasOther (λ k pv stays stands. stands) taken 4 g.spot.on g.spot.sector at (step_other n sector m g.spot meets g.is_spot) g.rest)
 
       -- it keeps those of its first sectors
       pub primary_front : (sector : ℕ) (at : At) → sector < left * group.extent_size → primary group n sector ≡ Some at → primary other n sector ≡ Some at

@@ -1,18 +1,18 @@
 -- The volumes that stay, by their new numbers, and what their legs cover.
-use Rattle.std.proofs.Common.{◌≡◌, ℕ, zero, suc, ◌+◌, ◌/◌, Bool, true, false, cond, List, [], ◌∷◌, ◌++◌, length, map, refl, sym, ap, ◌∙◌, length-append, arith}
+use Rattle.std.proofs.Common.{◌≡◌, ℕ, zero, suc, ◌+◌, Bool, true, false, cond, List, [], ◌∷◌, ◌++◌, length, map, refl, sym, ap, ◌∙◌, length-append, arith}
 use Rattle.std.specs.Prelude.{filter}
 use Rattle.std.specs.List.{range_with_len}
-use Rattle.std.proofs.lemmas.List.{length-map, map-append}
+use Rattle.std.proofs.lemmas.List.{map-append}
 use Rattle.std.proofs.lemmas.List.Elements.{filter-append}
 use Rattle.meta_model.specs.Runs.{legs_of}
 use Rattle.meta_model.specs.declared.lv.Lv.{Lv}
 use Rattle.meta_model.specs.declared.segment.Leg.{Leg}
-use Rattle.meta_model.specs.declared.segment.SegKind.{SegKind}
-use Rattle.meta_model.specs.declared.segment.SegKind.TheVariants.{Striped, Mirror}
 use Rattle.meta_model.specs.declared.segment.Segment.{Segment}
 use Rattle.volume_rules.specs.Extents.{leg_share}
 use Rattle.volume_rules.specs.Legs.{LegRun, runs_of_legs, runs_of_segments, runs_of_volumes}
-use Rattle.group_edits.specs.Removing.{kind_after, legs_after, number_after, on_after, row_after, segment_after, that_stay}
+use Rattle.group_edits.proofs.Renumbered.{run_by, segments_by}
+use Rattle.group_edits.specs.Removing.{number_after, on_after, that_stay}
+use Rattle.group_edits.specs.Renumbered.{renumbered_row, renumbered_segment}
 
 range_next : (a n : ℕ) → range_with_len a (suc n) ≡ range_with_len a n ++ (a + n) ∷ []
 range_next a zero = ap (λ (x : ℕ). x ∷ []) (let e : a ≡ a + 0 = omega arith in e)
@@ -40,44 +40,23 @@ module _ (stays : ℕ → Bool) where
 
   -- those that stay of these, the first of which has this number
   abbrev pub rows_after : ℕ → List (List ℕ × Lv) → List (List ℕ × Lv)
-  rows_after n rows = map (row_after stays) (that_stay stays n rows)
+  rows_after n rows = map (renumbered_row (on_after stays)) (that_stay stays n rows)
 
-  pub rows_staying : (n : ℕ) (row : List ℕ × Lv) (rows : List (List ℕ × Lv)) → stays n ≡ true → rows_after n (row ∷ rows) ≡ row_after stays row ∷ rows_after (n + 1) rows
-  rows_staying n row rows is = ap (λ (b : Bool). map (row_after stays) (cond b (row ∷ that_stay stays (n + 1) rows) (that_stay stays (n + 1) rows))) is
+  pub rows_staying : (n : ℕ) (row : List ℕ × Lv) (rows : List (List ℕ × Lv)) → stays n ≡ true → rows_after n (row ∷ rows) ≡ renumbered_row (on_after stays) row ∷ rows_after (n + 1) rows
+  rows_staying n row rows is = ap (λ (b : Bool). map (renumbered_row (on_after stays)) (cond b (row ∷ that_stay stays (n + 1) rows) (that_stay stays (n + 1) rows))) is
 
   pub rows_going : (n : ℕ) (row : List ℕ × Lv) (rows : List (List ℕ × Lv)) → stays n ≡ false → rows_after n (row ∷ rows) ≡ rows_after (n + 1) rows
-  rows_going n row rows is = ap (λ (b : Bool). map (row_after stays) (cond b (row ∷ that_stay stays (n + 1) rows) (that_stay stays (n + 1) rows))) is
+  rows_going n row rows is = ap (λ (b : Bool). map (renumbered_row (on_after stays)) (cond b (row ∷ that_stay stays (n + 1) rows) (that_stay stays (n + 1) rows))) is
 
   -- ---- what legs cover
 
   -- a leg's run by the new numbers
   abbrev pub run_after : LegRun → LegRun
-  run_after run = record run { lv = new run.lv; on = on_after stays run.on }
+  run_after run = run_by (on_after stays) new run
 
   -- its volume stays
   abbrev pub run_stays : LegRun → Bool
   run_stays run = stays run.lv
-
-  legs_by : (n s count j : ℕ) (legs : List Leg) → map run_after (runs_of_legs n s count j legs) ≡ runs_of_legs (new n) s count j (legs_after stays legs)
-  legs_by n s count j [] = refl
-  legs_by n s count j (leg ∷ legs) = ap (λ (runs : List LegRun). record { lv = new n; segment = s; leg = j; on = on_after stays leg.on; first = leg.first; count = count } ∷ runs) (legs_by n s count (j + 1) legs)
-
-  share_same : (count : ℕ) (kind : SegKind) → leg_share count (kind_after stays kind) ≡ leg_share count kind
-  share_same count (Striped stripe legs) = ap (λ (n : ℕ). count / n) (length-map legs (λ (leg : Leg). record leg { on = on_after stays leg.on }))
-  share_same count (Mirror region moved legs) = refl
-
-  pub legs_same : (kind : SegKind) → legs_of (kind_after stays kind) ≡ legs_after stays (legs_of kind)
-  legs_same (Striped stripe legs) = refl
-  legs_same (Mirror region moved legs) = refl
-
-  segments_by : (n k : ℕ) (segments : List Segment) → map run_after (runs_of_segments n k segments) ≡ runs_of_segments (new n) k (map (segment_after stays) segments)
-  segments_by n k [] = refl
-  segments_by n k (segment ∷ segments) =
-      map-append run_after (runs_of_legs n k (leg_share segment.count segment.kind) 0 (legs_of segment.kind)) (runs_of_segments n (k + 1) segments)
-      ∙ ap (λ (runs : List LegRun). runs ++ map run_after (runs_of_segments n (k + 1) segments)) (legs_by n k (leg_share segment.count segment.kind) 0 (legs_of segment.kind))
-      ∙ ap (λ (legs : List Leg). runs_of_legs (new n) k (leg_share segment.count segment.kind) 0 legs ++ map run_after (runs_of_segments n (k + 1) segments)) (sym (legs_same segment.kind))
-      ∙ ap (λ (share : ℕ). runs_of_legs (new n) k share 0 (legs_of (kind_after stays segment.kind)) ++ map run_after (runs_of_segments n (k + 1) segments)) (sym (share_same segment.count segment.kind))
-      ∙ ap (λ (runs : List LegRun). runs_of_legs (new n) k (leg_share segment.count (kind_after stays segment.kind)) 0 (legs_of (kind_after stays segment.kind)) ++ runs) (segments_by n (k + 1) segments)
 
   legs_staying : (n s count j : ℕ) (legs : List Leg) → stays n ≡ true → filter run_stays (runs_of_legs n s count j legs) ≡ runs_of_legs n s count j legs
   legs_staying n s count j [] is = refl
@@ -126,9 +105,9 @@ module _ (stays : ℕ → Bool) where
         → runs_of_volumes (new n) (rows_after n (row ∷ rows)) ≡ map run_after (filter run_stays (first ++ rest))
     by true is later =
         ap (runs_of_volumes (new n)) (rows_staying n row rows is)
-        ∙ ap (λ (m : ℕ). runs_of_segments (new n) 0 (map (segment_after stays) row.1.segments) ++ runs_of_volumes m (rows_after (n + 1) rows)) (sym (next_staying n is) ∙ ap new more)
-        ∙ ap (λ (runs : List LegRun). runs_of_segments (new n) 0 (map (segment_after stays) row.1.segments) ++ runs) later
-        ∙ ap (λ (runs : List LegRun). runs ++ map run_after (filter run_stays rest)) (sym (segments_by n 0 row.1.segments))
+        ∙ ap (λ (m : ℕ). runs_of_segments (new n) 0 (map (renumbered_segment (on_after stays)) row.1.segments) ++ runs_of_volumes m (rows_after (n + 1) rows)) (sym (next_staying n is) ∙ ap new more)
+        ∙ ap (λ (runs : List LegRun). runs_of_segments (new n) 0 (map (renumbered_segment (on_after stays)) row.1.segments) ++ runs) later
+        ∙ ap (λ (runs : List LegRun). runs ++ map run_after (filter run_stays rest)) (sym (segments_by (on_after stays) new n 0 row.1.segments))
         ∙ sym (map-append run_after first (filter run_stays rest))
         ∙ ap (λ (runs : List LegRun). map run_after (runs ++ filter run_stays rest)) (sym (segments_staying n 0 row.1.segments is))
         ∙ ap (map run_after) (sym (filter-append run_stays first rest))

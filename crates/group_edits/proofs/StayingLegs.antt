@@ -14,7 +14,8 @@ use Rattle.volume_rules.specs.Moving.{lv_number}
 use Rattle.volume_rules.specs.Rules.{IsLv}
 use Rattle.group_edits.proofs.Staying.{new, rows_after, run_after, run_stays, runs_after}
 use Rattle.group_edits.proofs.StayingRows.{IsFrom, row_from, row_there}
-use Rattle.group_edits.specs.Removing.{lv_after, on_after, with_staying}
+use Rattle.group_edits.specs.Removing.{on_after, with_staying}
+use Rattle.group_edits.specs.Renumbered.{renumbered_lv}
 
 -- ---- lists
 
@@ -69,7 +70,7 @@ module _ (group : Group) (stays : ℕ → Bool) where
   run_there run within is = subst (λ (runs : List LegRun). Contains runs (run_after stays run)) (sym other_runs) (kept_within (run_stays stays) (run_after stays) (runs_of group) run within is)
 
   -- a volume that stays, by its new number
-  pub lv_there : (n : ℕ) (lv : Lv) → IsLv group n lv → stays n ≡ true → IsLv other (new stays n) (lv_after stays lv)
+  pub lv_there : (n : ℕ) (lv : Lv) → IsLv group n lv → stays n ≡ true → IsLv other (new stays n) (renumbered_lv (on_after stays) lv)
   lv_there n lv is stayed =
       let at : 0 + n ≡ n = omega arith in
       let row = row_there stays 0 n group.lvs (is.0, lv) is.1 (ap stays at ∙ stayed) in
@@ -82,7 +83,7 @@ module _ (group : Group) (stays : ℕ → Bool) where
     pub was : Lv
     pub there : slice_get group.lvs n ≡ Some (name, was)
     pub stayed : stays n ≡ true
-    pub lv_xl : lv ≡ lv_after stays was
+    pub lv_xl : lv ≡ renumbered_lv (on_after stays) was
     pub number : new stays n ≡ m
 
   pub lv_from : (m : ℕ) (name : List ℕ) (lv : Lv) → slice_get other.lvs m ≡ Some (name, lv) → WasLv m name lv

@@ -1,14 +1,12 @@
 -- A group without some volumes can be printed, where what the others lie on stays.
-use Rattle.std.proofs.Common.{◌≡◌, ◌≤◌, ◌<◌, ℕ, zero, suc, ◌+◌, ◌^◌, Bool, true, false, ◌||◌, cond, List, [], ◌∷◌, get_or, map, Option, Some, None, refl, sym, ap, subst, ◌∙◌, arith}
+use Rattle.std.proofs.Common.{◌≡◌, ◌≤◌, ◌<◌, ℕ, zero, suc, ◌+◌, Bool, true, false, ◌||◌, cond, List, [], ◌∷◌, get_or, map, Option, Some, None, refl, sym, ap, subst, ◌∙◌, arith}
 use Rattle.std.specs.Prelude.{nat_eq, option_map, slice_get}
 use Rattle.std.specs.Option.{option_or}
 use Rattle.std.specs.List.{AllByRecursion as Each, position, position_from}
 use Rattle.std.specs.Cmp.Lexicographic.{pointwise}
 use Rattle.std.proofs.lemmas.Bool.{or_from}
 use Rattle.std.proofs.lemmas.Iterator.Adapters.{position_from-zero}
-use Rattle.std.proofs.lemmas.List.{length-map}
 use Rattle.std.proofs.lemmas.Option.{get_or_from_slice_get, same_Some, slice_get-map}
-use Rattle.conf_text.specs.Grammar.{IsContent}
 use Rattle.lvm_name.specs.Names.{is_among}
 use Rattle.meta_model.specs.Runs.{legs_of}
 use Rattle.meta_model.specs.Standing.{on_named}
@@ -17,15 +15,14 @@ use Rattle.meta_model.specs.declared.lv.Lv.{Lv}
 use Rattle.meta_model.specs.declared.segment.Leg.{Leg}
 use Rattle.meta_model.specs.declared.segment.On.{On}
 use Rattle.meta_model.specs.declared.segment.On.TheVariants as on
-use Rattle.meta_model.specs.declared.segment.SegKind.{SegKind}
-use Rattle.meta_model.specs.declared.segment.SegKind.TheVariants.{Striped, Mirror}
 use Rattle.meta_model.specs.declared.segment.Segment.{Segment}
 use Rattle.meta_print.specs.Layout.{name_of}
-use Rattle.meta_print.proofs.Printable.{AreNames, IsKind, IsLeg, IsLegs, IsLv, IsPrintable, IsSegment, names_of}
+use Rattle.meta_print.proofs.Printable.{AreNames, IsLv, IsPrintable, names_of}
 use Rattle.group_edits.proofs.PushedPrintable.{first_of, lv_names, on_lv, on_pv, pv_names, second_of}
+use Rattle.group_edits.proofs.RenumberedPrintable.{IsFoundAs, lv_kept}
 use Rattle.group_edits.proofs.Staying.{new, next_going, next_staying, rows_after, rows_going, rows_staying}
 use Rattle.group_edits.proofs.StayingRows.{row_there}
-use Rattle.group_edits.specs.Removing.{kind_after, legs_after, lv_after, on_after, segment_after, with_staying}
+use Rattle.group_edits.specs.Removing.{on_after, with_staying}
 
 abbrev names : List (List ℕ × Lv) → List (List ℕ)
 names rows = map (λ (row : List ℕ × Lv). row.0) rows
@@ -130,7 +127,7 @@ module _ (group : Group) (stays : ℕ → Bool) where
   IsStaying (on.Lv m) = (stays m ≡ true) × ((row : List ℕ × Lv) × (slice_get group.lvs m ≡ Some row))
 
   again : (is : On) → IsStaying is → on_named (names_of group) (name_of group is) ≡ Some is
-      → (on_named (names_of rest) (name_of rest (on_after stays is)) ≡ Some (on_after stays is)) × (name_of rest (on_after stays is) ≡ name_of group is)
+      → IsFoundAs group rest (on_after stays) is
   again (on.Pv n) stay found =
       let name : List ℕ = get_or (pv_names group) n [] in
       let place : position (pointwise nat_eq name) (pv_names group) ≡ Some n = first_of (position (pointwise nat_eq name) (pv_names group)) (position (pointwise nat_eq name) (lv_names group)) n found in
@@ -159,40 +156,6 @@ module _ (group : Group) (stays : ℕ → Bool) where
         same,
       )
 
-  leg_kept : (leg : Leg) → IsStaying leg.on → IsLeg group leg → IsLeg rest (record leg { on = on_after stays leg.on })
-  leg_kept leg stay is = let found = again leg.on stay is.found in record { found = found.0; content = subst IsContent (sym found.1) is.content; first_fits = is.first_fits }
-
-  each_leg : (legs : List Leg) → ((j : ℕ) (leg : Leg) → slice_get legs j ≡ Some leg → IsStaying leg.on) → Each (IsLeg group) legs → Each (IsLeg rest) (legs_after stays legs)
-  each_leg [] stay are = tt
-  each_leg (leg ∷ legs) stay are = (leg_kept leg (stay zero leg refl) are.0, each_leg legs (λ j l at. stay (suc j) l at) are.1)
-
-  legs_kept : (legs : List Leg) → ((j : ℕ) (leg : Leg) → slice_get legs j ≡ Some leg → IsStaying leg.on) → IsLegs group legs → IsLegs rest (legs_after stays legs)
-  legs_kept legs stay are = record {
-    count_fits = subst (λ (n : ℕ). n < 2 ^ 64) (sym (length-map legs (λ (leg : Leg). record leg { on = on_after stays leg.on }))) are.count_fits;
-    each = each_leg legs stay are.each;
-  }
-
-  kind_kept : (kind : SegKind) → ((j : ℕ) (leg : Leg) → slice_get (legs_of kind) j ≡ Some leg → IsStaying leg.on) → IsKind group kind → IsKind rest (kind_after stays kind)
-  kind_kept (Striped stripe legs) stay is = (is.0, legs_kept legs stay is.1)
-  kind_kept (Mirror region moved legs) stay is = (is.0, is.1, legs_kept legs stay is.2)
-
-  each_segment : (segments : List Segment) → ((k : ℕ) (segment : Segment) (j : ℕ) (leg : Leg) → slice_get segments k ≡ Some segment → slice_get (legs_of segment.kind) j ≡ Some leg → IsStaying leg.on)
-      → Each (IsSegment group) segments → Each (IsSegment rest) (map (segment_after stays) segments)
-  each_segment [] stay are = tt
-  each_segment (segment ∷ segments) stay are = (
-    record { start_fits = are.0.start_fits; count_fits = are.0.count_fits; kind_is = kind_kept segment.kind (λ j leg at. stay zero segment j leg refl at) are.0.kind_is },
-    each_segment segments (λ k s j leg is at. stay (suc k) s j leg is at) are.1,
-  )
-
-  lv_kept : (lv : Lv) → ((k : ℕ) (segment : Segment) (j : ℕ) (leg : Leg) → slice_get lv.segments k ≡ Some segment → slice_get (legs_of segment.kind) j ≡ Some leg → IsStaying leg.on) → IsLv group lv → IsLv rest (lv_after stays lv)
-  lv_kept lv stay is = record {
-    id_again = is.id_again;
-    created_fits = is.created_fits;
-    host_content = is.host_content;
-    count_fits = subst (λ (n : ℕ). n < 2 ^ 64) (sym (length-map lv.segments (segment_after stays))) is.count_fits;
-    each = each_segment lv.segments stay is.each;
-  }
-
   each_lv : (n : ℕ) (rows : List (List ℕ × Lv))
       → ((k : ℕ) (row : List ℕ × Lv) (s : ℕ) (segment : Segment) (j : ℕ) (leg : Leg) → slice_get rows k ≡ Some row → stays (n + k) ≡ true → slice_get row.1.segments s ≡ Some segment → slice_get (legs_of segment.kind) j ≡ Some leg → IsStaying leg.on)
       → Each (λ (lv : List ℕ × Lv). IsLv group lv.1) rows → Each (λ (lv : List ℕ × Lv). IsLv rest lv.1) (rows_after stays n rows)
@@ -204,7 +167,7 @@ module _ (group : Group) (stays : ℕ → Bool) where
     by : (b : Bool) → stays n ≡ b → Each (λ (lv : List ℕ × Lv). IsLv rest lv.1) (rows_after stays (n + 1) rows) → Each (λ (lv : List ℕ × Lv). IsLv rest lv.1) (rows_after stays n (row ∷ rows))
     by true is later =
         subst (Each (λ (lv : List ℕ × Lv). IsLv rest lv.1)) (sym (rows_staying stays n row rows is))
-        (lv_kept row.1 (λ s segment j leg there at. stay zero row s segment j leg refl (ap stays (let e : n + 0 ≡ n = omega arith in e) ∙ is) there at) are.0, later)
+        (lv_kept group rest (on_after stays) IsStaying again row.1 (λ s segment there j leg at. stay zero row s segment j leg refl (ap stays (let e : n + 0 ≡ n = omega arith in e) ∙ is) there at) are.0, later)
     by false is later = subst (Each (λ (lv : List ℕ × Lv). IsLv rest lv.1)) (sym (rows_going stays n row rows is)) later
 
   pub staying_printable : ((k : ℕ) (row : List ℕ × Lv) (s : ℕ) (segment : Segment) (j : ℕ) (leg : Leg) → slice_get group.lvs k ≡ Some row → stays (0 + k) ≡ true → slice_get row.1.segments s ≡ Some segment → slice_get (legs_of segment.kind) j ≡ Some leg → IsStaying leg.on)

@@ -5,18 +5,19 @@ use Rattle.std.proofs.lemmas.Bool.{cases_order}
 use Rattle.std.proofs.lemmas.Option.{same_Some}
 use Rattle.meta_model.specs.declared.lv.Lv.{Lv}
 use Rattle.group_edits.proofs.Staying.{new, next_going, next_staying, rows_after, rows_going, rows_staying}
-use Rattle.group_edits.specs.Removing.{row_after}
+use Rattle.group_edits.specs.Removing.{on_after}
+use Rattle.group_edits.specs.Renumbered.{renumbered_row}
 
 module _ (stays : ℕ → Bool) where
   -- the volume with this number among these, the first of which has the number n, stands behind those before it that stay
   pub row_there : (n k : ℕ) (rows : List (List ℕ × Lv)) (row : List ℕ × Lv) → slice_get rows k ≡ Some row → stays (n + k) ≡ true
-      → (m : ℕ) × (slice_get (rows_after stays n rows) m ≡ Some (row_after stays row)) × (new stays (n + k) ≡ new stays n + m)
+      → (m : ℕ) × (slice_get (rows_after stays n rows) m ≡ Some (renumbered_row (on_after stays) row)) × (new stays (n + k) ≡ new stays n + m)
   row_there n k [] row there is = cc
   row_there n zero (x ∷ rows) row there is =
       let at : n ≡ n + 0 = omega arith in
       let same : stays n ≡ true = ap stays at ∙ is in (
         0,
-        ap (λ (l : List (List ℕ × Lv)). slice_get l 0) (rows_staying stays n x rows same) ∙ ap (λ (r : List ℕ × Lv). Some (row_after stays r)) (same_Some x row there),
+        ap (λ (l : List (List ℕ × Lv)). slice_get l 0) (rows_staying stays n x rows same) ∙ ap (λ (r : List ℕ × Lv). Some (renumbered_row (on_after stays) r)) (same_Some x row there),
         ap (new stays) (sym at) ∙ (let e : new stays n ≡ new stays n + 0 = omega arith in e),
       )
   row_there n (suc k) (x ∷ rows) row there is =
@@ -29,8 +30,8 @@ module _ (stays : ℕ → Bool) where
       more : suc n ≡ n + 1
       more = omega arith
 
-      by : (b : Bool) → stays n ≡ b → (m : ℕ) × (slice_get (rows_after stays (n + 1) rows) m ≡ Some (row_after stays row)) × (new stays (n + 1 + k) ≡ new stays (n + 1) + m)
-          → (m : ℕ) × (slice_get (rows_after stays n (x ∷ rows)) m ≡ Some (row_after stays row)) × (new stays (n + suc k) ≡ new stays n + m)
+      by : (b : Bool) → stays n ≡ b → (m : ℕ) × (slice_get (rows_after stays (n + 1) rows) m ≡ Some (renumbered_row (on_after stays) row)) × (new stays (n + 1 + k) ≡ new stays (n + 1) + m)
+          → (m : ℕ) × (slice_get (rows_after stays n (x ∷ rows)) m ≡ Some (renumbered_row (on_after stays) row)) × (new stays (n + suc k) ≡ new stays n + m)
       by true first later =
           let step : new stays (n + 1) ≡ new stays n + 1 = sym (ap (new stays) more) ∙ next_staying stays n first in (
             suc later.0,
@@ -50,7 +51,7 @@ module _ (stays : ℕ → Bool) where
     pub was : List ℕ × Lv
     pub there : slice_get rows k ≡ Some was
     pub stayed : stays (n + k) ≡ true
-    pub row_xl : row ≡ row_after stays was
+    pub row_xl : row ≡ renumbered_row (on_after stays) was
     pub number : new stays (n + k) ≡ new stays n + m
 
   -- each row that stays was one before
@@ -66,7 +67,7 @@ module _ (stays : ℕ → Bool) where
       was = x;
       there = refl;
       stayed = ap stays (let e : n + 0 ≡ n = omega arith in e) ∙ first;
-      row_xl = sym (same_Some (row_after stays x) row (sym (ap (λ (l : List (List ℕ × Lv)). slice_get l 0) (rows_staying stays n x rows first)) ∙ at));
+      row_xl = sym (same_Some (renumbered_row (on_after stays) x) row (sym (ap (λ (l : List (List ℕ × Lv)). slice_get l 0) (rows_staying stays n x rows first)) ∙ at));
       number = ap (new stays) (let e : n + 0 ≡ n = omega arith in e) ∙ (let e : new stays n ≡ new stays n + 0 = omega arith in e);
     }
     by true first (suc p) at later =

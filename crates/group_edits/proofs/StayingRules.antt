@@ -1,34 +1,33 @@
 -- A group without some volumes keeps all rules, where what the others lie on stays.
-use Rattle.std.proofs.Common.{◌≡◌, ◌≢◌, ◌≤◌, ◌<◌, ◌⊎◌, ℕ, zero, suc, ◌+◌, ◌*◌, ◌^◌, Bool, true, false, cond, List, [], ◌∷◌, ◌++◌, length, get_or, map, Some, None, inl, inr, refl, sym, ap, subst, ◌∙◌, arith}
-use Rattle.std.specs.Prelude.{◌%◌, filter, nat_eq, sum_by, All, AllPairs, Contains}
+use Rattle.std.proofs.Common.{◌≡◌, ◌≢◌, ◌≤◌, ◌<◌, ◌⊎◌, ℕ, zero, suc, ◌+◌, Bool, true, false, cond, List, [], ◌∷◌, ◌++◌, length, get_or, map, Some, None, inl, inr, refl, sym, ap, subst, ◌∙◌, arith}
+use Rattle.std.specs.Prelude.{filter, nat_eq, sum_by, All, AllPairs, Contains}
 use Rattle.std.specs.List.{AllByRecursion as Each}
 use Rattle.std.proofs.lemmas.Bool.{eq-eqb}
 use Rattle.std.proofs.lemmas.Bool.Decides.{nat_tests}
 use Rattle.std.proofs.lemmas.List.{length-map}
-use Rattle.std.proofs.lemmas.List.Elements.{All-cons, All-contains, All-contains_itself, All-filter, All-from_recursion, All-head, All-map, All-nil, All-tail, All-weaker, filter_passes, recursion_from_All}
+use Rattle.std.proofs.lemmas.List.Elements.{All-cons, All-contains, All-contains_itself, All-filter, All-from_recursion, All-head, All-map, All-nil, All-tail, filter_passes, recursion_from_All}
 use Rattle.std.proofs.lemmas.List.Kept.{AllPairs-cons, AllPairs-filter}
 use Rattle.std.proofs.lemmas.List.Sums.{sum_by-cons}
 use Rattle.std.proofs.lemmas.Option.{same_Some}
 use Rattle.meta_model.specs.declared.group.Group.{Group}
 use Rattle.meta_model.specs.declared.lv.Lv.{Lv}
 use Rattle.meta_model.specs.declared.pv.Pv.{Pv}
-use Rattle.meta_model.specs.declared.segment.Leg.{Leg}
 use Rattle.meta_model.specs.declared.segment.On.{On}
 use Rattle.meta_model.specs.declared.segment.On.TheVariants as on
 use Rattle.meta_model.specs.declared.segment.SegKind.{SegKind}
 use Rattle.meta_model.specs.declared.segment.SegKind.TheVariants.{Striped, Mirror}
-use Rattle.meta_model.specs.declared.segment.Segment.{Segment}
 use Rattle.volume_rules.proofs.LegRuns.{contains_first, contains_later}
 use Rattle.volume_rules.specs.Depths.{load}
-use Rattle.volume_rules.specs.Extents.{extents_of}
 use Rattle.volume_rules.specs.Legs.{IsUsed, IsWayDown, LegRun, LieApart, LiesOn, runs_of}
 use Rattle.volume_rules.specs.Moving.{lv_number}
-use Rattle.volume_rules.specs.Rules.{Follow, IsAccepted, IsMove, IsMoveFrom, IsMoving, IsPowerOfTwo, IsPvmove, IsSmall, IsWholeMirror, IsWholeStriped, Keeps, KindIsSmall, LiesWithin, LvIsSmall, MovedIsAllowed, SegmentIsSmall, counts, ids_of, pvmove_number}
+use Rattle.volume_rules.specs.Rules.{IsAccepted, IsMove, IsMoveFrom, IsMoving, IsPvmove, Keeps, LiesWithin, LvIsSmall, counts, ids_of, pvmove_number}
 use Rattle.volume_rules.specs.declared.rule.Rule.TheVariants.{Numbers, Ids, Volumes, Segments, Extents, Follows, Stripes, Mirrors, Within, Apart, Depth, Moved, Pvmove, Locked}
+use Rattle.group_edits.proofs.Renumbered.{AreMirrors, AreMoved, AreStriped, FollowTo, are_mirrors, are_moved, are_striped, each_segment, extents_same, follows, segments_count, small_lv}
 use Rattle.group_edits.proofs.Staying.{new, next_going, next_staying, rows_after, rows_going, rows_staying, run_after, run_stays}
 use Rattle.group_edits.proofs.StayingLegs.{LaidOn, WasLv, lies_from, lies_there, lv_from, lv_there, other_runs, run_there}
 use Rattle.group_edits.proofs.StayingRows.{new_apart}
-use Rattle.group_edits.specs.Removing.{kind_after, legs_after, lv_after, on_after, row_after, segment_after, with_staying}
+use Rattle.group_edits.specs.Removing.{on_after, with_staying}
+use Rattle.group_edits.specs.Renumbered.{renumbered_kind, renumbered_lv, renumbered_row}
 
 -- ---- some elements of a list
 
@@ -70,14 +69,14 @@ each_by R Q Good g by x good [] goods are = tt
 each_by R Q Good g by x good (y ∷ ys) goods are = (by x y good goods.0 are.0, each_by R Q Good g by x good ys goods.1 are.1)
 
 -- pairs of what a function gives
-map_pairs : {X Y : Type 0} (R : X → X → Type 0) (Q : Y → Y → Type 0) (Good : X → Type 0) (g : X → Y) → ((a b : X) → Good a → Good b → R a b → Q (g a) (g b)) → (xs : List X) → Each Good xs → AllPairs R xs → AllPairs Q (map g xs)
+pub map_pairs : {X Y : Type 0} (R : X → X → Type 0) (Q : Y → Y → Type 0) (Good : X → Type 0) (g : X → Y) → ((a b : X) → Good a → Good b → R a b → Q (g a) (g b)) → (xs : List X) → Each Good xs → AllPairs R xs → AllPairs Q (map g xs)
 map_pairs R Q Good g by [] good pairs = λ i j d before within. absurd (omega (arith, before, within))
 map_pairs R Q Good g by (x ∷ xs) good pairs =
     AllPairs-cons Q (g x) (map g xs)
     (All-map (Q (g x)) g xs (All-from_recursion (λ y. Q (g x) (g y)) xs (each_by R Q Good g by x good.0 xs good.1 (recursion_from_All (R x) xs (pairs_first R x xs pairs)))))
     (map_pairs R Q Good g by xs good.1 (pairs_later R x xs pairs))
 
-contains_map : {X Y : Type 0} (g : X → Y) (xs : List X) (x : X) (k : ℕ) → k < length xs → get_or xs k x ≡ x → Contains (map g xs) (g x)
+pub contains_map : {X Y : Type 0} (g : X → Y) (xs : List X) (x : X) (k : ℕ) → k < length xs → get_or xs k x ≡ x → Contains (map g xs) (g x)
 contains_map g [] x k within is = absurd (omega (arith, within))
 contains_map g (y ∷ xs) x zero within is = subst (λ z. Contains (g y ∷ map g xs) (g z)) is (contains_first (g y) (map g xs))
 contains_map g (y ∷ xs) x (suc k) within is = contains_later (g y) (g x) (map g xs) (contains_map g xs x k (omega (arith, within)) is)
@@ -86,17 +85,17 @@ contains_map g (y ∷ xs) x (suc k) within is = contains_later (g y) (g x) (map 
 
 module _ (stays : ℕ → Bool) where
   -- what holds of each row holds of each that stays
-  each_after : (P Q : List ℕ × Lv → Type 0) → ((row : List ℕ × Lv) → P row → Q (row_after stays row)) → (n : ℕ) (rows : List (List ℕ × Lv)) → Each P rows → Each Q (rows_after stays n rows)
+  each_after : (P Q : List ℕ × Lv → Type 0) → ((row : List ℕ × Lv) → P row → Q (renumbered_row (on_after stays) row)) → (n : ℕ) (rows : List (List ℕ × Lv)) → Each P rows → Each Q (rows_after stays n rows)
   each_after P Q step n [] all = tt
   each_after P Q step n (row ∷ rows) all = by (stays n) refl (each_after P Q step (n + 1) rows all.1) where
     by : (b : Bool) → stays n ≡ b → Each Q (rows_after stays (n + 1) rows) → Each Q (rows_after stays n (row ∷ rows))
     by true is later = subst (Each Q) (sym (rows_staying stays n row rows is)) (step row all.0, later)
     by false is later = subst (Each Q) (sym (rows_going stays n row rows is)) later
 
-  pub all_after : (P Q : List ℕ × Lv → Type 0) → ((row : List ℕ × Lv) → P row → Q (row_after stays row)) → (rows : List (List ℕ × Lv)) → All P rows → All Q (rows_after stays 0 rows)
+  pub all_after : (P Q : List ℕ × Lv → Type 0) → ((row : List ℕ × Lv) → P row → Q (renumbered_row (on_after stays) row)) → (rows : List (List ℕ × Lv)) → All P rows → All Q (rows_after stays 0 rows)
   all_after P Q step rows all = All-from_recursion Q (rows_after stays 0 rows) (each_after P Q step 0 rows (recursion_from_All P rows all))
 
-  some_after : {X : Type 0} (g : List ℕ × Lv → X) → ((row : List ℕ × Lv) → g (row_after stays row) ≡ g row) → (n : ℕ) (rows : List (List ℕ × Lv)) → AreSome (map g (rows_after stays n rows)) (map g rows)
+  some_after : {X : Type 0} (g : List ℕ × Lv → X) → ((row : List ℕ × Lv) → g (renumbered_row (on_after stays) row) ≡ g row) → (n : ℕ) (rows : List (List ℕ × Lv)) → AreSome (map g (rows_after stays n rows)) (map g rows)
   some_after g same n [] = tt
   some_after g same n (row ∷ rows) = by (stays n) refl (some_after g same (n + 1) rows) where
     by : (b : Bool) → stays n ≡ b → AreSome (map g (rows_after stays (n + 1) rows)) (map g rows) → AreSome (map g (rows_after stays n (row ∷ rows))) (g row ∷ map g rows)
@@ -110,13 +109,13 @@ module _ (stays : ℕ → Bool) where
     by true is later = let e = ap (λ (l : List (List ℕ × Lv)). length l) (rows_staying stays n row rows is) in omega (arith, e, later)
     by false is later = let e = ap (λ (l : List (List ℕ × Lv)). length l) (rows_going stays n row rows is) in omega (arith, e, later)
 
-  sum_after : (g : List ℕ × Lv → ℕ) → ((row : List ℕ × Lv) → g (row_after stays row) ≡ g row) → (n : ℕ) (rows : List (List ℕ × Lv)) → sum_by g (rows_after stays n rows) ≤ sum_by g rows
+  sum_after : (g : List ℕ × Lv → ℕ) → ((row : List ℕ × Lv) → g (renumbered_row (on_after stays) row) ≡ g row) → (n : ℕ) (rows : List (List ℕ × Lv)) → sum_by g (rows_after stays n rows) ≤ sum_by g rows
   sum_after g same n [] = omega arith
   sum_after g same n (row ∷ rows) = by (stays n) refl (sum_after g same (n + 1) rows) where
     by : (b : Bool) → stays n ≡ b → sum_by g (rows_after stays (n + 1) rows) ≤ sum_by g rows → sum_by g (rows_after stays n (row ∷ rows)) ≤ sum_by g (row ∷ rows)
     by true is later =
-        let e : sum_by g (rows_after stays n (row ∷ rows)) ≡ g (row_after stays row) + sum_by g (rows_after stays (n + 1) rows) =
-        ap (sum_by g) (rows_staying stays n row rows is) ∙ sum_by-cons g (row_after stays row) (rows_after stays (n + 1) rows)
+        let e : sum_by g (rows_after stays n (row ∷ rows)) ≡ g (renumbered_row (on_after stays) row) + sum_by g (rows_after stays (n + 1) rows) =
+        ap (sum_by g) (rows_staying stays n row rows is) ∙ sum_by-cons g (renumbered_row (on_after stays) row) (rows_after stays (n + 1) rows)
         in
         omega (arith, e, same row, later, sum_by-cons g row rows)
     by false is later = let e = ap (sum_by g) (rows_going stays n row rows is) in omega (arith, e, later, sum_by-cons g row rows)
@@ -158,49 +157,7 @@ module _ (stays : ℕ → Bool) where
 
   -- ---- segments
 
-  leg_after : Leg → Leg
-  leg_after leg = record leg { on = on_after stays leg.on }
-
-  small_legs : (legs : List Leg) → All (λ (leg : Leg). IsSmall leg.first) legs → All (λ (leg : Leg). IsSmall leg.first) (legs_after stays legs)
-  small_legs legs all = All-map (λ (leg : Leg). IsSmall leg.first) (λ (leg : Leg). record leg { on = on_after stays leg.on }) legs all
-
-  small_kind : (kind : SegKind) → KindIsSmall kind → KindIsSmall (kind_after stays kind)
-  small_kind (Striped stripe legs) is = (is.0, small_legs legs is.1)
-  small_kind (Mirror region None legs) is = (is.0, small_legs legs is.1)
-  small_kind (Mirror region (Some moved) legs) is = (is.0, is.1, small_legs legs is.2)
-
-  all_segments : (P Q : Segment → Type 0) → ((segment : Segment) → P segment → Q (segment_after stays segment)) → (segments : List Segment) → All P segments → All Q (map (segment_after stays) segments)
-  all_segments P Q step segments all = All-map Q (segment_after stays) segments (All-weaker P (λ segment. Q (segment_after stays segment)) step segments all)
-
-  follow_after : (at : ℕ) (segments : List Segment) → Follow at segments → Follow at (map (segment_after stays) segments)
-  follow_after at [] is = tt
-  follow_after at (segment ∷ segments) is = (is.0, is.1, follow_after (at + segment.count) segments is.2)
-
-  pub extents_after : (lv : Lv) → extents_of (lv_after stays lv) ≡ extents_of lv
-  extents_after lv = by lv.segments where
-    by : (segments : List Segment) → sum_by (λ (s : Segment). s.count) (map (segment_after stays) segments) ≡ sum_by (λ (s : Segment). s.count) segments
-    by [] = refl
-    by (segment ∷ segments) =
-        sum_by-cons (λ (s : Segment). s.count) (segment_after stays segment) (map (segment_after stays) segments) ∙ ap (λ (n : ℕ). segment.count + n) (by segments) ∙ sym (sum_by-cons (λ (s : Segment). s.count) segment segments)
-
-  legs_count : (legs : List Leg) → length (legs_after stays legs) ≡ length legs
-  legs_count legs = length-map legs (λ (leg : Leg). record leg { on = on_after stays leg.on })
-
-  striped_after : (extent_size count : ℕ) (kind : SegKind) → IsWholeStriped extent_size count kind → IsWholeStriped extent_size count (kind_after stays kind)
-  striped_after extent_size count (Striped stripe legs) is =
-      subst (λ (n : ℕ). (1 ≤ n) × (n ≤ 8) × (count % n ≡ 0) × (1 < n → IsPowerOfTwo stripe × (8 ≤ stripe) × (extent_size % stripe ≡ 0))) (sym (legs_count legs)) is
-  striped_after extent_size count (Mirror region moved legs) is = tt
-
-  mirror_after : (kind : SegKind) → IsWholeMirror kind → IsWholeMirror (kind_after stays kind)
-  mirror_after (Striped stripe legs) is = tt
-  mirror_after (Mirror region moved legs) is = subst (λ (n : ℕ). (2 ≤ n) × (n ≤ 8) × IsPowerOfTwo region × (8 ≤ region)) (sym (legs_count legs)) is
-
-  moved_after : (pvmove : Bool) (count : ℕ) (kind : SegKind) → MovedIsAllowed pvmove count kind → MovedIsAllowed pvmove count (kind_after stays kind)
-  moved_after pvmove count (Striped stripe legs) is = tt
-  moved_after pvmove count (Mirror region None legs) is = tt
-  moved_after pvmove count (Mirror region (Some moved) legs) is = is
-
-  move_from : (source : ℕ) (kind : SegKind) → IsMoveFrom source kind → IsMoveFrom source (kind_after stays kind)
+  move_from : (source : ℕ) (kind : SegKind) → IsMoveFrom source kind → IsMoveFrom source (renumbered_kind (on_after stays) kind)
   move_from source (Striped stripe legs) is = absurd is
   move_from source (Mirror region moved []) is = absurd is
   move_from source (Mirror region moved (a ∷ [])) is = absurd is
@@ -219,8 +176,7 @@ module _ (group : Group) (stays : ℕ → Bool) (closed : (n m : ℕ) → stays 
     extent_size = (accepted Numbers).extent_size;
     limits = (accepted Numbers).limits;
     pvs = (accepted Numbers).pvs;
-    lvs = all_after stays (λ (row : List ℕ × Lv). LvIsSmall row.1) (λ (row : List ℕ × Lv). LvIsSmall row.1)
-        (λ (row : List ℕ × Lv) is. (is.0, all_segments stays SegmentIsSmall SegmentIsSmall (λ segment small. (small.0, small.1, small_kind stays segment.kind small.2)) row.1.segments is.1)) group.lvs (accepted Numbers).lvs;
+    lvs = all_after stays (λ (row : List ℕ × Lv). LvIsSmall row.1) (λ (row : List ℕ × Lv). LvIsSmall row.1) (λ row is. small_lv (on_after stays) row.1 is) group.lvs (accepted Numbers).lvs;
   }
 
   ids_kept : Keeps rest Ids
@@ -244,35 +200,30 @@ module _ (group : Group) (stays : ℕ → Bool) (closed : (n m : ℕ) → stays 
   segments_kept : Keeps rest Segments
   segments_kept = record {
     few = let few = (accepted Segments).few in
-        omega (arith, few, sum_after stays (λ (lv : List ℕ × Lv). length lv.1.segments) (λ (row : List ℕ × Lv). length-map row.1.segments (segment_after stays)) 0 group.lvs);
+        omega (arith, few, sum_after stays (λ (lv : List ℕ × Lv). length lv.1.segments) (λ (row : List ℕ × Lv). segments_count (on_after stays) row.1) 0 group.lvs);
     some = all_after stays (λ (lv : List ℕ × Lv). 1 ≤ length lv.1.segments) (λ (lv : List ℕ × Lv). 1 ≤ length lv.1.segments)
-        (λ (row : List ℕ × Lv) is. (let e = length-map row.1.segments (segment_after stays) in omega (arith, e, is))) group.lvs (accepted Segments).some;
+        (λ (row : List ℕ × Lv) is. (let e = segments_count (on_after stays) row.1 in omega (arith, e, is))) group.lvs (accepted Segments).some;
   }
 
   follows_kept : Keeps rest Follows
   follows_kept =
-      all_after stays (λ (lv : List ℕ × Lv). Follow 0 lv.1.segments × (extents_of lv.1 * group.extent_size < 2 ^ 48)) (λ (lv : List ℕ × Lv). Follow 0 lv.1.segments × (extents_of lv.1 * group.extent_size < 2 ^ 48))
-      (λ (row : List ℕ × Lv) is. (follow_after stays 0 row.1.segments is.0, subst (λ (n : ℕ). n * group.extent_size < 2 ^ 48) (sym (extents_after stays row.1)) is.1)) group.lvs (accepted Follows)
+      all_after stays (λ (row : List ℕ × Lv). FollowTo group.extent_size row.1) (λ (row : List ℕ × Lv). FollowTo group.extent_size row.1)
+      (λ row is. follows (on_after stays) group.extent_size row.1 is) group.lvs (accepted Follows)
 
   stripes_kept : Keeps rest Stripes
   stripes_kept =
-      all_after stays (λ (lv : List ℕ × Lv). All (λ segment. IsWholeStriped group.extent_size segment.count segment.kind) lv.1.segments) (λ (lv : List ℕ × Lv). All (λ segment. IsWholeStriped group.extent_size segment.count segment.kind) lv.1.segments)
-      (λ (row : List ℕ × Lv) is. all_segments stays (λ segment. IsWholeStriped group.extent_size segment.count segment.kind) (λ segment. IsWholeStriped group.extent_size segment.count segment.kind)
-      (λ segment whole. striped_after stays group.extent_size segment.count segment.kind whole) row.1.segments is)
-      group.lvs (accepted Stripes)
+      all_after stays (λ (row : List ℕ × Lv). AreStriped group.extent_size row.1) (λ (row : List ℕ × Lv). AreStriped group.extent_size row.1)
+      (λ row is. are_striped (on_after stays) group.extent_size row.1 is) group.lvs (accepted Stripes)
 
   mirrors_kept : Keeps rest Mirrors
   mirrors_kept =
-      all_after stays (λ (lv : List ℕ × Lv). All (λ segment. IsWholeMirror segment.kind) lv.1.segments) (λ (lv : List ℕ × Lv). All (λ segment. IsWholeMirror segment.kind) lv.1.segments)
-      (λ (row : List ℕ × Lv) is. all_segments stays (λ segment. IsWholeMirror segment.kind) (λ segment. IsWholeMirror segment.kind) (λ segment whole. mirror_after stays segment.kind whole) row.1.segments is)
-      group.lvs (accepted Mirrors)
+      all_after stays (λ (row : List ℕ × Lv). AreMirrors row.1) (λ (row : List ℕ × Lv). AreMirrors row.1)
+      (λ row is. are_mirrors (on_after stays) row.1 is) group.lvs (accepted Mirrors)
 
   moved_kept : Keeps rest Moved
   moved_kept =
-      all_after stays (λ (lv : List ℕ × Lv). All (λ segment. MovedIsAllowed lv.1.status.pvmove segment.count segment.kind) lv.1.segments) (λ (lv : List ℕ × Lv). All (λ segment. MovedIsAllowed lv.1.status.pvmove segment.count segment.kind) lv.1.segments)
-      (λ (row : List ℕ × Lv) is. all_segments stays (λ segment. MovedIsAllowed row.1.status.pvmove segment.count segment.kind) (λ segment. MovedIsAllowed row.1.status.pvmove segment.count segment.kind)
-      (λ segment may. moved_after stays row.1.status.pvmove segment.count segment.kind may) row.1.segments is)
-      group.lvs (accepted Moved)
+      all_after stays (λ (row : List ℕ × Lv). AreMoved row.1) (λ (row : List ℕ × Lv). AreMoved row.1)
+      (λ row is. are_moved (on_after stays) row.1 is) group.lvs (accepted Moved)
 
   -- ---- legs
 
@@ -297,7 +248,7 @@ module _ (group : Group) (stays : ℕ → Bool) (closed : (n m : ℕ) → stays 
     where
       by : (is : On) (end : ℕ) → ((m : ℕ) → is ≡ on.Lv m → stays m ≡ true) → LiesWithin group is end → LiesWithin rest (on_after stays is) end
       by (on.Pv pv) end on_stays lies = lies
-      by (on.Lv m) end on_stays lies = (lv_after stays lies.0, lv_there group stays m lies.0 lies.1 (on_stays m refl), subst (λ (n : ℕ). end ≤ n) (sym (extents_after stays lies.0)) lies.2)
+      by (on.Lv m) end on_stays lies = (renumbered_lv (on_after stays) lies.0, lv_there group stays m lies.0 lies.1 (on_stays m refl), subst (λ (n : ℕ). end ≤ n) (sym (extents_same (on_after stays) lies.0)) lies.2)
 
   lv_same : (a b : ℕ) → on.Lv a ≡ on.Lv b → a ≡ b
   lv_same a b same = same_Some a b (ap lv_number same)
@@ -419,9 +370,9 @@ module _ (group : Group) (stays : ℕ → Bool) (closed : (n m : ℕ) → stays 
           hidden = move.hidden;
           locked = move.locked;
           named = move.named;
-          from_one = (move.from_one.0, all_segments stays (λ segment. IsMoveFrom move.from_one.0 segment.kind) (λ segment. IsMoveFrom move.from_one.0 segment.kind) (λ segment from. move_from stays move.from_one.0 segment.kind from) was.was.segments move.from_one.1);
+          from_one = (move.from_one.0, each_segment (on_after stays) (λ segment. IsMoveFrom move.from_one.0 segment.kind) (λ segment. IsMoveFrom move.from_one.0 segment.kind) (λ segment from. move_from stays move.from_one.0 segment.kind from) was.was move.from_one.1);
           stands_in_legs = λ extent below.
-              let used : IsUsed group (on.Lv was.n) extent = move.stands_in_legs extent (subst (λ (n : ℕ). extent < n) (extents_after stays was.was) below) in
+              let used : IsUsed group (on.Lv was.n) extent = move.stands_in_legs extent (subst (λ (n : ℕ). extent < n) (extents_same (on_after stays) was.was) below) in
               let stayed : stays used.0.lv ≡ true = upper used.0.lv was.n (used.0, used.1, refl, used.2.0) (was.was, (name, was.there), pvmove) in
               (run_after stays used.0, run_there group stays used.0 used.1 stayed, (ap (on_after stays) used.2.0 ∙ ap (λ (n : ℕ). on.Lv n) was.number, used.2.1, used.2.2));
         });
@@ -441,7 +392,7 @@ module _ (group : Group) (stays : ℕ → Bool) (closed : (n m : ℕ) → stays 
         (
           new stays moving.2.0,
           contains_map (new stays) (was.n ∷ moving.0) moving.2.0 moving.2.1.0 moving.2.1.1 moving.2.1.2,
-          (lv_after stays last.0, lv_there group stays moving.2.0 last.0 last.1 last_stays, last.2),
+          (renumbered_lv (on_after stays) last.0, lv_there group stays moving.2.0 last.0 last.1 last_stays, last.2),
         ),
       )
 

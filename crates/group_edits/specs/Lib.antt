@@ -1,7 +1,13 @@
+pub mod GivenSegments
+pub mod LongerVolume
 pub mod Marking
+pub mod NewVolume
 pub mod NextVersion
+pub mod ReducedGroup
 pub mod Removing
 pub mod RenamedGroup
 pub mod RenamedVolume
+pub mod Renumbered
+pub mod RestoredGroup
 pub mod ShortenedVolume
 pub mod Visible

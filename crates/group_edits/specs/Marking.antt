@@ -1,5 +1,5 @@
 -- Marks of the logical volumes that go with a removed one, as they are found in rounds.
-use Rattle.std.specs.Prelude.{ℕ, ◌==◌, ◌||◌, ◌&&◌, Bool, false, not, List}
+use Rattle.std.specs.Prelude.{◌≡◌, ℕ, ◌==◌, ◌||◌, ◌&&◌, Bool, false, not, List, slice_get, IfSome}
 use Rattle.std.specs.List.{list_any}
 use Rattle.meta_model.specs.Runs.{legs_of}
 use Rattle.meta_model.specs.declared.group.Group.{Group}
@@ -8,7 +8,7 @@ use Rattle.meta_model.specs.declared.segment.On.{On}
 use Rattle.meta_model.specs.declared.segment.On.TheVariants as on
 use Rattle.meta_model.specs.declared.segment.Segment.{Segment}
 use Rattle.seg_place.specs.Marks.{is_marked}
-use Rattle.group_edits.specs.Removing.{has_leg_on}
+use Rattle.group_edits.specs.Removing.{has_leg_on, number_after}
 
 -- a volume that isn't marked
 abbrev pub unmarked : List Bool → ℕ → Bool
@@ -34,3 +34,9 @@ segment_names lv segment = list_any (leg_names lv) (legs_of segment.kind)
 -- a leg of an upper volume that isn't marked lies on it
 abbrev pub holds : Group → List Bool → ℕ → ℕ → Bool
 holds group skipped lv upper = not (is_marked skipped upper) && has_leg_on group lv upper
+
+-- ---- new numbers
+
+-- a table of new numbers, where the marked volumes go: each that stands in it is right
+abbrev pub HasNumbers : List Bool → List ℕ → Type 0
+HasNumbers goes table = (lv : ℕ) → IfSome (slice_get table lv) (λ number. number ≡ number_after (unmarked goes) lv)

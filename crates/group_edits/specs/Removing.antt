@@ -2,15 +2,11 @@
 use Rattle.std.specs.Prelude.{ℕ, zero, suc, ◌+◌, ◌==◌, ◌||◌, ◌&&◌, Bool, not, if◌then◌else◌, List, [], ◌∷◌, length, map, filter}
 use Rattle.std.specs.List.{list_all, list_any, range_with_len}
 use Rattle.meta_model.specs.declared.group.Group.{Group}
-use Rattle.meta_model.specs.declared.lv.Lv.{Lv}
-use Rattle.meta_model.specs.declared.segment.Leg.{Leg}
 use Rattle.meta_model.specs.declared.segment.On.{On}
 use Rattle.meta_model.specs.declared.segment.On.TheVariants as on
-use Rattle.meta_model.specs.declared.segment.SegKind.{SegKind}
-use Rattle.meta_model.specs.declared.segment.SegKind.TheVariants.{Mirror, Striped}
-use Rattle.meta_model.specs.declared.segment.Segment.{Segment}
 use Rattle.volume_rules.specs.Moving.{named_by}
 use Rattle.group_edits.specs.NextVersion.{with_lvs}
+use Rattle.group_edits.specs.Renumbered.{renumbered_row}
 
 -- the numbers of the logical volumes
 abbrev pub lv_numbers : Group → List ℕ
@@ -46,30 +42,9 @@ abbrev pub on_after : (ℕ → Bool) → On → On
 on_after stays (on.Pv pv) = on.Pv pv
 on_after stays (on.Lv lv) = on.Lv (number_after stays lv)
 
--- legs on volumes by their new numbers
-abbrev pub legs_after : (ℕ → Bool) → List Leg → List Leg
-legs_after stays legs = map (λ (leg : Leg). record leg { on = on_after stays leg.on }) legs
-
--- the same of a segment's kind
-abbrev pub kind_after : (ℕ → Bool) → SegKind → SegKind
-kind_after stays (Striped stripe legs) = Striped stripe (legs_after stays legs)
-kind_after stays (Mirror region moved legs) = Mirror region moved (legs_after stays legs)
-
--- the same of a segment
-abbrev pub segment_after : (ℕ → Bool) → Segment → Segment
-segment_after stays segment = record segment { kind = kind_after stays segment.kind }
-
--- the same of a volume
-abbrev pub lv_after : (ℕ → Bool) → Lv → Lv
-lv_after stays lv = record lv { segments = map (segment_after stays) lv.segments }
-
--- the same of a row of the table of volumes
-abbrev pub row_after : (ℕ → Bool) → List ℕ × Lv → List ℕ × Lv
-row_after stays row = (row.0, lv_after stays row.1)
-
 -- the next version, with the volumes that stay
 abbrev pub with_staying : (ℕ → Bool) → Group → Group
-with_staying stays group = with_lvs group (map (row_after stays) (that_stay stays 0 group.lvs))
+with_staying stays group = with_lvs group (map (renumbered_row (on_after stays)) (that_stay stays 0 group.lvs))
 
 -- the group without the volume with this number, and without those that go with it
 abbrev pub without_volume : Group → ℕ → Group

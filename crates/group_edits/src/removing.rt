@@ -6,16 +6,15 @@ ghost use Rattle.volume_rules.specs.Moving.{leads_to_pvmove};
 ghost use Rattle.volume_rules.specs.Rules.{IsAccepted};
 ghost use Rattle.group_edits.specs.Marking as marking;
 ghost use Rattle.group_edits.specs.Removing as removing;
+ghost use Rattle.group_edits.specs.Renumbered.{renumbered_row};
 ghost use Rattle.group_edits.specs.Visible.{IsVisible};
 
+use crate::leg_numbers::renumbered_lv;
+use crate::new_numbers::{Marks, NewNumbers, is_marked};
 use crate::next::{checked, with_lvs};
-use meta_model::{Group, Leg, Legs, Lv, LvTable, On, SegKind, Segment, Segments};
-use sector_base::Text;
+use meta_model::{Group, Leg, LvTable, On, Segment};
 use std::alloc::{AllocError, Global};
 use vg_check::Checked;
-
-// A mark for each logical volume, as many as a group may have.
-type Marks = [bool; 1024];
 
 /// The next version of the group without the visible volume with this number, and without the hidden ones that only its legs
 /// name, downwards.
@@ -31,7 +30,8 @@ pub fn without_volume(alloc: Global, group: &Checked, number: u32) -> Result<Che
 {
     let found = group.group();
     let goes = going(found, number);
-    let lvs = rows_after(alloc, &found.lvs, &goes)?;
+    let numbers = NewNumbers::new(goes);
+    let lvs = rows_after(alloc, &found.lvs, &numbers)?;
     let next = with_lvs(alloc, found, lvs)?;
     Ok(checked(next))
 }
@@ -68,12 +68,6 @@ fn goes_by(named: &Marks, held: &Marks, removed: u32, lv: u32) -> bool
     ensures { result ≡ marking.goes_by named.now held.now removed lv }
 {
     lv == removed || (is_marked(named, lv) && !is_marked(held, lv))
-}
-
-fn is_marked(all: &Marks, lv: u32) -> bool
-    ensures { result ≡ marks.is_marked all.now lv }
-{
-    all.get(lv as usize).copied().unwrap_or(false)
 }
 
 // Marks of the volumes on which legs lie of a volume that isn't marked.
@@ -117,113 +111,22 @@ fn mark(all: &mut Marks, on: On)
     }
 }
 
-// How many volumes before this one aren't marked.
-fn new_number(goes: &Marks, lv: u32) -> u32
-    ensures { result ≡ removing.number_after (marking.unmarked goes.now) lv }
-{
-    let mut number = 0;
-    for earlier in 0..lv {
-        if !is_marked(goes, earlier) {
-            number += 1;
-        }
-    }
-    number
-}
-
-fn on_after(goes: &Marks, on: On) -> On
-    ensures { result ≡ removing.on_after (marking.unmarked goes.now) on }
-{
-    match on {
-        On::Pv(pv) => On::Pv(pv),
-        On::Lv(lv) => On::Lv(new_number(goes, lv)),
-    }
-}
-
 // The volumes that aren't marked, with legs on volumes by their new numbers. That no name stands twice isn't asked, as in
 // `renamed_volume`.
-fn rows_after(alloc: Global, lvs: &LvTable, goes: &Marks) -> Result<LvTable, AllocError>
+fn rows_after(alloc: Global, lvs: &LvTable, numbers: &NewNumbers) -> Result<LvTable, AllocError>
     requires { length lvs.now ≤ 1024 }
-    ensures { IfOk result (λ rest. rest ≡ map (removing.row_after (marking.unmarked goes.now)) (removing.that_stay (marking.unmarked goes.now) 0 lvs.now)) }
+    ensures { IfOk result (λ rest. rest ≡ map (renumbered_row (removing.on_after (marking.unmarked numbers.now))) (removing.that_stay (marking.unmarked numbers.now) 0 lvs.now)) }
 {
     let mut rest = LvTable::new(alloc);
     for number in 0..lvs.len() {
         let (name, lv) = lvs.get(number);
-        if !is_marked(goes, number as u32) {
+        if numbers.stays(number as u32) {
             let name = name.try_copy(alloc)?;
-            let lv = lv_after(alloc, lv, goes)?;
+            let lv = renumbered_lv(alloc, lv, numbers)?;
             if rest.push(name, lv).is_err() {
                 return Err(AllocError);
             }
         }
     }
     Ok(rest)
-}
-
-fn lv_after(alloc: Global, lv: &Lv, goes: &Marks) -> Result<Lv, AllocError>
-    ensures { IfOk result (λ after. after ≡ removing.lv_after (marking.unmarked goes.now) lv.now) }
-{
-    Ok(Lv {
-        id: lv.id,
-        status: lv.status,
-        created: lv.created,
-        host: Text::from_vec(Vec::from_slice(alloc, lv.host.as_bytes())?),
-        segments: Segments::from_vec(segments_after(alloc, lv.segments.as_slice(), goes)?),
-    })
-}
-
-fn segments_after(
-    alloc: Global,
-    segments: &[Segment],
-    goes: &Marks,
-) -> Result<Vec<Segment>, AllocError>
-    ensures { IfOk result (λ after. after.items ≡ map (removing.segment_after (marking.unmarked goes.now)) segments.now) }
-{
-    let mut after = Vec::with_capacity(alloc, segments.len())?;
-    for segment in segments {
-        after.push(segment_after(alloc, segment, goes)?)?;
-    }
-    Ok(after)
-}
-
-fn segment_after(alloc: Global, segment: &Segment, goes: &Marks) -> Result<Segment, AllocError>
-    ensures { IfOk result (λ after. after ≡ removing.segment_after (marking.unmarked goes.now) segment.now) }
-{
-    Ok(Segment {
-        start: segment.start,
-        count: segment.count,
-        kind: kind_after(alloc, &segment.kind, goes)?,
-    })
-}
-
-fn kind_after(alloc: Global, kind: &SegKind, goes: &Marks) -> Result<SegKind, AllocError>
-    ensures { IfOk result (λ after. after ≡ removing.kind_after (marking.unmarked goes.now) kind.now) }
-{
-    match kind {
-        SegKind::Striped { stripe, legs } => Ok(SegKind::Striped {
-            stripe: *stripe,
-            legs: Legs::from_vec(legs_after(alloc, legs.as_slice(), goes)?),
-        }),
-        SegKind::Mirror {
-            region,
-            moved,
-            legs,
-        } => Ok(SegKind::Mirror {
-            region: *region,
-            moved: *moved,
-            legs: Legs::from_vec(legs_after(alloc, legs.as_slice(), goes)?),
-        }),
-    }
-}
-
-fn legs_after(alloc: Global, legs: &[Leg], goes: &Marks) -> Result<Vec<Leg>, AllocError>
-    ensures { IfOk result (λ after. after.items ≡ removing.legs_after (marking.unmarked goes.now) legs.now) }
-{
-    let mut after = Vec::with_capacity(alloc, legs.len())?;
-    for leg in legs {
-        after.push(Leg {
-            on: on_after(goes, leg.on),
-            first: leg.first,
-        })?;
-    }
-    Ok(after)
 }

@@ -1,6 +1,9 @@
 //! Next versions of a group of nine logical volumes, as texts.
 
-use crate::{checked, find_visible, next_version, renamed_group, renamed_volume, without_volume};
+use crate::{
+    checked, find_visible, has_leg_on_pv, next_version, reduced_group, renamed_group,
+    renamed_volume, restored_group, without_volume,
+};
 use conf_text::read_conf;
 use lvm_name::{GroupName, VolumeName};
 use meta_model::Group;
@@ -17,8 +20,8 @@ const HEAD: &str = r#" {
 id = "400000-0050-0000-0060-0000-0070-000000"
 seqno = "#;
 
-// What stands between its number and the logical volumes.
-const PVS: &str = r#"
+// What stands between its number and the physical volumes.
+const MIDDLE: &str = r#"
 format = "lvm2"
 status = ["RESIZEABLE", "READ", "WRITE"]
 flags = []
@@ -27,7 +30,9 @@ max_lv = 0
 max_pv = 0
 metadata_copies = 0
 physical_volumes {
-pv0 {
+"#;
+
+const PV0: &str = r#"pv0 {
 id = "000000-0010-0000-0001-0000-0030-000000"
 device = "a"
 status = ["ALLOCATABLE"]
@@ -36,7 +41,21 @@ dev_size = 131072
 pe_start = 2048
 pe_count = 15
 }
-pv1 {
+"#;
+
+// It is MISSING.
+const LOST_PV0: &str = r#"pv0 {
+id = "000000-0010-0000-0001-0000-0030-000000"
+device = "a"
+status = ["ALLOCATABLE"]
+flags = ["MISSING"]
+dev_size = 131072
+pe_start = 2048
+pe_count = 15
+}
+"#;
+
+const PV1: &str = r#"pv1 {
 id = "000000-0010-0000-0001-0000-0030-000001"
 device = "b"
 status = ["ALLOCATABLE"]
@@ -45,7 +64,9 @@ dev_size = 131072
 pe_start = 2048
 pe_count = 15
 }
-}
+"#;
+
+const LVS: &str = r#"}
 logical_volumes {
 "#;
 
@@ -290,11 +311,27 @@ fn text(
     volumes: &[usize],
     renamed: (usize, &str),
 ) -> Text {
+    text_on(rt, alloc, name, seqno, PV0, volumes, renamed)
+}
+
+// The same, where this stands of its first physical volume.
+fn text_on(
+    rt: &impl Abort,
+    alloc: Global,
+    name: &str,
+    seqno: &str,
+    pv: &str,
+    volumes: &[usize],
+    renamed: (usize, &str),
+) -> Text {
     let mut text = Vec::new(alloc);
     add(rt, &mut text, name);
     add(rt, &mut text, HEAD);
     add(rt, &mut text, seqno);
-    add(rt, &mut text, PVS);
+    add(rt, &mut text, MIDDLE);
+    add(rt, &mut text, pv);
+    add(rt, &mut text, PV1);
+    add(rt, &mut text, LVS);
     add_volumes(rt, &mut text, volumes, renamed);
     add(rt, &mut text, END);
     Text::from_vec(text)
@@ -303,6 +340,11 @@ fn text(
 // The group vg0 with this seqno.
 fn numbered(rt: &impl Abort, alloc: Global, seqno: &str) -> Checked {
     let text = text(rt, alloc, "vg0", seqno, &ALL, NONE);
+    group_from(rt, alloc, &text)
+}
+
+// The group of this text.
+fn group_from(rt: &impl Abort, alloc: Global, text: &Text) -> Checked {
     let tree = read_conf(alloc, text.as_bytes()).expect(rt, "the text has a tree");
     let (group, _) = group_of(alloc, &tree).expect(rt, "the tree has a group");
     check(group).ok().expect(rt, "it keeps all rules")
@@ -440,4 +482,39 @@ fn the_last_user_takes_along_what_was_shared(rt: HostRuntime) {
     let rest = without(&rt, alloc, &group, "second");
     let rest = without(&rt, alloc, &rest, "first");
     assert_printed(&rt, alloc, rest.group(), "vg0", "9", &[1, 8], NONE);
+}
+
+#[test]
+fn a_physical_volume_that_is_used_stays(rt: HostRuntime) {
+    let group = numbered(&rt, rt.alloc(), "7");
+    assert!(rt; has_leg_on_pv(group.group(), 0));
+    assert!(rt; has_leg_on_pv(group.group(), 1));
+    assert!(rt; !has_leg_on_pv(group.group(), 2));
+}
+
+#[test]
+fn an_unused_physical_volume_goes(rt: HostRuntime) {
+    let alloc = rt.alloc();
+    let said = text(&rt, alloc, "vg0", "7", &[1], NONE);
+    let group = group_from(&rt, alloc, &said);
+    let found = group.group();
+    assert!(rt; found.pvs.len() == 2);
+    assert!(rt; found.seqno != 4_294_967_295);
+    assert!(rt; !has_leg_on_pv(found, 0));
+    let rest = reduced_group(alloc, &group, 0).expect(&rt, "there is memory");
+    let want = text_on(&rt, alloc, "vg0", "8", "", &[1], NONE);
+    let printed = text_of(alloc, rest.group(), 0).expect(&rt, "there is memory");
+    assert_eq!(rt; printed.as_bytes(), want.as_bytes());
+}
+
+#[test]
+fn a_restored_group_is_the_texts_with_the_next_seqno(rt: HostRuntime) {
+    let alloc = rt.alloc();
+    let found = numbered(&rt, alloc, "9");
+    let said = text_on(&rt, alloc, "vg0", "7", LOST_PV0, &[1, 8], NONE);
+    let said = group_from(&rt, alloc, &said);
+    assert!(rt; found.group().seqno != 4_294_967_295);
+    assert!(rt; said.group().seqno != 4_294_967_295);
+    let next = restored_group(alloc, &found, &said).expect(&rt, "there is memory");
+    assert_printed(&rt, alloc, next.group(), "vg0", "10", &[1, 8], NONE);
 }

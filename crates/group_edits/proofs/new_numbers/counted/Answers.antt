@@ -1,8 +1,8 @@
 use Rattle.std.proofs.Common.{◌∙◌, sym, ap}
 use Rattle.std.specs.Prelude.{not}
 use Rattle.group_edits.proofs.Marking.{count_more, count_same}
-use Rattle.group_edits.proofs.removing.new_number.Goals as goal
-use Rattle.group_edits.proofs.removing.new_number.Goals.{then-not-is_marked, else-not-is_marked}
+use Rattle.group_edits.proofs.new_numbers.counted.Goals as goal
+use Rattle.group_edits.proofs.new_numbers.counted.Goals.{then-not-is_marked, else-not-is_marked}
 
 pub loop-earlier-preserved : goal.loop-earlier-preserved
 loop-earlier-preserved c =

@@ -1,0 +1,6 @@
+-- The segments so far.
+use Rattle.std.proofs.Common.{◌≡◌, take}
+use Rattle.group_edits.proofs.lengthen.copied.Given as goal
+
+abbrev pub invariant-loop-segment : goal.invariant-loop-segment
+invariant-loop-segment l = l.copies.items ≡ take l.segment-index l.segments
