@@ -57,26 +57,26 @@ record CreatePasses (state : GroupState) (base : Group) (all : List Added) : Typ
   used : used_row [] all ≡ None
   areas : area_row state.areas (disks_added all) ≡ None
   sizes : small_row base.extent_size all ≡ None
-  many : many_row 0 (length all) ≡ None
+  many : many_row 64 0 (length all) ≡ None
   ids : stands_on_disk base.id state.disks ≡ false
 
 create_passes : (state : GroupState) (base : Group) (all : List Added) → first_refusal (create_rows state base all) ≡ None → CreatePasses state base all
 create_passes state base all none =
-    let parts = five_none (used_row [] all) (area_row state.areas (disks_added all)) (small_row base.extent_size all) (many_row 0 (length all)) (refused_if (stands_on_disk base.id state.disks) (IdTaken base.id)) none in
+    let parts = five_none (used_row [] all) (area_row state.areas (disks_added all)) (small_row base.extent_size all) (many_row 64 0 (length all)) (refused_if (stands_on_disk base.id state.disks) (IdTaken base.id)) none in
     record { used = parts.0; areas = parts.1; sizes = parts.2; many = parts.3; ids = not_refused (stands_on_disk base.id state.disks) (IdTaken base.id) parts.4 }
 
 -- none of those of a group that is extended does
 record ExtendPasses (state : GroupState) (group : Group) (all : List Added) : Type 0 where
   used : used_row state.disk_of all ≡ None
   sizes : small_row group.extent_size all ≡ None
-  many : many_row group.max_pv (length group.pvs + length all) ≡ None
+  many : many_row 64 group.max_pv (length group.pvs + length all) ≡ None
   seqno : (group.seqno == 4294967295) ≡ false
   ids : other_id_row group all ≡ None
 
 extend_passes : (state : GroupState) (group : Group) (all : List Added) → first_refusal (extend_rows state group all) ≡ None → ExtendPasses state group all
 extend_passes state group all none =
     let parts =
-    six_none (used_row state.disk_of all) (area_row state.areas (state.disk_of ++ disks_added all)) (small_row group.extent_size all) (many_row group.max_pv (length group.pvs + length all)) (refused_if (group.seqno == 4294967295) SeqnoEnd) (other_id_row group all) none
+    six_none (used_row state.disk_of all) (area_row state.areas (state.disk_of ++ disks_added all)) (small_row group.extent_size all) (many_row 64 group.max_pv (length group.pvs + length all)) (refused_if (group.seqno == 4294967295) SeqnoEnd) (other_id_row group all) none
     in
     record { used = parts.0; sizes = parts.2; many = parts.3; seqno = not_refused (group.seqno == 4294967295) SeqnoEnd parts.4; ids = parts.5 }
 
@@ -136,7 +136,7 @@ created state is id name extent_size names valid named least most whole none =
     let passes : CreatePasses state (empty_group id name extent_size) all = create_passes state (empty_group id name extent_size) all none in
     let found : Each (IsFoundOn state) all = recursion_from_All (IsFoundOn state) all (all_found state is names) in
     let free = all_unused [] all passes.used in
-    let count = few_enough 0 (length all) passes.many in
+    let count = few_enough 64 0 (length all) passes.many in
     let good : IsGood (extended (empty_group id name extent_size) all) =
     good_added (empty_group id name extent_size) all (omega (arith, least)) (omega (arith, count.0))
     (record { base = empty_base id name extent_size least most whole; printable = empty_printable id name extent_size valid named most })
@@ -154,12 +154,12 @@ created state is id name extent_size names valid named least most whole none =
 -- ---- a group that is extended
 
 -- what isn't said to be the same isn't
-not_same : (a b : List ℕ) → same_bytes a b ≡ false → a ≢ b
+pub not_same : (a b : List ℕ) → same_bytes a b ≡ false → a ≢ b
 not_same a b other same = true≢false (sym (same_bytes_to a b same) ∙ other)
 
-lvs_differ : (id : List ℕ) (lvs : List (List ℕ × Lv)) → Each (λ (lv : List ℕ × Lv). same_bytes lv.1.id id ≡ false) lvs → Each (λ other. other ≢ id) (map (λ (lv : List ℕ × Lv). lv.1.id) lvs)
-lvs_differ id [] none = tt
-lvs_differ id (lv ∷ lvs) none = (not_same lv.1.id id none.0, lvs_differ id lvs none.1)
+pub ids_differ : {V : Type 0} (its : V → List ℕ) (id : List ℕ) (rows : List (List ℕ × V)) → Each (λ (row : List ℕ × V). same_bytes (its row.1) id ≡ false) rows → Each (λ other. other ≢ id) (map (λ (row : List ℕ × V). its row.1) rows)
+ids_differ its id [] none = tt
+ids_differ its id (row ∷ rows) none = (not_same (its row.1) id none.0, ids_differ its id rows none.1)
 
 -- a physical volume that the group lists isn't on this disk
 pvs_differ : (state : GroupState) → IsState state → (added : Added) → IsFoundOn state added → (pvs : List (List ℕ × Pv)) → Each (λ n. n ≢ added.disk) (map (λ (pv : List ℕ × Pv). disk_with state.disks pv.1.id) pvs)
@@ -170,7 +170,7 @@ pvs_differ state is added found (pv ∷ pvs) apart = (
   pvs_differ state is added found pvs apart.1,
 )
 
-each_both : {X : Type 0} (P : X → Type 0) (xs ys : List X) → Each P xs → Each P ys → Each P (xs ++ ys)
+pub each_both : {X : Type 0} (P : X → Type 0) (xs ys : List X) → Each P xs → Each P ys → Each P (xs ++ ys)
 each_both P [] ys first second = second
 each_both P (x ∷ xs) ys first second = (first.0, each_both P xs ys first.1 second)
 
@@ -183,7 +183,7 @@ fresh_one state is group added listed found free other =
       not_same group.id added.header.id parts.0,
       each_both (λ id. id ≢ added.header.id) (map (λ (pv : List ℕ × Pv). pv.1.id) group.pvs) (map (λ (lv : List ℕ × Lv). lv.1.id) group.lvs)
           (pvs_differ state is added found group.pvs apart)
-          (lvs_differ added.header.id group.lvs (none_passes (λ (lv : List ℕ × Lv). same_bytes lv.1.id added.header.id) group.lvs parts.1)),
+          (ids_differ (λ (lv : Lv). lv.id) added.header.id group.lvs (none_passes (λ (lv : List ℕ × Lv). same_bytes lv.1.id added.header.id) group.lvs parts.1)),
     )
 
 fresh_all : (state : GroupState) → IsState state → (group : Group) (all : List Added) → state.disk_of ≡ disks_of group state.disks → Each (IsFoundOn state) all → Each (IsUnused (set_of state.disk_of)) all
@@ -209,7 +209,7 @@ next_is_whole state is group names listed accepted tree none =
     let other : Each (λ (added : Added). has_other_id group added.header.id ≡ false) all = all_other group all passes.ids in
     let numbers = accepted Numbers in
     let volumes = accepted Volumes in
-    let count : (length group.pvs + length all ≤ 64) × (group.max_pv ≢ 0 → length group.pvs + length all ≤ group.max_pv) = few_enough group.max_pv (length group.pvs + length all) passes.many in
+    let count : (length group.pvs + length all ≤ 64) × (group.max_pv ≢ 0 → length group.pvs + length all ≤ group.max_pv) = few_enough 64 group.max_pv (length group.pvs + length all) passes.many in
     let below : group.seqno ≢ 4294967295 = λ same. true≢false (sym (eq-eqb group.seqno 4294967295 same) ∙ passes.seqno) in
     let good : IsGood (extended (next_version group) all) =
     good_added (next_version group) all (omega (arith, numbers.extent_size.0)) (omega (arith, count.0, volumes.lvs))
@@ -246,7 +246,7 @@ created_whole state is base new names all are none =
 pub created_few : (state : GroupState) (base : Group) → IsEmptyGroup base → (all : List Added) → first_refusal (create_rows state base all) ≡ None → length base.pvs + length base.lvs + length all < 2 ^ 32
 created_few state base new all none =
     let passes : CreatePasses state base all = create_passes state base all none in
-    let count = few_enough 0 (length all) passes.many in
+    let count = few_enough 64 0 (length all) passes.many in
     let no_pvs : length base.pvs ≡ 0 = ap (λ (g : Group). length g.pvs) new.empty in
     let no_lvs : length base.lvs ≡ 0 = ap (λ (g : Group). length g.lvs) new.empty in
     omega (arith, count.0, no_pvs, no_lvs)
@@ -262,7 +262,7 @@ pub next_few : (state : GroupState) (group base : Group) → base ≡ next_versi
 next_few state group base next accepted all none =
     let passes : ExtendPasses state group all = extend_passes state group all none in
     let volumes = accepted Volumes in
-    let count : (length group.pvs + length all ≤ 64) × (group.max_pv ≢ 0 → length group.pvs + length all ≤ group.max_pv) = few_enough group.max_pv (length group.pvs + length all) passes.many in
+    let count : (length group.pvs + length all ≤ 64) × (group.max_pv ≢ 0 → length group.pvs + length all ≤ group.max_pv) = few_enough 64 group.max_pv (length group.pvs + length all) passes.many in
     let pvs : length base.pvs ≡ length group.pvs = ap (λ (g : Group). length g.pvs) next in
     let lvs : length base.lvs ≡ length group.lvs = ap (λ (g : Group). length g.lvs) next in
     omega (arith, count.0, pvs, lvs, volumes.lvs)

@@ -40,3 +40,15 @@ none_both front back none none' = refusal-append front back ∙ ap (λ (o : Opti
 pub plans_back : (front back : List (Option OpRefusal)) (wanted : Change) (result : Result Change PlanRefusal) → first_refusal front ≡ None → Plans back wanted result → Plans (front ++ back) wanted result
 plans_back front back wanted (Ok change) none plans = (none_both front back none plans.0, plans.1)
 plans_back front back wanted (Err e) none plans = refused_back front back e none plans
+
+-- where none of both refuses, none of the second does
+pub front_passes : (front back : List (Option OpRefusal)) → first_refusal (front ++ back) ≡ None → first_refusal back ≡ None
+front_passes [] back none = none
+front_passes (None ∷ front) back none = front_passes front back none
+front_passes (Some refusal ∷ front) back none = absurd cc
+
+-- nor does one of the first
+pub back_passes : (front back : List (Option OpRefusal)) → first_refusal (front ++ back) ≡ None → first_refusal front ≡ None
+back_passes [] back none = refl
+back_passes (None ∷ front) back none = back_passes front back none
+back_passes (Some refusal ∷ front) back none = absurd cc

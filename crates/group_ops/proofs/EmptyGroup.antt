@@ -11,7 +11,7 @@ use Rattle.volume_rules.specs.Legs.{IsWayDown, LiesOn, runs_of}
 use Rattle.volume_rules.specs.Rules.{Keeps, counts, number_of}
 use Rattle.volume_rules.specs.declared.rule.Rule.{Rule}
 use Rattle.volume_rules.specs.declared.rule.Rule.TheVariants.{Numbers, Ids, Volumes, Segments, Extents, Follows, Stripes, Mirrors, Within, Apart, Depth, Moved, Pvmove, Locked}
-use Rattle.group_ops.proofs.Contents.{id_again}
+use Rattle.group_edits.proofs.PrintedIds.{id_again}
 use Rattle.group_edits.proofs.PushedRules.{IsBase}
 use Rattle.group_ops.specs.Vgcreate.{empty_group}
 

@@ -47,12 +47,12 @@ abbrev line : Command → Line
 line command = record { number = 1; id = Some (9 ∷ []); command = command }
 
 -- a label that was found stays in its sector
-row_kept : (change_of state (line (Pvcreate (codes "a") 1))).labels ≡ (record { disk = 0; sector = 2; header = new_header (9 ∷ []) 65536 1 }) ∷ []
+row_kept : (change_of state (line (Pvcreate (codes "a") 1)) 0 []).labels ≡ (record { disk = 0; sector = 2; header = new_header (9 ∷ []) 65536 1 }) ∷ []
 unfolding number_named
 row_kept = refl
 
 -- a new one is in sector 1, here of a physical volume without a metadata area
-row_new : (change_of state (line (Pvcreate (codes "c") 0))).labels ≡ (record { disk = 2; sector = 1; header = record { id = 9 ∷ []; device_bytes = 33554432; data_areas = extent 1048576 0 ∷ []; areas = []; version = 2; flags = 0 } }) ∷ []
+row_new : (change_of state (line (Pvcreate (codes "c") 0)) 0 []).labels ≡ (record { disk = 2; sector = 1; header = record { id = 9 ∷ []; device_bytes = 33554432; data_areas = extent 1048576 0 ∷ []; areas = []; version = 2; flags = 0 } }) ∷ []
 unfolding number_named
 row_new = refl
 
@@ -60,13 +60,13 @@ row_new = refl
 abbrev pv : ℕ → List ℕ → Pv
 pv id device = record { id = id ∷ []; device = device; allocatable = true; missing = false; dev_size = 65536; pe_start = 2048; pe_count = 7 }
 
-row_group : (change_of state (line (Vgcreate (codes "vg") 8192 (codes "b" ∷ codes "a" ∷ [])))).group
+row_group : (change_of state (line (Vgcreate (codes "vg") 8192 (codes "b" ∷ codes "a" ∷ []))) 0 []).group
     ≡ Some (record (empty_group (9 ∷ []) (codes "vg") 8192) { pvs = (codes "pv0", pv 2 (codes "b")) ∷ (codes "pv1", pv 1 (codes "a")) ∷ [] })
 unfolding digits number_named added_named extended free_number next_start
 row_group = refl
 
 -- their labels stay in sector 2, with version 2 and the used flag
-row_labels : (change_of state (line (Vgcreate (codes "vg") 8192 (codes "b" ∷ codes "a" ∷ [])))).labels
+row_labels : (change_of state (line (Vgcreate (codes "vg") 8192 (codes "b" ∷ codes "a" ∷ []))) 0 []).labels
     ≡ (record { disk = 1; sector = 2; header = record (header 2) { version = 2; flags = 1 } }) ∷ (record { disk = 0; sector = 2; header = record (header 1) { version = 2; flags = 1 } }) ∷ []
 unfolding number_named added_named
 row_labels = refl

@@ -15,9 +15,9 @@ use Rattle.meta_model.specs.declared.pv.Pv.{Pv}
 use Rattle.meta_model.specs.Tables.{names_of}
 use Rattle.meta_print.proofs.Printable.{IsPrintable, IsPv}
 use Rattle.volume_rules.specs.Rules.{FitsDevice, PvIsSmall, ids_of}
-use Rattle.group_ops.proofs.Contents.{id_again}
 use Rattle.group_ops.proofs.FreeNames.{free, names_length, pv_name-named}
 use Rattle.group_edits.proofs.Inserted.{each_inserted}
+use Rattle.group_edits.proofs.PrintedIds.{id_again}
 use Rattle.group_edits.proofs.Pushed.{pushed}
 use Rattle.group_edits.proofs.PushedPrintable.{printable_pushed}
 use Rattle.group_edits.proofs.PushedRules.{IsBase, base_pushed, ids_of-pushed}

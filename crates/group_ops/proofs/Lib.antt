@@ -19,3 +19,11 @@ pub mod Rows
 pub mod RowsOnVolume
 pub mod Reducing
 pub mod NextVersions
+pub mod NoZeros
+pub mod PlacedGroup
+pub mod GivenParts
+pub mod Extending
+pub mod Creating
+pub mod ZeroedExtents
+pub mod CreatedVolume
+pub mod SpaceRows

@@ -1,43 +1,58 @@
 -- The lines that commit the next version of the group in force to its own disks, and write no label.
-use Rattle.std.proofs.Common.{◌≡◌, ◌≤◌, ℕ, ◌+◌, Bool, true, false, List, [], ◌∷◌, ◌++◌, Option, Some, None, refl, sym, ap, subst, arith}
-use Rattle.std.specs.Prelude.{is_some, IsSomeAnd}
+use Rattle.std.proofs.Common.{◌≡◌, ◌≤◌, ◌<◌, ℕ, ◌+◌, ◌^◌, Bool, true, false, List, [], ◌∷◌, ◌++◌, length, Option, Some, None, refl, sym, ap, subst, arith}
+use Rattle.std.specs.Prelude.{is_some, option_and_then, option_map, unwrap_or, IsSomeAnd}
 use Rattle.std.specs.Option.{option_map_or}
 use Rattle.std.specs.FinSet as set
+use Rattle.std.proofs.lemmas.Bool.{true≢false}
+use Rattle.extent_alloc.specs.declared.part.Part.{Part}
+use Rattle.lvm_id.specs.LvmId.{IsId}
 use Rattle.lvm_name.specs.Names.{group_name_refusal, volume_name_refusal}
 use Rattle.lvm_script.specs.declared.amount.Amount.{Amount}
+use Rattle.lvm_script.specs.declared.amount.Growth.{Growth}
 use Rattle.lvm_script.specs.declared.command.Command.{Command}
-use Rattle.lvm_script.specs.declared.command.Command.TheVariants.{Lvreduce, Lvremove, Lvrename, Vgrename}
+use Rattle.lvm_script.specs.declared.command.Command.TheVariants.{Lvcreate, Lvextend, Lvreduce, Lvremove, Lvrename, Vgrename}
+use Rattle.lvm_script.specs.declared.command.NewVolume.{NewVolume}
 use Rattle.lvm_script.specs.declared.command.Path.{Path}
 use Rattle.lvm_script.specs.declared.op_refusal.OpRefusal.{OpRefusal}
 use Rattle.lvm_script.specs.declared.op_refusal.OpRefusal.TheVariants.{UnknownGroup, UnknownVolume}
 use Rattle.meta_model.specs.Standing.{HasTree}
 use Rattle.meta_model.specs.declared.group.Group.{Group}
 use Rattle.meta_model.specs.declared.lv.Lv.{Lv}
+use Rattle.sector_base.specs.declared.spans.Span.{Span}
 use Rattle.volume_rules.specs.Rules.{IsAccepted}
 use Rattle.volume_rules.specs.declared.rule.Rule.TheVariants.{Numbers}
+use Rattle.group_edits.proofs.Longer.{longer_whole}
 use Rattle.group_edits.proofs.Removed.{removed_whole}
 use Rattle.group_edits.proofs.Renamed.{renamed_whole as volume_whole}
 use Rattle.group_edits.proofs.RenamedGroup.{renamed_whole as group_whole}
 use Rattle.group_edits.proofs.Shortened.{shortened_whole}
 use Rattle.group_edits.proofs.Visible.{named_is_visible}
 use Rattle.group_edits.proofs.Whole.{IsWhole}
+use Rattle.group_edits.specs.LongerVolume.{MayGrow, longer_volume}
 use Rattle.group_edits.specs.RenamedGroup.{renamed_group}
 use Rattle.group_edits.specs.RenamedVolume.{renamed_volume}
 use Rattle.group_edits.specs.Removing.{without_volume}
 use Rattle.group_edits.specs.ShortenedVolume.{MayKeep, kept_of}
 use Rattle.group_edits.specs.Visible.{visible_named}
+use Rattle.group_ops.proofs.CreatedVolume.{Creates, creates}
+use Rattle.group_ops.proofs.Chained.{back_passes, front_passes, none_both}
+use Rattle.group_ops.proofs.Extending.{few_segments, grows_by}
 use Rattle.group_ops.proofs.Reducing.{may_be_cut, some_extents}
 use Rattle.group_ops.proofs.Rows.{none_holds}
 use Rattle.group_ops.proofs.RowsOnVolume.{name_free, not_locked, seqno_left}
 use Rattle.group_ops.specs.Added.{added_of}
-use Rattle.group_ops.specs.Committing.{length_row, named_rows, no_area_row, no_change, version_change}
+use Rattle.group_ops.specs.Allocating.{Takes}
+use Rattle.group_ops.specs.Committing.{length_row, named_rows, no_area_row, no_change, version_change, zeroing_change}
 use Rattle.group_ops.specs.Judging.{first_refusal}
+use Rattle.group_ops.specs.Lvcreate.{create_change, created_group, lvcreate_change, zeroed_at}
+use Rattle.group_ops.specs.Lvextend.{extend_asks, extend_in_rows, extend_lv_rows, lengthen_rows, volume_asks}
 use Rattle.group_ops.specs.Lvreduce.{reduce_change, reduce_in_rows, reduce_lv_rows, reduced_group}
 use Rattle.group_ops.specs.Lvremove.{remove_change, remove_in_rows, remove_lv_rows}
 use Rattle.group_ops.specs.Lvrename.{rename_in_rows, rename_lv_rows}
 use Rattle.group_ops.specs.NewGroup.{change_with, extended}
-use Rattle.group_ops.specs.Planning.{IsPlanned, change_of, refusal_of}
-use Rattle.group_ops.specs.Sizes.{IsAmount, extents_for}
+use Rattle.group_ops.specs.Planning.{IsPlanned, asks_of, change_of, refusal_of}
+use Rattle.group_ops.specs.Sizes.{IsAmount, IsGrowth, extents_for}
+use Rattle.group_ops.specs.State.{IsState}
 use Rattle.group_ops.specs.Vgrename.{rename_rows}
 use Rattle.group_ops.specs.Volumes.{rows_on}
 use Rattle.group_ops.specs.declared.state.Change.{Change}
@@ -48,58 +63,78 @@ pub record CommitsNext (state : GroupState) (change : Change) (now : ℕ) : Type
   pub old : Group
   pub there : state.group ≡ Some old
   pub next : Group
-  pub change_xl : change ≡ version_change state next
+  pub zero : List Span
+  pub change_xl : change ≡ zeroing_change state zero next
   pub same_id : next.id ≡ old.id
   pub next_seqno : next.seqno ≡ old.seqno + 1
   pub same_pvs : next.pvs ≡ old.pvs
   pub has_area : no_area_row state ≡ None
   pub fits : length_row state next now ≡ None
-  pub whole : IsAccepted old → HasTree old → IsWhole next
+  pub whole : IsState state → IsAccepted old → HasTree old → now < 2 ^ 48 → IsWhole next
 
 -- the commands of such lines
 abbrev pub is_next : Command → Bool
 is_next (Vgrename vg new) = true
+is_next (Lvcreate new) = true
+is_next (Lvextend path growth pvs) = true
 is_next (Lvreduce path amount) = true
 is_next (Lvremove path) = true
 is_next (Lvrename vg old new) = true
 is_next _ = false
 
--- ---- no label
+-- a command whose volume has sectors that are to hold zeros before its commit
+abbrev pub zeroes : Command → Bool
+zeroes (Lvcreate new) = true
+zeroes _ = false
 
-version_labels : (state : GroupState) (next : Group → Group) (o : Option Group) → (option_map_or (λ (g : Group). version_change state (next g)) o (no_change state)).labels ≡ []
-version_labels state next None = refl
-version_labels state next (Some group) = refl
+-- ---- no label, and no zeros
 
-without_labels : (state : GroupState) (group : Group) (o : Option (ℕ × Lv)) → (option_map_or (λ (v : ℕ × Lv). version_change state (without_volume group v.0)) o (no_change state)).labels ≡ []
-without_labels state group None = refl
-without_labels state group (Some v) = refl
+-- what holds where nothing changes, and of each version that is committed, holds of the change of each other such command
+module _ (state : GroupState) (Holds : Change → Type 0) (none : Holds (no_change state)) (made : (next : Group) → Holds (version_change state next)) where
+  version_holds : (next : Group → Group) (o : Option Group) → Holds (option_map_or (λ (g : Group). version_change state (next g)) o (no_change state))
+  version_holds next None = none
+  version_holds next (Some group) = made (next group)
 
-remove_labels : (state : GroupState) (name : List ℕ) (o : Option Group) → (option_map_or (remove_change state name) o (no_change state)).labels ≡ []
-remove_labels state name None = refl
-remove_labels state name (Some group) = without_labels state group (visible_named group name)
+  volume_holds : (next : ℕ × Lv → Group) (o : Option (ℕ × Lv)) → Holds (option_map_or (λ (v : ℕ × Lv). version_change state (next v)) o (no_change state))
+  volume_holds next None = none
+  volume_holds next (Some v) = made (next v)
 
-shortened_labels : (state : GroupState) (name : List ℕ) (amount : Amount) (group : Group) (o : Option (ℕ × Lv)) → (option_map_or (λ (v : ℕ × Lv). version_change state (reduced_group name amount group v.1)) o (no_change state)).labels ≡ []
-shortened_labels state name amount group None = refl
-shortened_labels state name amount group (Some v) = refl
+  remove_holds : (name : List ℕ) (o : Option Group) → Holds (option_map_or (remove_change state name) o (no_change state))
+  remove_holds name None = none
+  remove_holds name (Some group) = volume_holds (λ v. without_volume group v.0) (visible_named group name)
 
-reduce_labels : (state : GroupState) (name : List ℕ) (amount : Amount) (o : Option Group) → (option_map_or (reduce_change state name amount) o (no_change state)).labels ≡ []
-reduce_labels state name amount None = refl
-reduce_labels state name amount (Some group) = shortened_labels state name amount group (visible_named group name)
+  reduce_holds : (name : List ℕ) (amount : Amount) (o : Option Group) → Holds (option_map_or (reduce_change state name amount) o (no_change state))
+  reduce_holds name amount None = none
+  reduce_holds name amount (Some group) = volume_holds (λ v. reduced_group name amount group v.1) (visible_named group name)
 
-pub next_labels : (state : GroupState) (number : ℕ) (id : Option (List ℕ)) (command : Command) → is_next command ≡ true → (change_of state (record { number = number; id = id; command = command })).labels ≡ []
-next_labels state number id (Vgrename vg new) is = version_labels state (λ g. renamed_group g new) state.group
-next_labels state number id (Lvreduce path amount) is = reduce_labels state path.lv amount state.group
-next_labels state number id (Lvremove path) is = remove_labels state path.lv state.group
-next_labels state number id (Lvrename vg old new) is = version_labels state (renamed_volume old new) state.group
-next_labels state number id command is = absurd cc
+  next_holds : (number : ℕ) (id : Option (List ℕ)) (command : Command) (now : ℕ) (given : List Part) → is_next command ≡ true → zeroes command ≡ false → Holds (change_of state (record { number = number; id = id; command = command }) now given)
+  next_holds number id (Vgrename vg new) now given is other = version_holds (λ g. renamed_group g new) state.group
+  next_holds number id (Lvextend path growth pvs) now given is other = version_holds (longer_volume path.lv given) state.group
+  next_holds number id (Lvreduce path amount) now given is other = reduce_holds path.lv amount state.group
+  next_holds number id (Lvremove path) now given is other = remove_holds path.lv state.group
+  next_holds number id (Lvrename vg old new) now given is other = version_holds (renamed_volume old new) state.group
+  next_holds number id (Lvcreate new) now given is other = absurd (true≢false other)
+  next_holds number id command now given is other = absurd cc
+
+created_labels : (state : GroupState) (id : List ℕ) (new : NewVolume) (now : ℕ) (given : List Part) (o : Option Group) → (option_map_or (λ (g : Group). create_change state id new now g given) o (no_change state)).labels ≡ []
+created_labels state id new now given None = refl
+created_labels state id new now given (Some group) = refl
+
+pub next_labels : (state : GroupState) (number : ℕ) (id : Option (List ℕ)) (command : Command) (now : ℕ) (given : List Part) → is_next command ≡ true → (change_of state (record { number = number; id = id; command = command }) now given).labels ≡ []
+next_labels state number id (Lvcreate new) now given is = created_labels state (unwrap_or id []) new now given state.group
+next_labels state number id (Vgrename vg new) now given is = next_holds state (λ change. change.labels ≡ []) refl (λ next. refl) number id (Vgrename vg new) now given is refl
+next_labels state number id (Lvextend path growth pvs) now given is = next_holds state (λ change. change.labels ≡ []) refl (λ next. refl) number id (Lvextend path growth pvs) now given is refl
+next_labels state number id (Lvreduce path amount) now given is = next_holds state (λ change. change.labels ≡ []) refl (λ next. refl) number id (Lvreduce path amount) now given is refl
+next_labels state number id (Lvremove path) now given is = next_holds state (λ change. change.labels ≡ []) refl (λ next. refl) number id (Lvremove path) now given is refl
+next_labels state number id (Lvrename vg old new) now given is = next_holds state (λ change. change.labels ≡ []) refl (λ next. refl) number id (Lvrename vg old new) now given is refl
+next_labels state number id command now given is = absurd cc
+
+-- the sectors of no other command are to hold zeros
+pub no_zero : (state : GroupState) (number : ℕ) (id : Option (List ℕ)) (command : Command) (now : ℕ) (given : List Part) → is_next command ≡ true → zeroes command ≡ false
+    → (change_of state (record { number = number; id = id; command = command }) now given).zero ≡ []
+no_zero state number id command now given is other = next_holds state (λ change. change.zero ≡ []) refl (λ next. refl) number id command now given is other
 
 -- ---- what the rows say
-
--- the rows of the second part pass
-front_passes : (front back : List (Option OpRefusal)) → first_refusal (front ++ back) ≡ None → first_refusal back ≡ None
-front_passes [] back none = none
-front_passes (None ∷ front) back none = front_passes front back none
-front_passes (Some refusal ∷ front) back none = absurd cc
 
 rename_next : (state : GroupState) (vg new : List ℕ) (now : ℕ) → group_name_refusal new ≡ None → (o : Option Group) → state.group ≡ o → first_refusal (option_map_or (rename_rows state vg new now) o (Some (UnknownGroup vg) ∷ [])) ≡ None
     → CommitsNext state (option_map_or (λ (g : Group). version_change state (renamed_group g new)) o (no_change state)) now
@@ -110,13 +145,14 @@ rename_next state vg new now named (Some group) there none =
       old = group;
       there = there;
       next = renamed_group group new;
+      zero = [];
       change_xl = refl;
       same_id = refl;
       next_seqno = refl;
       same_pvs = refl;
       has_area = rows.1.1.1.0;
       fits = rows.1.1.1.1.1.0;
-      whole = λ accepted tree. group_whole group new named (seqno_left group rows.1.1.1.1.0) accepted tree;
+      whole = λ state_is accepted tree time. group_whole group new named (seqno_left group rows.1.1.1.1.0) accepted tree;
     }
 
 -- a visible volume has the name, and its rows pass
@@ -136,13 +172,14 @@ remove_next state path now (Some group) there none =
       old = group;
       there = there;
       next = without_volume group seen.0.0;
+      zero = [];
       change_xl = ap (λ (o : Option (ℕ × Lv)). option_map_or (λ (v : ℕ × Lv). version_change state (without_volume group v.0)) o (no_change state)) seen.1;
       same_id = refl;
       next_seqno = refl;
       same_pvs = refl;
       has_area = rows.1.0;
       fits = rows.1.1.1.0;
-      whole = λ accepted tree. removed_whole group seen.0.0 (named_is_visible group path.lv seen.0 seen.1) (not_locked group path.lv seen.0.0 rows.0) (seqno_left group rows.1.1.0) accepted tree;
+      whole = λ state_is accepted tree time. removed_whole group seen.0.0 (named_is_visible group path.lv seen.0 seen.1) (not_locked group path.lv seen.0.0 rows.0) (seqno_left group rows.1.1.0) accepted tree;
     }
 
 reduce_next : (state : GroupState) (path : Path) (amount : Amount) (now : ℕ) → IsAmount amount → (o : Option Group) → state.group ≡ o → first_refusal (option_map_or (reduce_in_rows state path amount now) o (Some (UnknownGroup path.vg) ∷ [])) ≡ None
@@ -158,19 +195,69 @@ reduce_next state path amount now planned (Some group) there none =
       old = group;
       there = there;
       next = reduced_group path.lv amount group seen.0.1;
+      zero = [];
       change_xl = ap (λ (o : Option (ℕ × Lv)). option_map_or (λ (v : ℕ × Lv). version_change state (reduced_group path.lv amount group v.1)) o (no_change state)) seen.1;
       same_id = refl;
       next_seqno = refl;
       same_pvs = refl;
       has_area = rows.1.1.0;
       fits = rows.1.1.1.1.1.0;
-      whole = λ accepted tree.
+      whole = λ state_is accepted tree time.
           let least = (accepted Numbers).extent_size.0 in
           let some : 1 ≤ said = some_extents group.extent_size amount (omega (arith, least)) planned in
           shortened_whole group path.lv (kept_of seen.0.1.segments said)
           (subst (λ (o : Option (ℕ × Lv)). IsSomeAnd o (λ (v : ℕ × Lv). MayKeep (kept_of seen.0.1.segments said) v.1)) (sym seen.1)
           (may_be_cut group accepted path.lv seen.0.0 seen.0.1 seen.1 said some rows.1.0 rows.1.1.1.0))
           (seqno_left group rows.1.1.1.1.0) accepted tree;
+    }
+
+create_next : (state : GroupState) (id : List ℕ) (new : NewVolume) (now : ℕ) (given : List Part) → Creates state id new now given → CommitsNext state (lvcreate_change state id new now given) now
+create_next state id new now given made = record {
+  old = made.old;
+  there = made.there;
+  next = created_group id new now given made.old;
+  zero = zeroed_at state.disk_of made.old given;
+  change_xl = made.change_xl;
+  same_id = refl;
+  next_seqno = refl;
+  same_pvs = refl;
+  has_area = made.has_area;
+  fits = made.fits;
+  whole = made.whole;
+}
+
+extend_next : (state : GroupState) (path : Path) (growth : Growth) (pvs : List (List ℕ)) (now : ℕ) (given : List Part) → IsGrowth growth → (o : Option Group) → state.group ≡ o → Takes (option_and_then (extend_asks state path growth pvs) o) given
+    → first_refusal (option_map_or (λ (g : Group). extend_in_rows state path growth pvs now g given) o (Some (UnknownGroup path.vg) ∷ [])) ≡ None
+    → CommitsNext state (option_map_or (λ (g : Group). version_change state (longer_volume path.lv given g)) o (no_change state)) now
+extend_next state path growth pvs now given planned None there takes none = absurd cc
+extend_next state path growth pvs now given planned (Some group) there takes none =
+    let back : ℕ × Lv → List (Option OpRefusal) = λ volume. extend_lv_rows state path.lv growth pvs group volume ++ lengthen_rows state path.lv now group given in
+    let seen = named_on group path.lv back (visible_named group path.lv) refl (front_passes (named_rows group path.vg) (rows_on group path.lv back) none) in
+    let asked : Takes (Some (volume_asks (named_rows group path.vg) state path.lv growth pvs group seen.0)) given =
+    subst (λ (o : Option (ℕ × Lv)). Takes (option_map (volume_asks (named_rows group path.vg) state path.lv growth pvs group) o) given) seen.1 takes
+    in
+    let taken =
+    asked
+    (none_both (named_rows group path.vg) (extend_lv_rows state path.lv growth pvs group seen.0) (back_passes (named_rows group path.vg) (rows_on group path.lv back) none)
+    (back_passes (extend_lv_rows state path.lv growth pvs group seen.0) (lengthen_rows state path.lv now group given) seen.2))
+    in
+    let rows = none_holds (extend_lv_rows state path.lv growth pvs group seen.0 ++ lengthen_rows state path.lv now group given) seen.2 in
+    record {
+      old = group;
+      there = there;
+      next = longer_volume path.lv given group;
+      zero = [];
+      change_xl = refl;
+      same_id = refl;
+      next_seqno = refl;
+      same_pvs = refl;
+      has_area = rows.1.1.1.1.0;
+      fits = rows.1.1.1.1.1.1.1.1.1.0;
+      whole = λ state_is accepted tree time.
+          longer_whole group path.lv given
+          (subst (λ (o : Option (ℕ × Lv)). IsSomeAnd o (λ (v : ℕ × Lv). MayGrow group v.1 given)) (sym seen.1)
+          (grows_by group accepted path.lv seen.0.0 seen.0.1 seen.1 state state_is there tree growth pvs given rows.1.1.1.0 taken.0 (few_segments group (length given) rows.1.1.1.1.1.1.1.1.0)))
+          (seqno_left group rows.1.1.1.1.1.1.0) accepted tree;
     }
 
 rename_lv_next : (state : GroupState) (vg old new : List ℕ) (now : ℕ) → volume_name_refusal new ≡ None → (o : Option Group) → state.group ≡ o → first_refusal (option_map_or (rename_in_rows state vg old new now) o (Some (UnknownGroup vg) ∷ [])) ≡ None
@@ -183,23 +270,31 @@ rename_lv_next state vg old new now valid (Some group) there none =
       old = group;
       there = there;
       next = renamed_volume old new group;
+      zero = [];
       change_xl = refl;
       same_id = refl;
       next_seqno = refl;
       same_pvs = refl;
       has_area = rows.1.1.0;
       fits = rows.1.1.1.1.0;
-      whole = λ accepted tree. volume_whole group old new (ap is_some seen.1) (name_free group new rows.0) valid (seqno_left group rows.1.1.1.0) accepted tree;
+      whole = λ state_is accepted tree time. volume_whole group old new (ap is_some seen.1) (name_free group new rows.0) valid (seqno_left group rows.1.1.1.0) accepted tree;
     }
 
+-- an id that was drawn
+pub drawn_is : (id : Option (List ℕ)) → IsSomeAnd id IsId → IsId (unwrap_or id [])
+drawn_is None is = absurd is
+drawn_is (Some own) is = is
+
 -- such a line that no row refuses
-pub commits_next : (state : GroupState) (number : ℕ) (id : Option (List ℕ)) (command : Command) (now : ℕ) → IsPlanned id command → is_next command ≡ true
-    → refusal_of state (record { number = number; id = id; command = command }) now ≡ None → CommitsNext state (change_of state (record { number = number; id = id; command = command })) now
-commits_next state number id (Vgrename vg new) now planned is none = rename_next state vg new now planned state.group refl none
-commits_next state number id (Lvreduce path amount) now planned is none = reduce_next state path amount now planned state.group refl none
-commits_next state number id (Lvremove path) now planned is none = remove_next state path now state.group refl none
-commits_next state number id (Lvrename vg old new) now planned is none = rename_lv_next state vg old new now planned state.group refl none
-commits_next state number id command now planned is none = absurd cc
+pub commits_next : (state : GroupState) (number : ℕ) (id : Option (List ℕ)) (command : Command) (now : ℕ) (given : List Part) → IsPlanned id command → is_next command ≡ true
+    → Takes (asks_of state (record { number = number; id = id; command = command })) given → refusal_of state (record { number = number; id = id; command = command }) now given ≡ None → CommitsNext state (change_of state (record { number = number; id = id; command = command }) now given) now
+commits_next state number id (Vgrename vg new) now given planned is takes none = rename_next state vg new now planned state.group refl none
+commits_next state number id (Lvcreate new) now given planned is takes none = create_next state (unwrap_or id []) new now given (creates state (unwrap_or id []) new now given (drawn_is id planned.0) planned.1 state.group refl takes none)
+commits_next state number id (Lvextend path growth pvs) now given planned is takes none = extend_next state path growth pvs now given planned state.group refl takes none
+commits_next state number id (Lvreduce path amount) now given planned is takes none = reduce_next state path amount now planned state.group refl none
+commits_next state number id (Lvremove path) now given planned is takes none = remove_next state path now state.group refl none
+commits_next state number id (Lvrename vg old new) now given planned is takes none = rename_lv_next state vg old new now planned state.group refl none
+commits_next state number id command now given planned is takes none = absurd cc
 
 -- ---- as a group to which no physical volume is added
 
@@ -211,6 +306,6 @@ pub extended_none : (state : GroupState) (next : Group) → extended next (added
 unfolding extended
 extended_none state next = refl
 
-pub version_is : (state : GroupState) (next : Group) → change_with next state.disk_of (added_of state []) ≡ version_change state next
+pub version_is : (state : GroupState) (zero : List Span) (next : Group) → record (change_with next state.disk_of (added_of state [])) { zero = zero } ≡ zeroing_change state zero next
 unfolding extended
-version_is state next = λ i. record { group = Some next; labels = []; taken = set.empty; disk_of = append_nil state.disk_of i }
+version_is state zero next = λ i. record { group = Some next; zero = zero; labels = []; taken = set.empty; disk_of = append_nil state.disk_of i }

@@ -96,17 +96,17 @@ unfolding small_row
 all_fit extent_size all none =
     fits_by extent_size all (recursion_from_All (λ added. is_small extent_size added ≡ false) all (All-from_find (is_small extent_size) all (no_map _ (find (is_small extent_size) all) none)))
 
-many_by : (limit count : ℕ) (a b c : Bool) (x y : OpRefusal) → ltb 64 count ≡ a → eqb limit 0 ≡ b → ltb limit count ≡ c → cond a (Some x) (cond (not b && c) (Some y) None) ≡ None → (count ≤ 64) × (limit ≢ 0 → count ≤ limit)
-many_by limit count true b c x y is_a is_b is_c none = absurd cc
-many_by limit count false true c x y is_a is_b is_c none =
-    (ltb-false 64 count is_a, λ other. absurd (other (eqb-true limit 0 is_b)))
-many_by limit count false false true x y is_a is_b is_c none = absurd cc
-many_by limit count false false false x y is_a is_b is_c none =
-    (ltb-false 64 count is_a, λ other. ltb-false limit count is_c)
+many_by : (most limit count : ℕ) (a b c : Bool) (x y : OpRefusal) → ltb most count ≡ a → eqb limit 0 ≡ b → ltb limit count ≡ c → cond a (Some x) (cond (not b && c) (Some y) None) ≡ None → (count ≤ most) × (limit ≢ 0 → count ≤ limit)
+many_by most limit count true b c x y is_a is_b is_c none = absurd cc
+many_by most limit count false true c x y is_a is_b is_c none =
+    (ltb-false most count is_a, λ other. absurd (other (eqb-true limit 0 is_b)))
+many_by most limit count false false true x y is_a is_b is_c none = absurd cc
+many_by most limit count false false false x y is_a is_b is_c none =
+    (ltb-false most count is_a, λ other. ltb-false limit count is_c)
 
-pub few_enough : (limit count : ℕ) → many_row limit count ≡ None → (count ≤ 64) × (limit ≢ 0 → count ≤ limit)
+pub few_enough : (most limit count : ℕ) → many_row most limit count ≡ None → (count ≤ most) × (limit ≢ 0 → count ≤ limit)
 unfolding many_row
-few_enough limit count none = many_by limit count (ltb 64 count) (eqb limit 0) (ltb limit count) _ _ refl refl refl none
+few_enough most limit count none = many_by most limit count (ltb most count) (eqb limit 0) (ltb limit count) _ _ refl refl refl none
 
 pub all_unused : (listed : List ℕ) (all : List Added) → used_row listed all ≡ None → Each (IsUnused (set_of listed)) all × DisksApart all
 unfolding used_row

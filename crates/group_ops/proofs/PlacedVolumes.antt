@@ -9,6 +9,7 @@ use Rattle.std.proofs.lemmas.Bool.Decides.{nat_tests}
 use Rattle.std.proofs.lemmas.List.Elements.{recursion_from_All}
 use Rattle.std.proofs.lemmas.List.Folds.{list_any-append}
 use Rattle.std.proofs.lemmas.Option.{same_Some}
+use Rattle.extent_alloc.specs.declared.part.Part.{Part}
 use Rattle.meta_model.specs.declared.group.Group.{Group}
 use Rattle.meta_model.specs.declared.lv.Lv.{Lv}
 use Rattle.meta_model.specs.declared.pv.Pv.{Pv}
@@ -23,6 +24,8 @@ use Rattle.vg_found.specs.Disks.{area_shape, disk_shape, header_on, pv_shape, sh
 use Rattle.lvm_script.specs.declared.amount.Amount.{Amount}
 use Rattle.lvm_script.specs.declared.command.Command.{Command}
 use Rattle.lvm_script.specs.declared.command.Command.TheVariants.{Pvcreate, Pvmove, Pvck, Pvs, Vgcreate, Vgextend, Vgreduce, Vgremove, Vgrename, Vgcfgbackup, Vgcfgrestore, Vgck, Vgs, Lvcreate, Lvextend, Lvreduce, Lvremove, Lvrename, Lvs, Read, Fill, Write, List as ListVolumes, Wait, Resync}
+use Rattle.lvm_script.specs.declared.command.NewVolume.{NewVolume}
+use Rattle.group_edits.specs.LongerVolume.{longer_volume}
 use Rattle.group_edits.specs.RenamedGroup.{renamed_group}
 use Rattle.group_edits.specs.RenamedVolume.{renamed_volume}
 use Rattle.group_edits.specs.Removing.{without_volume}
@@ -32,6 +35,7 @@ use Rattle.group_ops.proofs.DataApart.{IsBesideData, data_beside}
 use Rattle.group_ops.proofs.Disks.{ids_apart}
 use Rattle.group_ops.specs.Added.{added_of, data_end, data_start, pv_of}
 use Rattle.group_ops.specs.Committing.{no_change, version_change}
+use Rattle.group_ops.specs.Lvcreate.{create_change}
 use Rattle.group_ops.specs.Lvreduce.{reduce_change, reduced_group}
 use Rattle.group_ops.specs.Lvremove.{remove_change}
 use Rattle.group_ops.specs.Laws.{ArePlaced, ChangeIsPlaced}
@@ -153,11 +157,11 @@ none_added test lvs extent_size pvs (added ∷ more) none each =
     ∙ ap (λ (b : Bool). b || false) (each.0 name))
     each.1
 
-abbrev IsPlacedOn : Group → Reading → Type 0
+abbrev pub IsPlacedOn : Group → Reading → Type 0
 IsPlacedOn group reading = has_misplaced group reading ≡ false
 
 -- whether one with this header on a disk of so many sectors is misplaced
-abbrev misplaced_with : Group → Reading → Option PvHeader → Bool
+abbrev pub misplaced_with : Group → Reading → Option PvHeader → Bool
 misplaced_with group reading header = unwrap_or (option_map (λ (found : PvOf). list_any (is_this_misplaced group.extent_size reading found) group.pvs) (option_map pv_shape header)) false
 
 module _ (state : GroupState) (is : IsState state) (base : Group) (all : List Added) (found : Each (IsFoundOn state) all) where
@@ -185,7 +189,7 @@ split_found : (group : Group) (number : ℕ) (reading : Reading) (more : List Re
 split_found group number reading more true here none = absurd cc
 split_found group number reading more false here none = (here, none)
 
-each_placed : (group : Group) (number : ℕ) (readings : List Reading) → option_map (λ (d : ℕ × Reading). d.0) (find (λ (d : ℕ × Reading). has_misplaced group d.1) (enumerate_from number readings)) ≡ None → Each (IsPlacedOn group) readings
+pub each_placed : (group : Group) (number : ℕ) (readings : List Reading) → option_map (λ (d : ℕ × Reading). d.0) (find (λ (d : ℕ × Reading). has_misplaced group d.1) (enumerate_from number readings)) ≡ None → Each (IsPlacedOn group) readings
 each_placed group number [] none = tt
 each_placed group number (reading ∷ more) none =
     let parts = split_found group number reading more (has_misplaced group reading) refl none in
@@ -243,36 +247,41 @@ reduce_placed : (state : GroupState) (name : List ℕ) (amount : Amount) (group 
 reduce_placed state name amount None placed = tt
 reduce_placed state name amount (Some group) placed = shortened_placed state name amount group (visible_named group name) placed
 
-change_by : (state : GroupState) → IsState state → (number : ℕ) (id : Option (List ℕ)) (command : Command) → ArePlaced state.disks state.group
-    → ArePlaced state.disks (change_of state (record { number = number; id = id; command = command })).group
-change_by state is number id (Pvcreate pv copies) placed = tt
-change_by state is number id (Vgcreate vg extent_size pvs) placed =
+create_placed : (state : GroupState) (id : List ℕ) (new : NewVolume) (now : ℕ) (given : List Part) (group : Option Group) → ArePlaced state.disks group
+    → ArePlaced state.disks (option_map_or (λ (g : Group). create_change state id new now g given) group (no_change state)).group
+create_placed state id new now given None placed = tt
+create_placed state id new now given (Some group) placed = placed
+
+change_by : (state : GroupState) → IsState state → (number : ℕ) (id : Option (List ℕ)) (command : Command) (now : ℕ) (given : List Part) → ArePlaced state.disks state.group
+    → ArePlaced state.disks (change_of state (record { number = number; id = id; command = command }) now given).group
+change_by state is number id (Pvcreate pv copies) now given placed = tt
+change_by state is number id (Vgcreate vg extent_size pvs) now given placed =
     added_placed state is (empty_group (unwrap_or id []) vg extent_size) pvs
     (none_misplaced (empty_group (unwrap_or id []) vg extent_size) 0 (shapes state.disks) (empty_placed (unwrap_or id []) vg extent_size (shapes state.disks)))
-change_by state is number id (Vgextend vg pvs) placed = extend_placed state is state.group pvs placed
-change_by state is number id (Pvmove a) placed = tt
-change_by state is number id (Pvck a) placed = tt
-change_by state is number id Pvs placed = tt
-change_by state is number id (Vgreduce a b) placed = tt
-change_by state is number id (Vgremove a) placed = tt
-change_by state is number id (Vgrename vg new) placed = version_placed state (λ g. renamed_group g new) (λ g placed. placed) state.group placed
-change_by state is number id (Vgcfgbackup a) placed = tt
-change_by state is number id (Vgcfgrestore a b) placed = tt
-change_by state is number id Vgck placed = tt
-change_by state is number id Vgs placed = tt
-change_by state is number id (Lvcreate a) placed = tt
-change_by state is number id (Lvextend a b c) placed = tt
-change_by state is number id (Lvreduce path amount) placed = reduce_placed state path.lv amount state.group placed
-change_by state is number id (Lvremove path) placed = remove_placed state path.lv state.group placed
-change_by state is number id (Lvrename vg old new) placed = version_placed state (renamed_volume old new) (λ g placed. placed) state.group placed
-change_by state is number id Lvs placed = tt
-change_by state is number id (Read a b c) placed = tt
-change_by state is number id (Fill a b c d) placed = tt
-change_by state is number id (Write a b c) placed = tt
-change_by state is number id ListVolumes placed = tt
-change_by state is number id Wait placed = tt
-change_by state is number id (Resync a) placed = tt
+change_by state is number id (Vgextend vg pvs) now given placed = extend_placed state is state.group pvs placed
+change_by state is number id (Pvmove a) now given placed = tt
+change_by state is number id (Pvck a) now given placed = tt
+change_by state is number id Pvs now given placed = tt
+change_by state is number id (Vgreduce a b) now given placed = tt
+change_by state is number id (Vgremove a) now given placed = tt
+change_by state is number id (Vgrename vg new) now given placed = version_placed state (λ g. renamed_group g new) (λ g placed. placed) state.group placed
+change_by state is number id (Vgcfgbackup a) now given placed = tt
+change_by state is number id (Vgcfgrestore a b) now given placed = tt
+change_by state is number id Vgck now given placed = tt
+change_by state is number id Vgs now given placed = tt
+change_by state is number id (Lvcreate new) now given placed = create_placed state (unwrap_or id []) new now given state.group placed
+change_by state is number id (Lvextend path growth pvs) now given placed = version_placed state (longer_volume path.lv given) (λ g placed. placed) state.group placed
+change_by state is number id (Lvreduce path amount) now given placed = reduce_placed state path.lv amount state.group placed
+change_by state is number id (Lvremove path) now given placed = remove_placed state path.lv state.group placed
+change_by state is number id (Lvrename vg old new) now given placed = version_placed state (renamed_volume old new) (λ g placed. placed) state.group placed
+change_by state is number id Lvs now given placed = tt
+change_by state is number id (Read a b c) now given placed = tt
+change_by state is number id (Fill a b c d) now given placed = tt
+change_by state is number id (Write a b c) now given placed = tt
+change_by state is number id ListVolumes now given placed = tt
+change_by state is number id Wait now given placed = tt
+change_by state is number id (Resync a) now given placed = tt
 
 -- where those of the group lie well, those of the change's group do
 pub change_is_placed : ChangeIsPlaced
-change_is_placed state line is placed = change_by state is line.number line.id line.command placed
+change_is_placed state line now given is placed = change_by state is line.number line.id line.command now given placed

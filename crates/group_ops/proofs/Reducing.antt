@@ -30,13 +30,17 @@ use Rattle.group_ops.specs.declared.refusal.PlanRefusal.{PlanRefusal}
 use Rattle.group_ops.specs.declared.state.Change.{Change}
 use Rattle.group_ops.specs.declared.state.GroupState.{GroupState}
 
+-- what has one or more is in one part or more
+pub some_parts : (count size : ℕ) → 1 ≤ count → 1 ≤ size → 1 ≤ parts_of count size
+some_parts count size some least = by (parts_of count size) (div_ceil_times count size least).0 where
+  by : (parts : ℕ) → count ≤ parts * size → 1 ≤ parts
+  by zero bound = absurd (omega (arith, bound, some))
+  by (suc parts) bound = omega arith
+
 -- an amount is an extent or more
 pub some_extents : (size : ℕ) (amount : Amount) → 1 ≤ size → IsAmount amount → 1 ≤ extents_for size amount
 some_extents size (Extents count) some is = is.0
-some_extents size (Sectors count) some is = by (parts_of count size) (div_ceil_times count size some).0 where
-  by : (parts : ℕ) → count ≤ parts * size → 1 ≤ parts
-  by zero bound = absurd (omega (arith, bound, is.0))
-  by (suc parts) bound = omega arith
+some_extents size (Sectors count) some is = some_parts count size is.0 some
 
 -- a visible volume's number is one of a volume
 pub visible_within : (group : Group) (number : ℕ) → IsVisible group number → number < length group.lvs

@@ -45,4 +45,5 @@ whole_is_state found names shape whole count named = record {
   areas = shape.areas;
   disk_of = shape.disk_of;
   there = there_by found found.group shape.disk_of shape.missing whole.there;
+  placed = shape.placed;
 }

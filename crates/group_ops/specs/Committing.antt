@@ -6,6 +6,7 @@ use Rattle.lvm_script.specs.declared.op_refusal.OpRefusal.{OpRefusal}
 use Rattle.lvm_script.specs.declared.op_refusal.OpRefusal.TheVariants.{ReadOnly, SeqnoEnd, UnknownGroup}
 use Rattle.meta_model.specs.declared.group.Group.{Group}
 use Rattle.scan_rules.specs.Decision.{same_bytes}
+use Rattle.sector_base.specs.declared.spans.Span.{Span}
 use Rattle.group_ops.specs.Judging.{area_row, large_row, refused_if, stored_size}
 use Rattle.group_ops.specs.declared.state.Change.{Change}
 use Rattle.group_ops.specs.declared.state.GroupState.{GroupState}
@@ -39,11 +40,15 @@ length_row state next now = large_row state.areas state.disk_of (stored_size nex
 
 -- nothing changes
 abbrev pub no_change : GroupState → Change
-no_change state = record { group = None; labels = []; taken = set.empty; disk_of = state.disk_of }
+no_change state = record { group = None; zero = []; labels = []; taken = set.empty; disk_of = state.disk_of }
 
 -- this version is committed to the disks of the group in force, and no label changes
 abbrev pub version_change : GroupState → Group → Change
-version_change state next = record { group = Some next; labels = []; taken = set.empty; disk_of = state.disk_of }
+version_change state next = record { group = Some next; zero = []; labels = []; taken = set.empty; disk_of = state.disk_of }
+
+-- so it is, and these sectors are to hold zeros before
+abbrev pub zeroing_change : GroupState → List Span → Group → Change
+zeroing_change state zero next = record (version_change state next) { zero = zero }
 
 -- the change of the group that was found
 abbrev pub change_where_found : GroupState → (Group → Change) → Change

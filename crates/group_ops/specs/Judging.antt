@@ -88,10 +88,10 @@ need_of extent_size added = data_start added + extent_size + (added.sectors - da
 unfoldable pub small_row : ℕ → List Added → Option OpRefusal
 small_row extent_size all = option_map (λ (added : Added). TooSmall added.sectors (need_of extent_size added)) (find (is_small extent_size) all)
 
--- so many physical volumes are more than a group may have, or than its own limit, where that isn't 0
-unfoldable pub many_row : ℕ → ℕ → Option OpRefusal
-many_row limit count =
-    if nat_lt 64 count then Some (TooMany count 64)
+-- so many volumes are more than any group may have, or than its own limit, where that isn't 0
+unfoldable pub many_row : ℕ → ℕ → ℕ → Option OpRefusal
+many_row most limit count =
+    if nat_lt most count then Some (TooMany count most)
     else refused_if (not (limit == 0) && nat_lt limit count) (TooMany count limit)
 
 -- ---- ids

@@ -1,5 +1,6 @@
 -- Laws of what lines are judged against, and of what they give.
 use Rattle.std.specs.Prelude.{◌≡◌, ℕ, true, List, length, Option, None, All, IfSome}
+use Rattle.extent_alloc.specs.declared.part.Part.{Part}
 use Rattle.lvm_script.specs.Values.{is_disk_name}
 use Rattle.lvm_script.specs.declared.line.Line.{Line}
 use Rattle.meta_model.specs.declared.group.Group.{Group}
@@ -29,4 +30,5 @@ ArePlaced disks group = IfSome group (λ g. first_misplaced g (shapes disks) ≡
 
 -- where the physical volumes of the group in force are placed so, those of the group that a line gives are
 abbrev pub ChangeIsPlaced : Type 0
-ChangeIsPlaced = (state : GroupState) (line : Line) → IsState state → ArePlaced state.disks state.group → ArePlaced state.disks (change_of state line).group
+ChangeIsPlaced =
+    (state : GroupState) (line : Line) (now : ℕ) (given : List Part) → IsState state → ArePlaced state.disks state.group → ArePlaced state.disks (change_of state line now given).group

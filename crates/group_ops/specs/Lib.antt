@@ -1,11 +1,15 @@
 pub mod Added
+pub mod Allocating
 pub mod Committing
 pub mod Ids
 pub mod Judging
 pub mod Laws
+pub mod Lvcreate
+pub mod Lvextend
 pub mod Lvreduce
 pub mod Lvremove
 pub mod Lvrename
+pub mod Members
 pub mod NewGroup
 pub mod Planning
 pub mod Pvcreate
@@ -15,3 +19,4 @@ pub mod Vgcreate
 pub mod Vgextend
 pub mod Vgrename
 pub mod Volumes
+pub mod Zeroing

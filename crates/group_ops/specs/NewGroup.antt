@@ -45,4 +45,4 @@ text_row state base listed all now = large_row state.areas (listed ++ disks_adde
 -- the change that makes it one with these: it is committed, their labels say that they are used, and their disks follow
 -- those that were listed
 abbrev pub change_with : Group → List ℕ → List Added → Change
-change_with base listed all = record { group = Some (extended base all); labels = map label_of all; taken = set_of (disks_added all); disk_of = listed ++ disks_added all }
+change_with base listed all = record { group = Some (extended base all); zero = []; labels = map label_of all; taken = set_of (disks_added all); disk_of = listed ++ disks_added all }

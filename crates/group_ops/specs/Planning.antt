@@ -1,23 +1,28 @@
 -- How a line is answered: by its first refusal, or by its change.
-use Rattle.std.specs.Prelude.{◌≡◌, ◌≤◌, ◌%◌, ◌^◌, ℕ, List, [], Option, None, Some, unwrap_or, Result, MatchResult, IsSomeAnd}
+use Rattle.std.specs.Prelude.{◌≡◌, ◌≤◌, ◌%◌, ◌^◌, ℕ, List, [], Option, None, Some, unwrap_or, Result, Err, MatchResult, IsSomeAnd}
+use Rattle.extent_alloc.specs.declared.part.Part.{Part}
 use Rattle.lvm_id.specs.LvmId.{IsId}
 use Rattle.lvm_name.specs.Names.{group_name_refusal, volume_name_refusal}
 use Rattle.lvm_script.specs.declared.command.Command.{Command}
-use Rattle.lvm_script.specs.declared.command.Command.TheVariants.{Lvreduce, Lvremove, Lvrename, Pvcreate, Vgcreate, Vgextend, Vgrename}
+use Rattle.lvm_script.specs.declared.command.Command.TheVariants.{Lvcreate, Lvextend, Lvreduce, Lvremove, Lvrename, Pvcreate, Vgcreate, Vgextend, Vgrename}
 use Rattle.lvm_script.specs.declared.line.Line.{Line}
 use Rattle.lvm_script.specs.declared.op_refusal.OpRefusal.{OpRefusal}
 use Rattle.meta_model.specs.declared.group.Group.{Group}
+use Rattle.group_ops.specs.Allocating.{Asking, Takes}
 use Rattle.group_ops.specs.Committing.{no_change}
 use Rattle.group_ops.specs.Judging.{IsRefusedBy, first_refusal}
+use Rattle.group_ops.specs.Lvcreate.{IsNewVolume, lvcreate_asks, lvcreate_change, lvcreate_rows}
+use Rattle.group_ops.specs.Lvextend.{lvextend_asks, lvextend_change, lvextend_rows}
 use Rattle.group_ops.specs.Lvreduce.{lvreduce_change, lvreduce_rows}
 use Rattle.group_ops.specs.Lvremove.{lvremove_change, lvremove_rows}
 use Rattle.group_ops.specs.Lvrename.{lvrename_change, lvrename_rows}
 use Rattle.group_ops.specs.Pvcreate.{pvcreate_change, pvcreate_rows}
-use Rattle.group_ops.specs.Sizes.{IsAmount}
+use Rattle.group_ops.specs.Sizes.{IsAmount, IsGrowth}
 use Rattle.group_ops.specs.Vgcreate.{empty_group, vgcreate_change, vgcreate_rows}
 use Rattle.group_ops.specs.Vgextend.{vgextend_change, vgextend_rows}
 use Rattle.group_ops.specs.Vgrename.{vgrename_change, vgrename_rows}
 use Rattle.group_ops.specs.declared.refusal.PlanRefusal.{PlanRefusal}
+use Rattle.group_ops.specs.declared.refusal.PlanRefusal.TheVariants.{NoMemory}
 use Rattle.group_ops.specs.declared.state.Change.{Change}
 use Rattle.group_ops.specs.declared.state.GroupState.{GroupState}
 
@@ -26,50 +31,65 @@ abbrev pub drawn : Line → List ℕ
 drawn line = unwrap_or line.id []
 
 -- a line of a command that is planned here, with an id where it draws one, and with values as words have them: names, amounts,
--- and a multiple of 8 sectors as the size of an extent
+-- and sizes of extents and stripes
 abbrev pub IsPlanned : Option (List ℕ) → Command → Type 0
 IsPlanned id (Pvcreate pv copies) = IsSomeAnd id IsId
 IsPlanned id (Vgcreate vg extent_size pvs) =
     IsSomeAnd id IsId × (group_name_refusal vg ≡ None) × (8 ≤ extent_size) × (extent_size ≤ 2 ^ 31) × (extent_size % 8 ≡ 0)
 IsPlanned id (Vgextend vg pvs) = Unit {0}
 IsPlanned id (Vgrename vg new) = group_name_refusal new ≡ None
+IsPlanned id (Lvcreate new) = IsSomeAnd id IsId × IsNewVolume new
+IsPlanned id (Lvextend path growth pvs) = IsGrowth growth
 IsPlanned id (Lvreduce path amount) = IsAmount amount
 IsPlanned id (Lvremove path) = Unit {0}
 IsPlanned id (Lvrename vg old new) = volume_name_refusal new ≡ None
 IsPlanned id _ = ⊥
 
--- the rows of a line's refusals, in their order
-abbrev pub rows_of : GroupState → Line → ℕ → List (Option OpRefusal)
-rows_of state line now = by line.command
+-- what a line asks of the allocator, where it takes extents
+abbrev pub asks_of : GroupState → Line → Option Asking
+asks_of state line = by line.command
+  where
+    by : Command → Option Asking
+    by (Lvcreate new) = lvcreate_asks state (drawn line) new
+    by (Lvextend path growth pvs) = lvextend_asks state path growth pvs
+    by _ = None
+
+-- the rows of a line's refusals, in their order, where it takes these parts at this time
+abbrev pub rows_of : GroupState → Line → ℕ → List Part → List (Option OpRefusal)
+rows_of state line now given = by line.command
   where
     by : Command → List (Option OpRefusal)
     by (Pvcreate pv copies) = pvcreate_rows state (drawn line) pv
     by (Vgcreate vg extent_size pvs) = vgcreate_rows state (empty_group (drawn line) vg extent_size) pvs now
     by (Vgextend vg pvs) = vgextend_rows state vg pvs now
     by (Vgrename vg new) = vgrename_rows state vg new now
+    by (Lvcreate new) = lvcreate_rows state (drawn line) new now given
+    by (Lvextend path growth pvs) = lvextend_rows state path growth pvs now given
     by (Lvreduce path amount) = lvreduce_rows state path amount now
     by (Lvremove path) = lvremove_rows state path now
     by (Lvrename vg old new) = lvrename_rows state vg old new now
     by _ = []
 
--- its first refusal
-abbrev pub refusal_of : GroupState → Line → ℕ → Option OpRefusal
-refusal_of state line now = first_refusal (rows_of state line now)
+-- its first refusal then
+abbrev pub refusal_of : GroupState → Line → ℕ → List Part → Option OpRefusal
+refusal_of state line now given = first_refusal (rows_of state line now given)
 
 -- the group, where there is one, has these too
 abbrev pub extend_by : GroupState → Option Group → List (List ℕ) → Change
 extend_by state None pvs = no_change state
 extend_by state (Some group) pvs = vgextend_change state group pvs
 
--- its change, where nothing refuses it
-abbrev pub change_of : GroupState → Line → Change
-change_of state line = by line.command
+-- its change then, where nothing refuses it
+abbrev pub change_of : GroupState → Line → ℕ → List Part → Change
+change_of state line now given = by line.command
   where
     by : Command → Change
     by (Pvcreate pv copies) = pvcreate_change state (drawn line) pv copies
     by (Vgcreate vg extent_size pvs) = vgcreate_change state (empty_group (drawn line) vg extent_size) pvs
     by (Vgextend vg pvs) = extend_by state state.group pvs
     by (Vgrename vg new) = vgrename_change state new
+    by (Lvcreate new) = lvcreate_change state (drawn line) new now given
+    by (Lvextend path growth pvs) = lvextend_change state path.lv given
     by (Lvreduce path amount) = lvreduce_change state path.lv amount
     by (Lvremove path) = lvremove_change state path.lv
     by (Lvrename vg old new) = lvrename_change state old new
@@ -78,3 +98,9 @@ change_of state line = by line.command
 -- the change is this one, where no row refuses, or the first refusal of the rows is answered
 abbrev pub Plans : List (Option OpRefusal) → Change → Result Change PlanRefusal → Type 0
 Plans rows wanted result = MatchResult result (λ change. (first_refusal rows ≡ None) × (change ≡ wanted)) (IsRefusedBy (first_refusal rows))
+
+-- so with some parts that may be taken, where a line asks for extents, and with none where it doesn't
+abbrev pub PlansWith : Option Asking → (List Part → List (Option OpRefusal)) → (List Part → Change) → Result Change PlanRefusal → Type 0
+PlansWith None rows wanted result = Plans (rows []) (wanted []) result
+PlansWith (Some asking) rows wanted (Err NoMemory) = Unit {0}
+PlansWith (Some asking) rows wanted result = (given : List Part) × Takes (Some asking) given × Plans (rows given) (wanted given) result

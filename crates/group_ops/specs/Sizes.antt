@@ -1,7 +1,9 @@
 -- How many extents a volume is to have.
-use Rattle.std.specs.Prelude.{◌≤◌, ◌<◌, ℕ, ◌^◌}
+use Rattle.std.specs.Prelude.{◌≤◌, ◌<◌, ℕ, ◌-◌, ◌^◌}
 use Rattle.lvm_script.specs.declared.amount.Amount.{Amount}
 use Rattle.lvm_script.specs.declared.amount.Amount.TheVariants.{Extents, Sectors}
+use Rattle.lvm_script.specs.declared.amount.Growth.{Growth}
+use Rattle.lvm_script.specs.declared.amount.Growth.TheVariants.{By, To}
 use Rattle.group_edits.specs.ShortenedVolume.{parts_of}
 
 -- an amount in extents of so many sectors, a size rounded up to whole ones
@@ -9,7 +11,17 @@ abbrev pub extents_for : ℕ → Amount → ℕ
 extents_for extent_size (Extents count) = count
 extents_for extent_size (Sectors count) = parts_of count extent_size
 
+-- how many extents more than it has a volume is to have
+abbrev pub growth_for : ℕ → ℕ → Growth → ℕ
+growth_for extent_size has (To amount) = extents_for extent_size amount - has
+growth_for extent_size has (By amount) = extents_for extent_size amount
+
 -- an amount as words have it: an extent or more that fit 64 bits, or a sector or more, below 2^48
 abbrev pub IsAmount : Amount → Type 0
 IsAmount (Extents count) = (1 ≤ count) × (count < 2 ^ 64)
 IsAmount (Sectors count) = (1 ≤ count) × (count < 2 ^ 48)
+
+-- a growth as words have it
+abbrev pub IsGrowth : Growth → Type 0
+IsGrowth (To amount) = IsAmount amount
+IsGrowth (By amount) = IsAmount amount

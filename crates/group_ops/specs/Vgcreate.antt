@@ -43,7 +43,7 @@ create_rows state base all =
     used_row [] all
     ∷ area_row state.areas (disks_added all)
     ∷ small_row base.extent_size all
-    ∷ many_row 0 (length all)
+    ∷ many_row 64 0 (length all)
     ∷ refused_if (stands_on_disk base.id state.disks) (IdTaken base.id)
     ∷ []
 

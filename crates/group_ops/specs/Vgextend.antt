@@ -30,7 +30,7 @@ extend_rows state group all =
     used_row state.disk_of all
     ∷ area_row state.areas (state.disk_of ++ disks_added all)
     ∷ small_row group.extent_size all
-    ∷ many_row group.max_pv (length group.pvs + length all)
+    ∷ many_row 64 group.max_pv (length group.pvs + length all)
     ∷ seqno_row group
     ∷ other_id_row group all
     ∷ []

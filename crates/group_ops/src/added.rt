@@ -1,7 +1,7 @@
 //! The physical volumes that a line adds to a group.
 ghost use Rattle.std.specs.Prelude.{◌≡◌, ◌≤◌, ◌^◌, IfOk, MatchResult, None};
 ghost use Rattle.group_ops.specs.Added.{IsAdded, added_named, added_of, added_on, data_end, data_start, pv_of};
-ghost use Rattle.group_ops.specs.Judging.{IsRefusedBy, is_small, need_of, unknown_row};
+ghost use Rattle.group_ops.specs.Judging.{IsRefusedBy, Judges, is_small, need_of, unknown_row};
 ghost use Rattle.group_ops.specs.State.{IsState};
 
 use crate::copied::copied_text;
@@ -107,6 +107,23 @@ pub(crate) fn find_all_added(
         }
     }
     Ok(all)
+}
+
+/// Each of these names is that of a disk that holds a physical volume.
+///
+/// # Errors
+///
+/// Else `UnknownPv` for the first that isn't; `NoMemory` where memory is wanting.
+pub(crate) fn judge_known(
+    alloc: Global,
+    state: &GroupState,
+    names: &[Text],
+) -> Result<(), PlanRefusal>
+    requires { IsState state.now }
+    ensures { Judges result (unknown_row state.now names.now) }
+{
+    let _all = find_all_added(alloc, state, names)?;
+    Ok(())
 }
 
 // The physical volume on the disk with this name, where one has it and holds one.

@@ -4,13 +4,13 @@ ghost use Rattle.lvm_script.specs.declared.op_refusal.OpRefusal.TheVariants.{Not
 ghost use Rattle.mda_ring.specs.Areas.{CanTake};
 ghost use Rattle.scan_rules.specs.Decision.{same_bytes};
 ghost use Rattle.group_ops.specs.Judging.{IsRefusedBy, Judges, first_refusal, refused_if};
-ghost use Rattle.group_ops.specs.Committing.{length_row, named_rows, seqno_row, version_change};
+ghost use Rattle.group_ops.specs.Committing.{length_row, named_rows, seqno_row, version_change, zeroing_change};
 ghost use Rattle.group_ops.specs.Planning.{Plans};
 
 use crate::copied::{copied_disks, copied_text};
 use crate::judging::judge_text;
 use crate::new_group::text_size;
-use crate::{Change, GroupState, Labels, PlanRefusal};
+use crate::{Change, GroupState, Labels, PlanRefusal, Spans};
 use lvm_script::OpRefusal;
 use meta_model::Group;
 use sector_base::{PvSet, Text};
@@ -121,10 +121,30 @@ pub(crate) fn commit_version(
     requires areas { All CanTake state.now.areas }
     ensures { Plans (length_row state.now next now ∷ []) (version_change state.now next) result }
 {
+    commit_zeroed(alloc, state, next, Spans::from_vec(Vec::new(alloc)), now)
+}
+
+/// The same where these sectors are to hold zeros before.
+///
+/// # Errors
+///
+/// As those of `commit_version`.
+pub(crate) fn commit_zeroed(
+    alloc: Global,
+    state: &GroupState,
+    next: Checked,
+    zero: Spans,
+    now: u64,
+) -> Result<Change, PlanRefusal>
+    requires disks { All (λ number. number < 64) state.now.disk_of }
+    requires areas { All CanTake state.now.areas }
+    ensures { Plans (length_row state.now next now ∷ []) (zeroing_change state.now zero next) result }
+{
     let size = text_size(&next, now);
     judge_text(state.areas.as_slice(), state.disk_of.as_slice(), size)?;
     Ok(Change {
         group: Some(next),
+        zero,
         labels: Labels::from_vec(Vec::new(alloc)),
         taken: PvSet::new(),
         disk_of: copied_disks(alloc, &state.disk_of)?,

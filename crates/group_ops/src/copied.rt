@@ -1,8 +1,8 @@
 //! Copies of what a line or a state has, where there is memory for them.
 ghost use Rattle.std.specs.Prelude.{◌≡◌, None, IfOk};
-ghost use Rattle.lvm_name.specs.Names.{group_name_refusal};
+ghost use Rattle.lvm_name.specs.Names.{group_name_refusal, volume_name_refusal};
 
-use lvm_name::{GroupName, NameRefusal};
+use lvm_name::{GroupName, NameRefusal, VolumeName};
 use sector_base::{PvDisks, Text};
 use std::alloc::{AllocError, Global};
 
@@ -49,6 +49,22 @@ pub(crate) fn group_name(alloc: Global, vg: &Text) -> Result<GroupName, AllocErr
     ensures { IfOk result (λ name. name ≡ vg.now) }
 {
     match GroupName::new(alloc, vg.as_bytes()) {
+        Ok(name) => Ok(name),
+        Err(NameRefusal::NoMemory) => Err(AllocError),
+        Err(_) => unreachable!(),
+    }
+}
+
+/// A logical volume's name that a user gave.
+///
+/// # Errors
+///
+/// Where memory is wanting.
+pub(crate) fn volume_name(alloc: Global, lv: &Text) -> Result<VolumeName, AllocError>
+    requires { volume_name_refusal lv.now ≡ None }
+    ensures { IfOk result (λ name. name ≡ lv.now) }
+{
+    match VolumeName::new(alloc, lv.as_bytes()) {
         Ok(name) => Ok(name),
         Err(NameRefusal::NoMemory) => Err(AllocError),
         Err(_) => unreachable!(),

@@ -17,6 +17,9 @@ use sector_base::PvSet;
 use std::alloc::Global;
 use vg_found::Disk;
 
+/// How many physical volumes a group may have.
+pub(crate) const MOST_PVS: u64 = 64;
+
 /// The set of these numbers.
 pub(crate) fn set_of(numbers: &[u32]) -> PvSet
     requires { All (λ number. number < 64) numbers.now }
@@ -90,17 +93,18 @@ pub(crate) fn judge_sizes(extent_size: u64, all: &[Added]) -> Result<(), PlanRef
     Ok(())
 }
 
-/// So many physical volumes are allowed, with this limit of the group's own, where it isn't 0.
+/// So many volumes are allowed, where any group may have at most so many, and this one no more than its own limit, where that
+/// isn't 0.
 ///
 /// # Errors
 ///
-/// `TooMany` with the limit that they exceed, 64 before the group's own.
+/// `TooMany` with the limit that they exceed, that of any group before the group's own.
 #[tactic(auto, unfolding(crate::specs::Judging::many_row))]
-pub(crate) fn judge_count(limit: u64, count: u64) -> Result<(), PlanRefusal>
-    ensures { Judges result (many_row limit count) }
+pub(crate) fn judge_count(most: u64, limit: u64, count: u64) -> Result<(), PlanRefusal>
+    ensures { Judges result (many_row most limit count) }
 {
-    if count > 64 {
-        return Err(PlanRefusal::Refused(OpRefusal::TooMany(count, 64)));
+    if count > most {
+        return Err(PlanRefusal::Refused(OpRefusal::TooMany(count, most)));
     }
     if limit != 0 && limit < count {
         return Err(PlanRefusal::Refused(OpRefusal::TooMany(count, limit)));

@@ -1,19 +1,23 @@
 //! What a command changes: each line is judged against the group in force, the disks and their metadata areas, and answered
-//! by its first refusal, or by the new group and the labels that it writes.
+//! by its first refusal, or by the new group, the labels that it writes and the sectors that are to hold zeros before.
 //!
-//! Both are functions of what was found, of the line and of the time; nothing is written here. Each command has a file of
-//! its own for its refusals, in their order, and its change.
+//! Both are functions of what was found, of the line, of the time, and of the extents that it takes; nothing is written here.
+//! Each command has a file of its own for its refusals, in their order, and its change.
 #![tactic(auto)]
 
 mod added;
+mod allocating;
 mod committing;
 mod copied;
 mod ids;
 mod judging;
 mod laws;
+mod lvcreate;
+mod lvextend;
 mod lvreduce;
 mod lvremove;
 mod lvrename;
+mod members;
 mod naming;
 mod new_group;
 mod planning;
@@ -30,7 +34,7 @@ pub use added::{Added, copied_header};
 pub use laws::{change_is_placed, whole_is_state};
 pub use planning::plan;
 pub use refusal::PlanRefusal;
-pub use state::{Change, GroupState, Labels, NewLabel};
+pub use state::{Change, GroupState, Labels, NewLabel, Spans};
 
 #[cfg(test)]
 mod tests;

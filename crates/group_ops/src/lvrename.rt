@@ -1,5 +1,5 @@
 //! lvrename(8): its refusals, in their order, and its change.
-ghost use Rattle.std.specs.Prelude.{◌≡◌, ℕ, None, Some, IfOk, option_map};
+ghost use Rattle.std.specs.Prelude.{◌≡◌, ℕ, None, Some, option_map};
 ghost use Rattle.lvm_name.specs.Names.{volume_name_refusal};
 ghost use Rattle.meta_model.specs.declared.lv.Lv.{Lv};
 ghost use Rattle.group_edits.specs.RenamedVolume.{renamed_volume};
@@ -10,15 +10,14 @@ ghost use Rattle.group_ops.specs.Planning.{Plans};
 ghost use Rattle.group_ops.specs.State.{IsState};
 
 use crate::committing::{commit_version, judge_named, judge_seqno, unknown_group};
-use crate::copied::copied_text;
+use crate::copied::{copied_text, volume_name};
 use crate::judging::judge_areas;
 use crate::volumes::{judge_lock, judge_name};
 use crate::{Change, GroupState, PlanRefusal};
 use group_edits::{find_visible, renamed_volume};
-use lvm_name::{NameRefusal, VolumeName};
 use lvm_script::OpRefusal;
 use sector_base::Text;
-use std::alloc::{AllocError, Global};
+use std::alloc::Global;
 use vg_check::Checked;
 
 /// The change of an lvrename of the volume of the old name in the group of this name.
@@ -87,23 +86,11 @@ fn rename_visible(
     ensures { (lv : Lv) → Plans (rename_lv_rows state.now old.now new.now now group.now (number, lv)) (version_change state.now (renamed_volume old.now new.now group.now)) result }
 {
     let found = group.group();
-    let name = given_name(alloc, new)?;
+    let name = volume_name(alloc, new)?;
     judge_name(alloc, found, &name)?;
     judge_lock(alloc, found, old, number)?;
     judge_areas(state.areas.as_slice(), state.disk_of.as_slice())?;
     judge_seqno(found)?;
     let next = renamed_volume(alloc, group, old, &name)?;
     commit_version(alloc, state, next, now)
-}
-
-// The name that a user gave.
-fn given_name(alloc: Global, name: &Text) -> Result<VolumeName, AllocError>
-    requires { volume_name_refusal name.now ≡ None }
-    ensures { IfOk result (λ own. own ≡ name.now) }
-{
-    match VolumeName::new(alloc, name.as_bytes()) {
-        Ok(own) => Ok(own),
-        Err(NameRefusal::NoMemory) => Err(AllocError),
-        Err(_) => unreachable!(),
-    }
 }

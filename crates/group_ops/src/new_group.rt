@@ -10,7 +10,7 @@ ghost use Rattle.group_ops.specs.Planning.{Plans};
 
 use crate::judging::{judge_text, set_of};
 use crate::naming::free_name;
-use crate::{Added, Change, GroupState, Labels, NewLabel, PlanRefusal};
+use crate::{Added, Change, GroupState, Labels, NewLabel, PlanRefusal, Spans};
 use meta_model::{Group, LvTable, PushRefusal, PvTable};
 use meta_print::printed_len;
 use pv_header::PvHeader;
@@ -47,6 +47,7 @@ pub(crate) fn commit(
     let taken = disks_with(alloc, &[], &all)?;
     Ok(Change {
         group: Some(group),
+        zero: Spans::from_vec(Vec::new(alloc)),
         labels: labels_of(alloc, all)?,
         taken: set_of(taken.as_slice()),
         disk_of,

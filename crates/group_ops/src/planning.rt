@@ -1,9 +1,12 @@
 //! Judging a line.
-ghost use Rattle.std.specs.Prelude.{◌≡◌, ◌<◌, ◌^◌, [], IsSomeAnd, unwrap_or};
+ghost use Rattle.std.specs.Prelude.{◌≡◌, ◌<◌, ◌^◌, [], IfOk, IsSomeAnd, unwrap_or};
 ghost use Rattle.lvm_id.specs.LvmId.{IsId};
-ghost use Rattle.group_ops.specs.Planning.{IsPlanned, Plans, change_of, rows_of};
+ghost use Rattle.group_ops.specs.Planning.{IsPlanned, PlansWith, asks_of, change_of, rows_of};
 ghost use Rattle.group_ops.specs.State.{IsState};
+ghost use Rattle.group_ops.specs.Zeroing.{AreWithin};
 
+use crate::lvcreate::plan_lvcreate;
+use crate::lvextend::plan_lvextend;
 use crate::lvreduce::plan_lvreduce;
 use crate::lvremove::plan_lvremove;
 use crate::lvrename::plan_lvrename;
@@ -26,7 +29,8 @@ pub fn plan(alloc: Global, state: &GroupState, line: &Line, now: u64) -> Result<
     requires state { IsState state.now }
     requires planned { IsPlanned line.now.id line.now.command }
     requires time { now < 2 ^ 48 }
-    ensures { Plans (rows_of state.now line.now now) (change_of state.now line.now) result }
+    ensures plans { PlansWith (asks_of state.now line.now) (rows_of state.now line.now now) (change_of state.now line.now now) result }
+    ensures zeros { IfOk result (λ change. AreWithin state.now.disks change.zero) }
 {
     match &line.command {
         Command::Pvcreate {
@@ -48,6 +52,10 @@ pub fn plan(alloc: Global, state: &GroupState, line: &Line, now: u64) -> Result<
         ),
         Command::Vgextend { vg, pvs } => plan_vgextend(alloc, state, vg, pvs.as_slice(), now),
         Command::Vgrename { vg, new } => plan_vgrename(alloc, state, vg, new, now),
+        Command::Lvcreate(new) => plan_lvcreate(alloc, state, &drawn(line.id), new, now),
+        Command::Lvextend { path, growth, pvs } => {
+            plan_lvextend(alloc, state, path, *growth, pvs.as_slice(), now)
+        }
         Command::Lvreduce { path, amount } => plan_lvreduce(alloc, state, path, *amount, now),
         Command::Lvremove { path } => plan_lvremove(alloc, state, path, now),
         Command::Lvrename { vg, old, new } => plan_lvrename(alloc, state, vg, old, new, now),

@@ -8,7 +8,7 @@ ghost use Rattle.group_ops.specs.State.{IsState};
 use crate::copied::{copied_disks, copied_text};
 use crate::ids::has_id;
 use crate::judging::{set_of, stands_on_disk};
-use crate::{Change, GroupState, Labels, NewLabel, PlanRefusal};
+use crate::{Change, GroupState, Labels, NewLabel, PlanRefusal, Spans};
 use disk_contents::PvFound;
 use lvm_id::LvmId;
 use lvm_script::OpRefusal;
@@ -50,6 +50,7 @@ pub(crate) fn plan_pvcreate(
     judge_disk(alloc, state, id, name, number, disk)?;
     Ok(Change {
         group: None,
+        zero: Spans::from_vec(Vec::new(alloc)),
         labels: new_labels(alloc, id, copies, number, disk)?,
         taken: PvSet::new(),
         disk_of: copied_disks(alloc, &state.disk_of)?,

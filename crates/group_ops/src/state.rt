@@ -2,7 +2,7 @@
 use lvm_script::DiskNames;
 use mda_ring::Areas;
 use pv_header::PvHeader;
-use sector_base::{ItemList, PvDisks, PvSet};
+use sector_base::{ItemList, PvDisks, PvSet, Span};
 use vg_check::Checked;
 use vg_found::DiskTable;
 
@@ -32,11 +32,16 @@ pub struct NewLabel {
 /// Label sectors. Contracts see the list of them.
 pub type Labels = ItemList<NewLabel>;
 
+/// Spans of sectors. Contracts see the list of them.
+pub type Spans = ItemList<Span>;
+
 /// What a line changes.
 #[derive(Debug, Drop)]
 pub struct Change {
     /// The group to commit; None where nothing is committed.
     pub group: Option<Checked>,
+    /// The sectors that are to hold zeros before the commit.
+    pub zero: Spans,
     /// The label sectors to be written.
     pub labels: Labels,
     /// The disks that join the group.

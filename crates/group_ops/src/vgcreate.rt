@@ -11,7 +11,7 @@ ghost use Rattle.group_ops.specs.Vgcreate.{IsEmptyGroup, create_rows, empty_grou
 
 use crate::added::find_all_added;
 use crate::copied::{copied_bytes, group_name};
-use crate::judging::{judge_areas, judge_count, judge_sizes, judge_used, stands_on_disk};
+use crate::judging::{MOST_PVS, judge_areas, judge_count, judge_sizes, judge_used, stands_on_disk};
 use crate::new_group::{commit, disks_with};
 use crate::{Added, Change, GroupState, PlanRefusal};
 use lvm_id::LvmId;
@@ -111,7 +111,7 @@ fn judge_added(
     let disks = disks_with(alloc, &[], all)?;
     judge_areas(state.areas.as_slice(), disks.as_slice())?;
     judge_sizes(base.extent_size, all)?;
-    judge_count(0, all.len() as u64)?;
+    judge_count(MOST_PVS, 0, all.len() as u64)?;
     judge_id(&base.id, state)
 }
 

@@ -9,7 +9,7 @@ ghost use Rattle.group_ops.specs.Vgextend.{extend_rows, found_rows, group_rows, 
 use crate::added::find_all_added;
 use crate::committing::{judge_name, judge_resizeable, judge_seqno, judge_write, unknown_group};
 use crate::ids::has_other_id;
-use crate::judging::{judge_areas, judge_count, judge_sizes, judge_used};
+use crate::judging::{MOST_PVS, judge_areas, judge_count, judge_sizes, judge_used};
 use crate::new_group::{commit, disks_with};
 use crate::{Added, Change, GroupState, PlanRefusal};
 use group_edits::next_version;
@@ -94,7 +94,7 @@ fn judge_added(
     judge_areas(state.areas.as_slice(), disks.as_slice())?;
     judge_sizes(group.extent_size, all)?;
     let count = group.pvs.len() + all.len();
-    judge_count(group.max_pv, count as u64)?;
+    judge_count(MOST_PVS, group.max_pv, count as u64)?;
     judge_seqno(group)?;
     judge_ids(group, all)
 }

@@ -51,6 +51,7 @@ state entry sectors disk_of is_a is_b least most = record {
   areas = refl;
   disk_of = tt;
   there = tt;
+  placed = tt;
 }
 
 -- the same of lists that were made

@@ -1,0 +1,69 @@
+-- The lines that zero no sector.
+use Rattle.std.proofs.Common.{◌≡◌, ℕ, false, List, [], Option, Some, None, Result, Ok, Err, refl, sym, subst}
+use Rattle.std.specs.Prelude.{IfOk}
+use Rattle.std.proofs.lemmas.Bool.{true≢false}
+use Rattle.extent_alloc.specs.declared.part.Part.{Part}
+use Rattle.lvm_script.specs.declared.command.Command.{Command}
+use Rattle.lvm_script.specs.declared.command.Command.TheVariants.{Lvcreate, Lvextend, Lvreduce, Lvremove, Lvrename, Pvcreate, Vgcreate, Vgextend, Vgrename}
+use Rattle.lvm_script.specs.declared.amount.Growth.{Growth}
+use Rattle.lvm_script.specs.declared.command.Path.{Path}
+use Rattle.lvm_script.specs.declared.line.Line.{Line}
+use Rattle.lvm_script.specs.declared.op_refusal.OpRefusal.{OpRefusal}
+use Rattle.meta_model.specs.declared.group.Group.{Group}
+use Rattle.vg_found.specs.declared.disk.Disk.{Disk}
+use Rattle.group_ops.proofs.NextVersions.{no_zero, zeroes}
+use Rattle.group_ops.specs.Allocating.{Asking}
+use Rattle.group_ops.specs.Lvextend.{lvextend_asks, lvextend_change, lvextend_rows}
+use Rattle.group_ops.specs.Planning.{IsPlanned, Plans, PlansWith, change_of, extend_by, rows_of}
+use Rattle.group_ops.specs.Zeroing.{AreWithin}
+use Rattle.group_ops.specs.declared.refusal.PlanRefusal.{PlanRefusal}
+use Rattle.group_ops.specs.declared.state.Change.{Change}
+use Rattle.group_ops.specs.declared.state.GroupState.{GroupState}
+
+pub extend_none : (state : GroupState) (pvs : List (List ℕ)) (o : Option Group) → (extend_by state o pvs).zero ≡ []
+extend_none state pvs None = refl
+extend_none state pvs (Some group) = refl
+
+-- each command that can be planned, but lvcreate
+pub none_zeroed : (state : GroupState) (number : ℕ) (id : Option (List ℕ)) (command : Command) (now : ℕ) (given : List Part) → IsPlanned id command → zeroes command ≡ false → (change_of state (record { number = number; id = id; command = command }) now given).zero ≡ []
+none_zeroed state number id (Pvcreate pv copies) now given planned other = refl
+none_zeroed state number id (Vgcreate vg extent_size pvs) now given planned other = refl
+none_zeroed state number id (Vgextend vg pvs) now given planned other = extend_none state pvs state.group
+none_zeroed state number id (Vgrename vg new) now given planned other = no_zero state number id (Vgrename vg new) now given refl refl
+none_zeroed state number id (Lvcreate new) now given planned other = absurd (true≢false other)
+none_zeroed state number id (Lvextend path growth pvs) now given planned other = no_zero state number id (Lvextend path growth pvs) now given refl refl
+none_zeroed state number id (Lvreduce path amount) now given planned other = no_zero state number id (Lvreduce path amount) now given refl refl
+none_zeroed state number id (Lvremove path) now given planned other = no_zero state number id (Lvremove path) now given refl refl
+none_zeroed state number id (Lvrename vg old new) now given planned other = no_zero state number id (Lvrename vg old new) now given refl refl
+none_zeroed state number id command now given planned other = absurd planned
+
+-- ---- plans
+
+-- of a change whose zeros lie in the disks
+pub plans_within : (disks : List Disk) (rows : List (Option OpRefusal)) (wanted : Change) (result : Result Change PlanRefusal) → Plans rows wanted result → AreWithin disks wanted.zero → IfOk result (λ change. AreWithin disks change.zero)
+plans_within disks rows wanted (Ok change) plans within = subst (λ (c : Change). AreWithin disks c.zero) (sym plans.1) within
+plans_within disks rows wanted (Err refusal) plans within = tt
+
+-- and of one that zeroes nothing
+plans_none : (disks : List Disk) (rows : List (Option OpRefusal)) (wanted : Change) (result : Result Change PlanRefusal) → Plans rows wanted result → wanted.zero ≡ [] → IfOk result (λ change. AreWithin disks change.zero)
+plans_none disks rows wanted result plans none = plans_within disks rows wanted result plans (subst (AreWithin disks) (sym none) tt)
+
+-- the line of a command that draws no id
+abbrev undrawn : Command → Line
+undrawn command = record { number = 0; id = None; command = command }
+
+-- so of a command that takes no extents, and of one that takes some
+pub without_zeros : (state : GroupState) (command : Command) (now : ℕ) (result : Result Change PlanRefusal) → (change_of state (undrawn command) now []).zero ≡ [] → Plans (rows_of state (undrawn command) now []) (change_of state (undrawn command) now []) result
+    → IfOk result (λ change. AreWithin state.disks change.zero)
+without_zeros state command now result none plans = plans_none state.disks (rows_of state (undrawn command) now []) (change_of state (undrawn command) now []) result plans none
+
+module _ (disks : List Disk) (rows : List Part → List (Option OpRefusal)) (wanted : List Part → Change) (none : (given : List Part) → (wanted given).zero ≡ []) where
+  plans_none_with : (asking : Option Asking) (result : Result Change PlanRefusal) → PlansWith asking rows wanted result → IfOk result (λ change. AreWithin disks change.zero)
+  plans_none_with None result plans = plans_none disks (rows []) (wanted []) result plans (none [])
+  plans_none_with (Some asking) (Ok change) plans = plans_none disks (rows plans.0) (wanted plans.0) (Ok change) plans.2 (none plans.0)
+  plans_none_with (Some asking) (Err refusal) plans = tt
+
+pub extends_without_zeros : (state : GroupState) (path : Path) (growth : Growth) (pvs : List (List ℕ)) (now : ℕ) (result : Result Change PlanRefusal) → PlansWith (lvextend_asks state path growth pvs) (lvextend_rows state path growth pvs now) (lvextend_change state path.lv) result
+    → IfOk result (λ change. AreWithin state.disks change.zero)
+extends_without_zeros state path growth pvs now result plans =
+    plans_none_with state.disks (lvextend_rows state path growth pvs now) (lvextend_change state path.lv) (λ given. no_zero state 0 None (Lvextend path growth pvs) now given refl refl) (lvextend_asks state path growth pvs) result plans
