@@ -1,5 +1,5 @@
 -- The lines that commit a group: vgcreate where none was found, vgextend and those of a next version where one was.
-use Rattle.std.proofs.Common.{◌≡◌, ◌≤◌, ℕ, ◌%◌, ◌^◌, List, [], ◌∷◌, ◌++◌, map, Option, Some, None, refl, sym, ap, subst, ◌∙◌, arith}
+use Rattle.std.proofs.Common.{◌≡◌, ◌≤◌, ℕ, ◌<◌, ◌%◌, ◌^◌, List, [], ◌∷◌, ◌++◌, map, Option, Some, None, refl, sym, ap, subst, ◌∙◌, arith}
 use Rattle.std.specs.Prelude.{IfSome, IsSomeAnd, unwrap_or}
 use Rattle.std.specs.List.{AllByRecursion as Each}
 use Rattle.std.specs.Option.{option_map_or, option_or}
@@ -34,6 +34,7 @@ use Rattle.group_ops.specs.declared.state.GroupState.{GroupState}
 use Rattle.group_ops.proofs.Rows.{none_holds}
 use Rattle.image_scans.proofs.Again.{all_there}
 use Rattle.image_scans.proofs.CommitScans.{IsNext}
+use Rattle.sector_base.specs.declared.spans.Span.{Span}
 use Rattle.image_scans.proofs.MadeGroup.{MakesGroup}
 use Rattle.image_scans.proofs.Makes.{makes_group}
 use Rattle.image_scans.proofs.SettledBase.{IsSettledScan, copy_tree, settled_none, settled_some}
@@ -90,7 +91,7 @@ vgcreate_commits found names is id vg extent_size pvs now planned none =
 -- ---- vgextend
 
 -- the group that was found keeps the rules, and a tree stands for it
-old_whole : (readings : List Reading) (found : Found) → IsSettledScan readings found → (group : Group) → found.group ≡ Some group → IsAccepted group × HasTree group
+pub old_whole : (readings : List Reading) (found : Found) → IsSettledScan readings found → (group : Group) → found.group ≡ Some group → IsAccepted group × HasTree group
 old_whole readings found (settled_none nothing none given) group is = absurd (let e : ◌≡◌ {A = Option Group} None (Some group) = sym none ∙ is in cc)
 old_whole readings found (settled_some held parts some copy given all) group is =
     let same : held.group ≡ group = same_Some held.group group (sym some ∙ is) in
@@ -127,19 +128,37 @@ vgextend_commits found names shape whole is readings settled vg pvs now group th
 
 -- ---- the next version, on the disks of the group
 
-pub next_commits : (found : Found) (names : List (List ℕ)) → HasShape found → FoundIsWhole found → IsState (state_in found names) → (readings : List Reading) → IsSettledScan readings found → (change : Change) (now : ℕ)
+-- whatever sectors are to hold zeros before
+with_zeros : (state : GroupState) (change : Change) (spans : List Span) (group : Group) → MakesGroup state change group → MakesGroup state (record change { zero = spans }) group
+with_zeros state change spans group m = record {
+  made = m.made;
+  there = m.there;
+  whole = m.whole;
+  first = m.first;
+  all = m.all;
+  labels_xl = m.labels_xl;
+  disk_of_xl = m.disk_of_xl;
+  on = m.on;
+  listed = m.listed;
+  disks_xl = m.disks_xl;
+}
+
+pub next_commits : (found : Found) (names : List (List ℕ)) → HasShape found → FoundIsWhole found → IsState (state_in found names) → (readings : List Reading) → IsSettledScan readings found → (change : Change) (now : ℕ) → now < 2 ^ 48
     → CommitsNext (state_in found names) change now → Commits found (state_in found names) change
 unfolding extended
-next_commits found names shape whole is readings settled change now made =
+next_commits found names shape whole is readings settled change now time made =
     let state : GroupState = state_in found names in
     let there : found.group ≡ Some made.old = made.there in
     let listed : found.disk_of ≡ disks_of made.old found.disks = subst (λ (o : Option Group). IfSome o (λ g. found.disk_of ≡ disks_of g found.disks)) there shape.disk_of in
     let old = old_whole readings found settled made.old there in
     let pvs : disks_of made.next found.disks ≡ disks_of made.old found.disks = ap (λ (l : List (List ℕ × Pv)). map (λ (pv : List ℕ × Pv). disk_with found.disks pv.1.id) l) made.same_pvs in
     let present : missing_of (shapes found.disks) made.next.pvs ≡ [] = ap (missing_of (shapes found.disks)) made.same_pvs ∙ none_missing_of found shape whole made.old there in
-    subst (Commits found state) (version_is state made.next ∙ sym made.change_xl)
+    let makes : MakesGroup state (change_with made.next found.disk_of (added_of state [])) (extended made.next (added_of state [])) =
+    makes_group state is made.next found.disk_of [] (record { disks_xl = pvs ∙ sym listed; there = all_there (shapes found.disks) made.next.pvs present }) (made.whole is old.0 old.1 time)
+    in
+    subst (Commits found state) (version_is state made.zero made.next ∙ sym made.change_xl)
     (record {
       group = extended made.next (added_of state []);
-      makes = makes_group state is made.next found.disk_of [] (record { disks_xl = pvs ∙ sym listed; there = all_there (shapes found.disks) made.next.pvs present }) (made.whole old.0 old.1);
+      makes = with_zeros state (change_with made.next found.disk_of (added_of state [])) made.zero (extended made.next (added_of state [])) makes;
       next = subst (λ (o : Option Group). IsNext o made.next) (sym there) (sym made.same_id, omega (arith, made.next_seqno));
     })

@@ -7,6 +7,7 @@ use Rattle.conf_text.specs.Printed.{printed}
 use Rattle.disk_batch.specs.InTurn.{HasFirstBatches, Put, with_batches}
 use Rattle.disk_batch.proofs.InTurn.{of_submitted}
 use Rattle.disk_model.specs.Steps.{Image}
+use Rattle.extent_alloc.specs.declared.part.Part.{Part}
 use Rattle.lvm_script.specs.declared.line.Line.{Line}
 use Rattle.mda_header.specs.declared.header.Locn.{Locn}
 use Rattle.mda_ring.specs.declared.area.Area.{Area}
@@ -56,21 +57,21 @@ all_written batches base = record {
   either = λ pv sector. inl (sym (ap (λ (l : List (List Put)). with_batches l base pv sector) (take_all (length batches) batches (omega arith))));
 }
 
-module _ (base : Image) (sizes : List ℕ) (found : Found) (names : List (List ℕ)) (line : Line) (now : ℕ) (p : CanCarryOut base sizes found names line now) where
+module _ (base : Image) (sizes : List ℕ) (found : Found) (names : List (List ℕ)) (line : Line) (now : ℕ) (given : List Part) (p : CanCarryOut base sizes found names line now given) where
   abbrev state : GroupState
   state = state_in found names
 
   abbrev change : Change
-  change = change_of state line
+  change = change_of state line now given
 
   pub is_state : IsState state
   is_state = whole_is_state found names p.shape p.whole p.named p.names_are
 
   pub can : CanMake state.areas change now
-  can = can_make state line now is_state p.planned p.passes
+  can = can_make state line now given is_state p.planned p.takes p.passes
 
   pub lies : LiesOn (sizes_of state.disks) state.areas change
-  lies = lies_on state line now is_state p.planned p.passes
+  lies = lies_on state line now given is_state p.planned p.takes p.passes
 
   pub settled : IsSettledScan p.scan.readings found
   settled = settled_scan base found.unread found.disks p.scan.readings found p.scan.are.each p.no_stale p.no_strays p.scan.answer
@@ -102,12 +103,12 @@ module _ (base : Image) (sizes : List ℕ) (found : Found) (names : List (List �
     copy = let early : now < 2 ^ 48 = p.time in printed_copy group now (omega (arith, early)) makes.whole.tree makes.whole.accepted
 
     placed : first_misplaced group (shapes found.disks) ≡ None
-    placed = subst (λ (o : Option Group). ArePlaced state.disks o) makes.made (change_is_placed state line is_state p.shape.placed)
+    placed = subst (λ (o : Option Group). ArePlaced state.disks o) makes.made (change_is_placed state line now given is_state p.shape.placed)
 
     ends : All (HasLabel (with_batches (batches_with (Some group)) base)) change.labels
     ends = subst (λ (g : Option Group). All (HasLabel (with_batches (batches_with g) base)) change.labels) makes.made (p.keeps.found base shown).labels
 
-    module _ (image : Image) (h : HasFirstBatches (batches_of state line now) base image) where
+    module _ (image : Image) (h : HasFirstBatches (batches_of state line now given) base image) where
       front : HasFirstBatches (batches_with (Some group)) base image
       front = subst (λ (g : Option Group). HasFirstBatches (batches_with g) base image) makes.made h
 
@@ -140,9 +141,9 @@ module _ (base : Image) (sizes : List ℕ) (found : Found) (names : List (List �
           new_found image sizes found p.shape p.whole p.scan.readings p.scan.are.sizes_xl headers settled group text copy next placed makes.there change.disk_of makes.disks_xl again held
 
     -- until the headers are published each disk reads as it did
-    module _ (image : Image) (n : ℕ) (less : n < length (batches_of state line now)) (h : HasFirstBatches (take n (batches_of state line now)) base image) where
+    module _ (image : Image) (n : ℕ) (less : n < length (batches_of state line now given)) (h : HasFirstBatches (take n (batches_of state line now given)) base image) where
       unpublished : HasFirstBatches (batches_with (Some group)) base image
-      unpublished = subst (λ (g : Option Group). HasFirstBatches (batches_with g) base image) makes.made (of_submitted n (batches_of state line now) base image h)
+      unpublished = subst (λ (g : Option Group). HasFirstBatches (batches_with g) base image) makes.made (of_submitted n (batches_of state line now given) base image h)
 
       stays : All (ShowsBy (old_reading (text_in base)) image) state.areas
       stays = p.keeps.unpublished base image n group shown makes.made less h
@@ -162,7 +163,7 @@ module _ (base : Image) (sizes : List ℕ) (found : Found) (names : List (List �
           same_version image sizes found p.whole p.scan.readings p.scan.answer as_it_was.there as_it_was.read (as_it_was.sizes_xl ∙ p.scan.are.sizes_xl) as_it_was.are
           (ap decide_scan (as_before new p.scan.readings as_it_was.read as_it_was.again)) as_it_was.ids
 
-    pub at_the_end : FindsVersion sizes (with_batches (batches_of state line now) base) none_out (Some (version_of group change))
+    pub at_the_end : FindsVersion sizes (with_batches (batches_of state line now given) base) none_out (Some (version_of group change))
     at_the_end =
-        let image : Image = with_batches (batches_of state line now) base in
-        with_text image (all_written (batches_of state line now) base) (subst (λ (g : Option Group). HoldsAfter g now change state.areas image) makes.made (p.keeps.found base shown).areas)
+        let image : Image = with_batches (batches_of state line now given) base in
+        with_text image (all_written (batches_of state line now given) base) (subst (λ (g : Option Group). HoldsAfter g now change state.areas image) makes.made (p.keeps.found base shown).areas)

@@ -1,5 +1,8 @@
 -- What stands in a sector of an image on the way of some batches: what the base has there, or what one of them writes.
-use Rattle.std.proofs.Common.{◌≡◌, ◌⊎◌, ℕ, zero, suc, List, [], ◌∷◌, ◌++◌, take, inl, inr, ⊎_elim, refl, sym, subst, ◌∙◌}
+use Rattle.std.proofs.Common.{◌≡◌, ◌⊎◌, ℕ, zero, suc, true, List, [], ◌∷◌, ◌++◌, map, take, inl, inr, ⊎_elim, refl, sym, subst, ◌∙◌}
+use Rattle.std.specs.List.{list_any}
+use Rattle.std.proofs.lemmas.Bool.{or_left, or_right}
+use Rattle.sector_base.specs.Spans.{covers}
 use Rattle.disk_model.specs.Steps.{Image}
 use Rattle.disk_batch.specs.InTurn.{HasFirstBatches, Put, with_batches, with_writes}
 use Rattle.disk_batch.specs.Writes.{IsWrittenBy}
@@ -50,3 +53,9 @@ pub any_if : (puts : List Put) (pv sector : ℕ) (value : List ℕ) → AnyWrite
 any_if [] pv sector value h = absurd h
 any_if (put ∷ puts) pv sector value (inl here) = here
 any_if (put ∷ puts) pv sector value (inr later) = absurd later
+
+-- where each of a list has one write, a sector that is written is covered by the write of one of them
+pub written_of : (pv sector : ℕ) {X : Type 0} (put : X → Put) (xs : List X) (value : List ℕ) → IsWrittenBy (map put xs) pv sector value → list_any (λ (x : X). covers (put x).0 pv sector) xs ≡ true
+written_of pv sector put [] value by = absurd by
+written_of pv sector put (x ∷ xs) value (inl here) = or_left (covers (put x).0 pv sector) (list_any (λ y. covers (put y).0 pv sector) xs) here.0
+written_of pv sector put (x ∷ xs) value (inr later) = or_right (covers (put x).0 pv sector) (list_any (λ y. covers (put y).0 pv sector) xs) (written_of pv sector put xs value later)

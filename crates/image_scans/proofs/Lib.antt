@@ -20,6 +20,8 @@ pub mod CommitLine
 pub mod CommitCommands
 pub mod Quiet
 pub mod Placed
+pub mod NewPlaces
+pub mod NewVolume
 pub mod Lines
 pub mod NoWrites
 pub mod OneDisk
@@ -27,5 +29,8 @@ pub mod QuietVersion
 pub mod NewPv
 pub mod NewPvEnd
 pub mod LineScans
+pub mod BesideAreas
+pub mod BesideScan
+pub mod Zeroes
 pub mod NoLater
 pub mod MetAreas

@@ -1,12 +1,13 @@
 -- What a line makes: a version of the group, a new physical volume, or nothing.
-use Rattle.std.proofs.Common.{◌≡◌, ◌≤◌, ℕ, ◌||◌, nat_lt, true, false, List, [], ◌∷◌, Option, Some, None, refl}
+use Rattle.std.proofs.Common.{◌≡◌, ◌≤◌, ◌<◌, ℕ, ◌^◌, ◌||◌, nat_lt, true, false, List, [], ◌∷◌, Option, Some, None, refl}
 use Rattle.std.specs.Prelude.{slice_get, unwrap_or}
 use Rattle.std.specs.Option.{option_map_or}
 use Rattle.std.proofs.lemmas.Bool.{ltb-false}
 use Rattle.disk_model.specs.Steps.{Image}
+use Rattle.extent_alloc.specs.declared.part.Part.{Part}
 use Rattle.lvm_script.specs.Options.{number_named}
 use Rattle.lvm_script.specs.declared.command.Command.{Command}
-use Rattle.lvm_script.specs.declared.command.Command.TheVariants.{Lvreduce, Lvremove, Lvrename, Pvcreate, Vgcreate, Vgextend, Vgrename}
+use Rattle.lvm_script.specs.declared.command.Command.TheVariants.{Lvcreate, Lvextend, Lvreduce, Lvremove, Lvrename, Pvcreate, Vgcreate, Vgextend, Vgrename}
 use Rattle.lvm_script.specs.declared.line.Line.{Line}
 use Rattle.lvm_script.specs.declared.op_refusal.OpRefusal.{OpRefusal}
 use Rattle.lvm_script.specs.declared.op_refusal.OpRefusal.TheVariants.{IdTaken, PvUsed, TooSmall, UnknownGroup, UnknownPv}
@@ -18,9 +19,10 @@ use Rattle.vg_found.specs.Shape.{HasShape}
 use Rattle.vg_found.specs.Whole.{IsWhole}
 use Rattle.group_ops.proofs.NextVersions.{commits_next, is_next}
 use Rattle.group_ops.proofs.Passed.{both_false}
+use Rattle.group_ops.specs.Allocating.{Takes}
 use Rattle.group_ops.specs.Judging.{first_refusal, stands_on_disk}
 use Rattle.group_ops.specs.Laws.{state_in}
-use Rattle.group_ops.specs.Planning.{IsPlanned, change_of, extend_by, refusal_of}
+use Rattle.group_ops.specs.Planning.{IsPlanned, asks_of, change_of, extend_by, refusal_of}
 use Rattle.group_ops.specs.Pvcreate.{disk_rows, fewest_sectors, group_has, is_listed, new_label, pvcreate_change}
 use Rattle.group_ops.specs.State.{IsState}
 use Rattle.group_ops.specs.Vgextend.{found_rows}
@@ -90,26 +92,28 @@ extend_line : (found : Found) (names : List (List ℕ)) → HasShape found → I
 extend_line found names shape whole is readings scan vg pvs now None there none = absurd cc
 extend_line found names shape whole is readings scan vg pvs now (Some group) there none = makes_version (vgextend_commits found names shape whole is readings scan vg pvs now group there none)
 
-next_line : (found : Found) (names : List (List ℕ)) → HasShape found → IsWhole found → IsState (state_in found names) → (readings : List Reading) → IsSettledScan readings found → (number : ℕ) (id : Option (List ℕ)) (command : Command) (now : ℕ)
-    → IsPlanned id command → is_next command ≡ true → refusal_of (state_in found names) (record { number = number; id = id; command = command }) now ≡ None
-    → LineMakes found (state_in found names) (change_of (state_in found names) (record { number = number; id = id; command = command }))
-next_line found names shape whole is readings scan number id command now planned next none =
+next_line : (found : Found) (names : List (List ℕ)) → HasShape found → IsWhole found → IsState (state_in found names) → (readings : List Reading) → IsSettledScan readings found → (number : ℕ) (id : Option (List ℕ)) (command : Command) (now : ℕ) (given : List Part) → now < 2 ^ 48
+    → IsPlanned id command → is_next command ≡ true → Takes (asks_of (state_in found names) (record { number = number; id = id; command = command })) given → refusal_of (state_in found names) (record { number = number; id = id; command = command }) now given ≡ None
+    → LineMakes found (state_in found names) (change_of (state_in found names) (record { number = number; id = id; command = command }) now given)
+next_line found names shape whole is readings scan number id command now given time planned next takes none =
     makes_version
-    (next_commits found names shape whole is readings scan (change_of (state_in found names) (record { number = number; id = id; command = command })) now (commits_next (state_in found names) number id command now planned next none))
+    (next_commits found names shape whole is readings scan (change_of (state_in found names) (record { number = number; id = id; command = command }) now given) now time (commits_next (state_in found names) number id command now given planned next takes none))
 
-by_command : (found : Found) (names : List (List ℕ)) → HasShape found → IsWhole found → IsState (state_in found names) → (readings : List Reading) → IsSettledScan readings found → (number : ℕ) (id : Option (List ℕ)) (command : Command) (now : ℕ)
-    → IsPlanned id command → refusal_of (state_in found names) (record { number = number; id = id; command = command }) now ≡ None
-    → LineMakes found (state_in found names) (change_of (state_in found names) (record { number = number; id = id; command = command }))
-by_command found names shape whole is readings scan number id (Pvcreate pv copies) now planned none =
+by_command : (found : Found) (names : List (List ℕ)) → HasShape found → IsWhole found → IsState (state_in found names) → (readings : List Reading) → IsSettledScan readings found → (number : ℕ) (id : Option (List ℕ)) (command : Command) (now : ℕ) (given : List Part) → now < 2 ^ 48
+    → IsPlanned id command → Takes (asks_of (state_in found names) (record { number = number; id = id; command = command })) given → refusal_of (state_in found names) (record { number = number; id = id; command = command }) now given ≡ None
+    → LineMakes found (state_in found names) (change_of (state_in found names) (record { number = number; id = id; command = command }) now given)
+by_command found names shape whole is readings scan number id (Pvcreate pv copies) now given time planned takes none =
     by_name found (state_in found names) (unwrap_or id []) pv copies (number_named names pv) none (pvcreate_change (state_in found names) (unwrap_or id []) pv copies) refl refl
-by_command found names shape whole is readings scan number id (Vgcreate vg extent_size pvs) now planned none = makes_version (vgcreate_commits found names is id vg extent_size pvs now planned none)
-by_command found names shape whole is readings scan number id (Vgextend vg pvs) now planned none = extend_line found names shape whole is readings scan vg pvs now found.group refl none
-by_command found names shape whole is readings scan number id (Vgrename vg new) now planned none = next_line found names shape whole is readings scan number id (Vgrename vg new) now planned refl none
-by_command found names shape whole is readings scan number id (Lvreduce path amount) now planned none = next_line found names shape whole is readings scan number id (Lvreduce path amount) now planned refl none
-by_command found names shape whole is readings scan number id (Lvremove path) now planned none = next_line found names shape whole is readings scan number id (Lvremove path) now planned refl none
-by_command found names shape whole is readings scan number id (Lvrename vg old new) now planned none = next_line found names shape whole is readings scan number id (Lvrename vg old new) now planned refl none
-by_command found names shape whole is readings scan number id command now planned none = absurd planned
+by_command found names shape whole is readings scan number id (Vgcreate vg extent_size pvs) now given time planned takes none = makes_version (vgcreate_commits found names is id vg extent_size pvs now planned none)
+by_command found names shape whole is readings scan number id (Vgextend vg pvs) now given time planned takes none = extend_line found names shape whole is readings scan vg pvs now found.group refl none
+by_command found names shape whole is readings scan number id (Vgrename vg new) now given time planned takes none = next_line found names shape whole is readings scan number id (Vgrename vg new) now given time planned refl takes none
+by_command found names shape whole is readings scan number id (Lvcreate new) now given time planned takes none = next_line found names shape whole is readings scan number id (Lvcreate new) now given time planned refl takes none
+by_command found names shape whole is readings scan number id (Lvextend path growth pvs) now given time planned takes none = next_line found names shape whole is readings scan number id (Lvextend path growth pvs) now given time planned refl takes none
+by_command found names shape whole is readings scan number id (Lvreduce path amount) now given time planned takes none = next_line found names shape whole is readings scan number id (Lvreduce path amount) now given time planned refl takes none
+by_command found names shape whole is readings scan number id (Lvremove path) now given time planned takes none = next_line found names shape whole is readings scan number id (Lvremove path) now given time planned refl takes none
+by_command found names shape whole is readings scan number id (Lvrename vg old new) now given time planned takes none = next_line found names shape whole is readings scan number id (Lvrename vg old new) now given time planned refl takes none
+by_command found names shape whole is readings scan number id command now given time planned takes none = absurd planned
 
-pub line_makes : (base : Image) (sizes : List ℕ) (found : Found) (names : List (List ℕ)) (line : Line) (now : ℕ) → CanCarryOut base sizes found names line now → LineMakes found (state_in found names) (change_of (state_in found names) line)
-line_makes base sizes found names line now p =
-    by_command found names p.shape p.whole (is_state base sizes found names line now p) p.scan.readings (settled base sizes found names line now p) line.number line.id line.command now p.planned p.passes
+pub line_makes : (base : Image) (sizes : List ℕ) (found : Found) (names : List (List ℕ)) (line : Line) (now : ℕ) (given : List Part) → CanCarryOut base sizes found names line now given → LineMakes found (state_in found names) (change_of (state_in found names) line now given)
+line_makes base sizes found names line now given p =
+    by_command found names p.shape p.whole (is_state base sizes found names line now given p) p.scan.readings (settled base sizes found names line now given p) line.number line.id line.command now given p.time p.planned p.takes p.passes

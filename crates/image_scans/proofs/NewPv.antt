@@ -10,6 +10,7 @@ use Rattle.std.proofs.lemmas.List.Elements.{All-append, All-cons, All-nil}
 use Rattle.disk_batch.specs.InTurn.{HasFirstBatches, Put}
 use Rattle.disk_batch.proofs.FrontBatches.{KeepsSector, front_kept}
 use Rattle.disk_model.specs.Steps.{Image}
+use Rattle.extent_alloc.specs.declared.part.Part.{Part}
 use Rattle.lvm_script.specs.declared.line.Line.{Line}
 use Rattle.meta_model.specs.declared.group.Group.{Group}
 use Rattle.meta_model.specs.declared.pv.Pv.{Pv}
@@ -73,12 +74,12 @@ each_other id [] none = tt
 each_other id (pv ∷ pvs) none =
     let parts = both_false (same_bytes pv.1.id id) (list_any (λ (p : List ℕ × Pv). same_bytes p.1.id id) pvs) none in (other_side pv.1.id id parts.0, each_other id pvs parts.1)
 
-module _ (base : Image) (sizes : List ℕ) (found : Found) (names : List (List ℕ)) (line : Line) (now : ℕ) (p : CanCarryOut base sizes found names line now) (m : MakesPv (state_in found names) (change_of (state_in found names) line)) where
+module _ (base : Image) (sizes : List ℕ) (found : Found) (names : List (List ℕ)) (line : Line) (now : ℕ) (given : List Part) (p : CanCarryOut base sizes found names line now given) (m : MakesPv (state_in found names) (change_of (state_in found names) line now given)) where
   abbrev state : GroupState
   state = state_in found names
 
   abbrev change : Change
-  change = change_of state line
+  change = change_of state line now given
 
   -- ---- what is written
 
@@ -90,7 +91,7 @@ module _ (base : Image) (sizes : List ℕ) (found : Found) (names : List (List �
       subst (All (λ (label : NewLabel). label.disk ≢ pv)) (sym m.labels_xl)
       (All-cons (λ (label : NewLabel). label.disk ≢ pv) (new_label m.id m.copies m.number m.disk) [] (λ is. other (sym is)) (All-nil (λ (label : NewLabel). label.disk ≢ pv)))
 
-  others_kept : (image : Image) → HasFirstBatches (batches_of state line now) base image → (pv : ℕ) → pv ≢ m.number → (sector : ℕ) → image pv sector ≡ base pv sector
+  others_kept : (image : Image) → HasFirstBatches (batches_of state line now given) base image → (pv : ℕ) → pv ≢ m.number → (sector : ℕ) → image pv sector ≡ base pv sector
   others_kept image h pv other sector =
       let front : HasFirstBatches batches base image =
       subst (λ (g : Option Group). HasFirstBatches (batch_if (new_area_puts g change.labels) ++ batch_if (map label_put change.labels) ++ commit_batches g now (areas_of change state.areas)) base image) m.none h
@@ -98,7 +99,7 @@ module _ (base : Image) (sizes : List ℕ) (found : Found) (names : List (List �
       front_kept batches base image pv sector
       (All-append (KeepsSector pv sector) (batch_if (flat_map area_puts change.labels) ++ batch_if (map label_put change.labels)) []
       (All-append (KeepsSector pv sector) (batch_if (flat_map area_puts change.labels)) (batch_if (map label_put change.labels))
-      (all_if (KeepsSector pv sector) (flat_map area_puts change.labels) (new_near change.labels (new_labels_are state line m.none) pv sector (inl (apart_from pv other))))
+      (all_if (KeepsSector pv sector) (flat_map area_puts change.labels) (new_near change.labels (new_labels_are state line now given m.none) pv sector (inl (apart_from pv other))))
       (all_if (KeepsSector pv sector) (map label_put change.labels) (labels_keep_other change.labels pv sector (apart_from pv other))))
       (All-nil (KeepsSector pv sector)))
       front
@@ -129,7 +130,7 @@ module _ (base : Image) (sizes : List ℕ) (found : Found) (names : List (List �
   unlisted_pv group is (Some header) has (Some own) same = ap (lists group) (sym same.0) ∙ header_unlisted group is header has
 
   pub quiet_before : (reading : Reading) → slice_get p.scan.readings m.number ≡ Some reading → IsDiskReading m.number (base m.number) m.disk reading → IsQuiet found.group reading
-  quiet_before reading there read = by (settled base sizes found names line now p)
+  quiet_before reading there read = by (settled base sizes found names line now given p)
     where
       by : IsSettledScan p.scan.readings found → IsQuiet found.group reading
       by (settled_none nothing none given) = subst (λ (o : Option Group). IsQuiet o reading) (sym none) (gives_at IsNone p.scan.readings m.number reading given there)
@@ -176,7 +177,7 @@ module _ (base : Image) (sizes : List ℕ) (found : Found) (names : List (List �
   abbrev NewAt : Image → set.FinSet nat_cmp → Disk → Type 0
   NewAt image unread own = (reading : Reading) → slice_get p.scan.readings m.number ≡ Some reading → IsDiskReading m.number (base m.number) m.disk reading → IsNewAt m.number (image m.number) unread Differs m.disk.sectors own reading
 
-  pub with_disk : (image : Image) → HasFirstBatches (batches_of state line now) base image → (unread : set.FinSet nat_cmp) (left_out : ℕ → Bool) → ((pv : ℕ) → pv < length sizes → set.contains unread pv ≡ left_out pv)
+  pub with_disk : (image : Image) → HasFirstBatches (batches_of state line now given) base image → (unread : set.FinSet nat_cmp) (left_out : ℕ → Bool) → ((pv : ℕ) → pv < length sizes → set.contains unread pv ≡ left_out pv)
       → ((pv : ℕ) → pv ≢ m.number → set.contains unread pv ≡ set.contains found.unread pv) → (own : Disk) → OtherIds found.group own → NewAt image unread own → FindsVersion sizes image left_out (version_in found)
   with_disk image h unread left_out left sets own others new =
       let plain : 0 + m.number ≡ m.number = omega arith in
@@ -186,12 +187,12 @@ module _ (base : Image) (sizes : List ℕ) (found : Found) (names : List (List �
       (λ reading there is.
       subst (λ (n : ℕ). IsNewAt n (image n) unread Differs m.disk.sectors own reading) (sym plain) (new reading there (subst (λ (n : ℕ). IsDiskReading n (base n) m.disk reading) plain is)))
       in
-      let base_apart : first_duplicate (ids_from 0 p.scan.readings) ≡ None = ap first_duplicate (sym (ids_same 0 (shapes found.disks) p.scan.readings (headers base sizes found names line now p))) ∙ p.shape.differ in
+      let base_apart : first_duplicate (ids_from 0 p.scan.readings) ≡ None = ap first_duplicate (sym (ids_same 0 (shapes found.disks) p.scan.readings (headers base sizes found names line now given p))) ∙ p.shape.differ in
       quiet_version image sizes found p.whole.there p.scan.readings p.scan.answer unread left_out left r.there r.read (r.sizes_xl ∙ p.scan.are.sizes_xl) r.are
       (one_quiet found.group m.number Differs (λ a b rel. (rel.0, rel.1)) p.scan.readings r.read r.at)
       (one_apart m.number 0 Differs p.scan.readings (λ a b rel. rel.2) p.scan.readings r.read (λ id none. none) r.at base_apart)
       (same_disks image unread own others r)
-      (settled base sizes found names line now p)
+      (settled base sizes found names line now given p)
 
   -- ---- the disk left out
 
@@ -221,7 +222,7 @@ module _ (base : Image) (sizes : List ℕ) (found : Found) (names : List (List �
       differs : (a b : ℕ) → a ≢ b → nat_eq a b ≡ false
       differs a b other' = ⊎_elim (λ is. absurd (other' (eqb-true a b is))) (λ is. is) (cases_Bool (nat_eq a b))
 
-  pub without_disk : (image : Image) → HasFirstBatches (batches_of state line now) base image → FindsVersion sizes image (is_labelled change.labels) (version_in found)
+  pub without_disk : (image : Image) → HasFirstBatches (batches_of state line now given) base image → FindsVersion sizes image (is_labelled change.labels) (version_in found)
   without_disk image h =
       let sectors : ℕ = m.disk.sectors in
       let in_set : set.contains out_set m.number ≡ true = set.contains-from_list_nat (m.number ∷ []) m.number ∙ ap (λ (b : Bool). b || false) (eq-eqb m.number m.number refl) in

@@ -1,4 +1,4 @@
--- No write of a line covers a primary place of the group that was found.
+-- No write of a line covers a sector in the extents of the group that was found, and so none covers a primary place.
 use Rattle.std.proofs.Common.{◌≡◌, ◌≢◌, ◌≤◌, ◌<◌, ◌⊎◌, ℕ, zero, suc, ◌+◌, ◌*◌, ◌/◌, Bool, true, false, cond, List, [], ◌∷◌, ◌++◌, get_or, map, Option, Some, None, inl, inr, ⊎_elim, refl, sym, ap, subst, ◌∙◌, arith}
 use Rattle.std.specs.Prelude.{All, IfSome, filter_map, flat_map, option_map, slice_get, slice_index}
 use Rattle.std.specs.FinSet as set
@@ -12,6 +12,7 @@ use Rattle.disk_batch.specs.InTurn.{HasFirstBatches, Put}
 use Rattle.disk_batch.specs.Writes.{IsWrittenBy}
 use Rattle.disk_batch.proofs.FrontBatches.{KeepsSector, front_kept, keeps_sector}
 use Rattle.disk_model.specs.Steps.{Image}
+use Rattle.extent_alloc.specs.declared.part.Part.{Part}
 use Rattle.lvm_script.specs.declared.line.Line.{Line}
 use Rattle.mda_header.specs.declared.header.Locn.{Locn}
 use Rattle.mda_ring.specs.declared.area.Area.{Area}
@@ -33,7 +34,8 @@ use Rattle.volume_view.proofs.Views.{view_reads_primaries}
 use Rattle.vg_found.specs.declared.disk.Disk.{Disk}
 use Rattle.vg_found.specs.declared.found.Found.{Found}
 use Rattle.vg_found.specs.Disks.{areas_on, disk_with, disks_of, shapes}
-use Rattle.vg_found.specs.Shape.{ContentsCanStand}
+use Rattle.vg_found.specs.Shape.{ContentsCanStand, HasShape}
+use Rattle.vg_found.specs.Whole.{IsWhole}
 use Rattle.vg_found.proofs.KeptLists.{all_kept}
 use Rattle.group_ops.proofs.Passed.{absent}
 use Rattle.group_ops.specs.Judging.{lies_on as is_on, set_of}
@@ -46,7 +48,7 @@ use Rattle.group_ops.specs.declared.state.NewLabel.{NewLabel}
 use Rattle.vg_change.specs.Batches.{area_puts, areas_of, batch_if, batches_of, commit_batches, label_put, new_area_puts}
 use Rattle.vg_change.proofs.LabelPuts.{all_if, label_where, labels_keep_other}
 use Rattle.vg_change.proofs.LineLabels.{new_labels_are, new_near}
-use Rattle.image_scans.specs.Laws.{CanCarryOut, IsOutside, place_of, places_in, visible_places}
+use Rattle.image_scans.specs.Laws.{CanCarryOut, IsInExtents, IsOutside, place_of, places_in, visible_places}
 use Rattle.image_scans.proofs.CommitCommands.{Commits}
 use Rattle.image_scans.proofs.CommitLine.{can, is_state, lies, settled}
 use Rattle.image_scans.proofs.CommitOnTheWay.{header_read, writes}
@@ -54,7 +56,7 @@ use Rattle.image_scans.proofs.CommitWrites.{IsAreaWrite}
 use Rattle.image_scans.proofs.FoundAreas.{IsHeldOn, all_held, entry_kept}
 use Rattle.image_scans.proofs.Front.{AnyWrites}
 use Rattle.image_scans.proofs.Lines.{LineMakes, MakesPv, line_makes, makes_nothing, makes_pv, makes_version}
-use Rattle.image_scans.proofs.Placed.{IsInExtents, IsPlaceOn, place_beside, primary_in_extents}
+use Rattle.image_scans.proofs.Placed.{IsPlaceOn, extent_beside, primary_in_extents}
 use Rattle.vg_commit.proofs.Disks.{no_area}
 use Rattle.image_scans.proofs.SettledBase.{IsSettledScan, settled_none, settled_some}
 
@@ -83,12 +85,24 @@ all_flat P f each (x ∷ xs) = All-append P (f x) (flat_map f xs) (each x) (all_
 all_swap : {X Y : Type 0} (R : X → Y → Type 0) (xs : List X) (ys : List Y) → All (λ (y : Y). All (λ (x : X). R x y) xs) ys → All (λ (x : X). All (R x) ys) xs
 all_swap R xs ys all k d within j e within' = all j e within' k d within
 
-module _ (base : Image) (sizes : List ℕ) (found : Found) (names : List (List ℕ)) (line : Line) (now : ℕ) (p : CanCarryOut base sizes found names line now) (group : Group) (is_group : found.group ≡ Some group) where
+-- ---- the disks of the group that was found
+
+module _ (found : Found) (shape : HasShape found) where
+  pub found_listed : (group : Group) → found.group ≡ Some group → found.disk_of ≡ disks_of group found.disks
+  found_listed group is = subst (λ (o : Option Group). IfSome o (λ g. found.disk_of ≡ disks_of g found.disks)) is shape.disk_of
+
+  pub found_placed : (group : Group) → found.group ≡ Some group → first_misplaced group (shapes found.disks) ≡ None
+  found_placed group is = subst (λ (o : Option Group). IfSome o (λ g. first_misplaced g (shapes found.disks) ≡ None)) is shape.placed
+
+  pub found_there : IsWhole found → (group : Group) → found.group ≡ Some group → missing_of (shapes found.disks) group.pvs ≡ []
+  found_there whole group is = sym (subst (λ (o : Option Group). IfSome o (λ g. found.missing ≡ missing_of (shapes found.disks) g.pvs)) is shape.missing) ∙ whole.there
+
+module _ (base : Image) (sizes : List ℕ) (found : Found) (names : List (List ℕ)) (line : Line) (now : ℕ) (given : List Part) (p : CanCarryOut base sizes found names line now given) (group : Group) (is_group : found.group ≡ Some group) where
   abbrev state : GroupState
   state = state_in found names
 
   abbrev change : Change
-  change = change_of state line
+  change = change_of state line now given
 
   abbrev batches_with : Option Group → List (List Put)
   batches_with g = batch_if (new_area_puts g change.labels) ++ batch_if (map label_put change.labels) ++ commit_batches g now (areas_of change state.areas)
@@ -96,27 +110,27 @@ module _ (base : Image) (sizes : List ℕ) (found : Found) (names : List (List �
   -- ---- the group that was found
 
   accepted : IsAccepted group
-  accepted = by (settled base sizes found names line now p)
+  accepted = by (settled base sizes found names line now given p)
     where
       by : IsSettledScan p.scan.readings found → IsAccepted group
       by (settled_none nothing none given) = absurd (let e : ◌≡◌ {A = Option Group} None (Some group) = sym none ∙ is_group in cc)
       by (settled_some held parts some copy given all) = subst IsAccepted (same_Some held.group group (sym some ∙ is_group)) copy.accepted
 
   listed : found.disk_of ≡ disks_of group found.disks
-  listed = subst (λ (o : Option Group). IfSome o (λ g. found.disk_of ≡ disks_of g found.disks)) is_group p.shape.disk_of
+  listed = found_listed found p.shape group is_group
 
   placed : first_misplaced group (shapes found.disks) ≡ None
-  placed = subst (λ (o : Option Group). IfSome o (λ g. first_misplaced g (shapes found.disks) ≡ None)) is_group p.shape.placed
+  placed = found_placed found p.shape group is_group
 
   none_away : missing_of (shapes found.disks) group.pvs ≡ []
-  none_away = sym (subst (λ (o : Option Group). IfSome o (λ g. found.missing ≡ missing_of (shapes found.disks) g.pvs)) is_group p.shape.missing) ∙ p.whole.there
+  none_away = found_there found p.shape p.whole group is_group
 
-  module _ (lv sector : ℕ) (at : At) (is : primary group lv sector ≡ Some at) where
+  module _ (at : At) (extents : IsInExtents group at) where
     abbrev number : ℕ
     number = slice_index (disks_of group found.disks) at.pv
 
     on : IsPlaceOn found.disks number at.sector
-    on = place_beside group found.disks accepted placed none_away lv sector at is
+    on = extent_beside group found.disks placed none_away at extents
 
     -- ---- a line that commits a group
 
@@ -125,7 +139,7 @@ module _ (base : Image) (sizes : List ℕ) (found : Found) (names : List (List �
       no_label value by =
           let some : NewLabel = record { disk = 0; sector = 0; header = record { id = []; device_bytes = 0; data_areas = []; areas = []; version = 0; flags = 0 } } in
           let w = label_where change.labels some number at.sector value by in
-          let low : (get_or change.labels w.0 some).sector < 4 = ((can base sizes found names line now p).labels w.0 some w.1).sector_below in
+          let low : (get_or change.labels w.0 some).sector < 4 = ((can base sizes found names line now given p).labels w.0 some w.1).sector_below in
           let behind : 8 ≤ at.sector = on.beside.behind in
           omega (arith, low, w.3, behind)
 
@@ -133,7 +147,7 @@ module _ (base : Image) (sizes : List ℕ) (found : Found) (names : List (List �
       no_area_write value w =
           let own : List (Area × Option Locn) = areas_of change state.areas in
           let b : Area × Option Locn = get_or own w.number no_area in
-          let st = is_state base sizes found names line now p in
+          let st = is_state base sizes found names line now given p in
           let held : IsHeldOn found.disks b =
           All-filter (is_on (set_of change.disk_of)) (IsHeldOn found.disks) state.areas (subst (All (IsHeldOn found.disks)) (sym st.areas) (all_held found.disks st.disks)) w.number no_area w.among
           in
@@ -156,8 +170,8 @@ module _ (base : Image) (sizes : List ℕ) (found : Found) (names : List (List �
           none_any (batches_with (Some c.group)) number at.sector
           (λ value by.
           ⊎_elim (no_label value) (no_area_write value)
-          (writes state (is_state base sizes found names line now p) change c.group c.makes (printed (tree_of c.group now)) ((can base sizes found names line now p).commit c.group c.makes.made)
-          (can base sizes found names line now p).labels (lies base sizes found names line now p).differ base number at.sector value by))
+          (writes state (is_state base sizes found names line now given p) change c.group c.makes (printed (tree_of c.group now)) ((can base sizes found names line now given p).commit c.group c.makes.made)
+          (can base sizes found names line now given p).labels (lies base sizes found names line now given p).differ base number at.sector value by))
 
     -- ---- one that commits none
 
@@ -165,21 +179,20 @@ module _ (base : Image) (sizes : List ℕ) (found : Found) (names : List (List �
     none_outside none apart =
         All-append (KeepsSector number at.sector) (batch_if (flat_map area_puts change.labels) ++ batch_if (map label_put change.labels)) []
         (All-append (KeepsSector number at.sector) (batch_if (flat_map area_puts change.labels)) (batch_if (map label_put change.labels))
-        (all_if (KeepsSector number at.sector) (flat_map area_puts change.labels) (new_near change.labels (new_labels_are state line none) number at.sector (inl apart)))
+        (all_if (KeepsSector number at.sector) (flat_map area_puts change.labels) (new_near change.labels (new_labels_are state line now given none) number at.sector (inl apart)))
         (all_if (KeepsSector number at.sector) (map label_put change.labels) (labels_keep_other change.labels number at.sector apart)))
         (All-nil (KeepsSector number at.sector))
 
-    -- a disk that the group doesn't list has none of its places
+    -- a disk that the group doesn't list has none of its extents
     other_disk : (m : MakesPv state change) → m.number ≢ number
     other_disk m same =
-        let e : IsInExtents group at = primary_in_extents group accepted lv sector at is in
         let off : set.contains (set_of found.disk_of) m.number ≡ false =
         sym (ap (λ (o : Option Group). option_map_or (λ (g : Group). set.contains (set_of found.disk_of) m.number) o false) is_group) ∙ m.unlisted
         in
         let each : Each (λ n. n ≢ m.number) (disks_of group found.disks) = subst (Each (λ n. n ≢ m.number)) listed (absent set.empty found.disk_of m.number off).1 in
-        each_image (λ n. n ≢ m.number) (λ (pv : List ℕ × Pv). disk_with found.disks pv.1.id) group.pvs at.pv e.pv each e.is_pv (sym same)
+        each_image (λ n. n ≢ m.number) (λ (pv : List ℕ × Pv). disk_with found.disks pv.1.id) group.pvs at.pv extents.pv each extents.is_pv (sym same)
 
-    by_line : LineMakes found state change → All (KeepsSector number at.sector) (batches_of state line now)
+    by_line : LineMakes found state change → All (KeepsSector number at.sector) (batches_of state line now given)
     by_line (makes_version c) = subst (λ (g : Option Group). All (KeepsSector number at.sector) (batches_with g)) (sym c.makes.made) (commit_outside c)
     by_line (makes_pv m) =
         subst (λ (g : Option Group). All (KeepsSector number at.sector) (batches_with g)) (sym m.none)
@@ -190,36 +203,39 @@ module _ (base : Image) (sizes : List ℕ) (found : Found) (names : List (List �
         subst (λ (g : Option Group). All (KeepsSector number at.sector) (batches_with g)) (sym none)
         (none_outside none (subst (All (λ (label : NewLabel). label.disk ≢ number)) (sym labels) (All-nil (λ (label : NewLabel). label.disk ≢ number))))
 
-    pub place_outside : All (KeepsSector (slice_index found.disk_of at.pv) at.sector) (batches_of state line now)
-    place_outside = subst (λ (l : List ℕ). All (KeepsSector (slice_index l at.pv) at.sector) (batches_of state line now)) (sym listed) (by_line (line_makes base sizes found names line now p))
+    pub extent_outside : All (KeepsSector (slice_index found.disk_of at.pv) at.sector) (batches_of state line now given)
+    extent_outside = subst (λ (l : List ℕ). All (KeepsSector (slice_index l at.pv) at.sector) (batches_of state line now given)) (sym listed) (by_line (line_makes base sizes found names line now given p))
 
   -- ---- all places
 
-  pub places_outside : All (λ (batch : List Put). All (IsOutside batch) (visible_places group found.disk_of)) (batches_of state line now)
+  pub place_outside : (lv sector : ℕ) (at : At) → primary group lv sector ≡ Some at → All (KeepsSector (slice_index found.disk_of at.pv) at.sector) (batches_of state line now given)
+  place_outside lv sector at is = extent_outside at (primary_in_extents group accepted lv sector at is)
+
+  pub places_outside : All (λ (batch : List Put). All (IsOutside batch) (visible_places group found.disk_of)) (batches_of state line now given)
   places_outside =
-      all_swap (λ (batch : List Put) (place : ℕ × ℕ). IsOutside batch place) (batches_of state line now) (visible_places group found.disk_of)
-      (all_flat (λ (place : ℕ × ℕ). All (KeepsSector place.0 place.1) (batches_of state line now)) (places_in group found.disk_of) of_volume (enumerate_from 0 group.lvs))
+      all_swap (λ (batch : List Put) (place : ℕ × ℕ). IsOutside batch place) (batches_of state line now given) (visible_places group found.disk_of)
+      (all_flat (λ (place : ℕ × ℕ). All (KeepsSector place.0 place.1) (batches_of state line now given)) (places_in group found.disk_of) of_volume (enumerate_from 0 group.lvs))
     where
-      of_sector : (lv sector : ℕ) (place : ℕ × ℕ) (o : Option At) → primary group lv sector ≡ o → option_map (λ (at : At). (slice_index found.disk_of at.pv, at.sector)) o ≡ Some place → All (KeepsSector place.0 place.1) (batches_of state line now)
+      of_sector : (lv sector : ℕ) (place : ℕ × ℕ) (o : Option At) → primary group lv sector ≡ o → option_map (λ (at : At). (slice_index found.disk_of at.pv, at.sector)) o ≡ Some place → All (KeepsSector place.0 place.1) (batches_of state line now given)
       of_sector lv sector place None is has = absurd cc
       of_sector lv sector place (Some at) is has =
-          subst (λ (x : ℕ × ℕ). All (KeepsSector x.0 x.1) (batches_of state line now)) (same_Some (slice_index found.disk_of at.pv, at.sector) place has) (place_outside lv sector at is)
+          subst (λ (x : ℕ × ℕ). All (KeepsSector x.0 x.1) (batches_of state line now given)) (same_Some (slice_index found.disk_of at.pv, at.sector) place has) (place_outside lv sector at is)
 
-      of_visible : (lv : ℕ × (List ℕ × Lv)) (b : Bool) → All (λ (place : ℕ × ℕ). All (KeepsSector place.0 place.1) (batches_of state line now))
+      of_visible : (lv : ℕ × (List ℕ × Lv)) (b : Bool) → All (λ (place : ℕ × ℕ). All (KeepsSector place.0 place.1) (batches_of state line now given))
           (cond b (filter_map (place_of group found.disk_of lv.0) (range_with_len 0 (extents_of lv.1.1 * group.extent_size))) [])
-      of_visible lv false = All-nil (λ (place : ℕ × ℕ). All (KeepsSector place.0 place.1) (batches_of state line now))
+      of_visible lv false = All-nil (λ (place : ℕ × ℕ). All (KeepsSector place.0 place.1) (batches_of state line now given))
       of_visible lv true =
-          all_kept (λ (place : ℕ × ℕ). All (KeepsSector place.0 place.1) (batches_of state line now)) (λ sector. Unit {0}) (place_of group found.disk_of lv.0)
+          all_kept (λ (place : ℕ × ℕ). All (KeepsSector place.0 place.1) (batches_of state line now given)) (λ sector. Unit {0}) (place_of group found.disk_of lv.0)
           (λ sector place any has. of_sector lv.0 sector place (primary group lv.0 sector) refl has) (range_with_len 0 (extents_of lv.1.1 * group.extent_size)) (λ k d within. tt)
 
-      of_volume : (lv : ℕ × (List ℕ × Lv)) → All (λ (place : ℕ × ℕ). All (KeepsSector place.0 place.1) (batches_of state line now)) (places_in group found.disk_of lv)
+      of_volume : (lv : ℕ × (List ℕ × Lv)) → All (λ (place : ℕ × ℕ). All (KeepsSector place.0 place.1) (batches_of state line now given)) (places_in group found.disk_of lv)
       of_volume lv = of_visible lv lv.1.1.status.visible
 
   -- ---- an image on the way
 
-  module _ (image : Image) (h : HasFirstBatches (batches_of state line now) base image) where
+  module _ (image : Image) (h : HasFirstBatches (batches_of state line now given) base image) where
     pub place_kept : (lv sector : ℕ) (at : At) → primary group lv sector ≡ Some at → at_place image found.disk_of at ≡ at_place base found.disk_of at
-    place_kept lv sector at is = front_kept (batches_of state line now) base image (slice_index found.disk_of at.pv) at.sector (place_outside lv sector at is) h
+    place_kept lv sector at is = front_kept (batches_of state line now given) base image (slice_index found.disk_of at.pv) at.sector (place_outside lv sector at is) h
 
     pub view_kept : view image group found.disk_of ≡ view base group found.disk_of
     view_kept = view_reads_primaries image base group found.disk_of (λ lv sector volume at there visible less is. place_kept lv sector at is)

@@ -22,16 +22,11 @@ use Rattle.volume_view.proofs.MetSegments.{ByLeg, Meets, by_leg, meets_is}
 use Rattle.volume_view.proofs.PrimariesStand.{LeadsOn, ToLv, ToPv, leads_on}
 use Rattle.vg_found.specs.declared.disk.Disk.{Disk}
 use Rattle.vg_found.specs.Disks.{area_shape, disk_shape, disk_with, disks_of, header_on, pv_shape, shapes}
+use Rattle.image_scans.specs.Laws.{IsInExtents}
 use Rattle.image_scans.proofs.Again.{all_there}
 use Rattle.image_scans.proofs.Makes.{HasDisk, disk_found}
 
 -- ---- in the extents of a physical volume
-
-pub record IsInExtents (group : Group) (at : At) : Type 0 where
-  pub pv : List ℕ × Pv
-  pub is_pv : slice_get group.pvs at.pv ≡ Some pv
-  pub from : pv.1.pe_start ≤ at.sector
-  pub to : at.sector < pv.1.pe_start + pv.1.pe_count * group.extent_size
 
 on_pv : (group : Group) (number sector : ℕ) (pv : List ℕ × Pv) (steps : ℕ) (at : At) → slice_get group.pvs number ≡ Some pv → sector < pv.1.pe_count * group.extent_size → down group (on.Pv number) steps sector ≡ Some at → IsInExtents group at
 on_pv group number sector pv steps at is less goes =
@@ -124,22 +119,22 @@ placed_at group n (first ∷ disks) none (suc k) disk there =
     (found_none (λ (d : ℕ × Reading). has_misplaced group d.1) n (disk_shape first) (has_misplaced group (disk_shape first)) (find (λ (d : ℕ × Reading). has_misplaced group d.1) (enumerate_from (n + 1) (shapes disks))) refl none).1
     k disk there
 
-index_map : {X : Type 0} (f : X → ℕ) (xs : List X) (k : ℕ) (x : X) → slice_get xs k ≡ Some x → slice_index (map f xs) k ≡ f x
+pub index_map : {X : Type 0} (f : X → ℕ) (xs : List X) (k : ℕ) (x : X) → slice_get xs k ≡ Some x → slice_index (map f xs) k ≡ f x
 index_map f [] k x there = absurd cc
 index_map f (y ∷ xs) zero x there = ap f (same_Some y x there)
 index_map f (y ∷ xs) (suc k) x there = index_map f xs k x there
 
-each_at : {X : Type 0} (P : X → Type 0) (xs : List X) (k : ℕ) (x : X) → Each P xs → slice_get xs k ≡ Some x → P x
+pub each_at : {X : Type 0} (P : X → Type 0) (xs : List X) (k : ℕ) (x : X) → Each P xs → slice_get xs k ≡ Some x → P x
 each_at P [] k x all there = absurd cc
 each_at P (y ∷ xs) zero x all there = subst P (same_Some y x there) all.0
 each_at P (y ∷ xs) (suc k) x all there = each_at P xs k x all.1 there
 
-present : (x y : Bool) → (x || not y) ≡ false → y ≡ true
+pub present : (x y : Bool) → (x || not y) ≡ false → y ≡ true
 present true y is = absurd (true≢false is)
 present false true is = refl
 present false false is = absurd (true≢false is)
 
--- the disk of a primary place, and what stands there
+-- the disk of a place, and what stands there
 pub record IsPlaceOn (disks : List Disk) (number sector : ℕ) : Type 0 where
   pub disk : Disk
   pub there : slice_get disks number ≡ Some disk
@@ -147,10 +142,9 @@ pub record IsPlaceOn (disks : List Disk) (number sector : ℕ) : Type 0 where
   pub is : header_on disk.contents ≡ Some header
   pub beside : IsBeside header.areas sector
 
-pub place_beside : (group : Group) (disks : List Disk) → IsAccepted group → first_misplaced group (shapes disks) ≡ None → missing_of (shapes disks) group.pvs ≡ [] → (lv sector : ℕ) (at : At) → primary group lv sector ≡ Some at
+pub extent_beside : (group : Group) (disks : List Disk) → first_misplaced group (shapes disks) ≡ None → missing_of (shapes disks) group.pvs ≡ [] → (at : At) → IsInExtents group at
     → IsPlaceOn disks (slice_index (disks_of group disks) at.pv) at.sector
-place_beside group disks accepted placed there lv sector at is =
-    let e : IsInExtents group at = primary_in_extents group accepted lv sector at is in
+extent_beside group disks placed there at e =
     let pv : List ℕ × Pv = e.pv in
     let number : slice_index (disks_of group disks) at.pv ≡ disk_with disks pv.1.id = index_map (λ (p : List ℕ × Pv). disk_with disks p.1.id) group.pvs at.pv pv e.is_pv in
     let here : is_missing (shapes disks) pv ≡ false = each_at (λ (p : List ℕ × Pv). is_missing (shapes disks) p ≡ false) group.pvs at.pv pv (all_there (shapes disks) group.pvs there) e.is_pv in
@@ -171,3 +165,7 @@ place_beside group disks accepted placed there lv sector at is =
       is = d.is;
       beside = beside_on pv.1.pe_start end at.sector d.disk.sectors d.header e.from e.to misplaced;
     }
+
+pub place_beside : (group : Group) (disks : List Disk) → IsAccepted group → first_misplaced group (shapes disks) ≡ None → missing_of (shapes disks) group.pvs ≡ [] → (lv sector : ℕ) (at : At) → primary group lv sector ≡ Some at
+    → IsPlaceOn disks (slice_index (disks_of group disks) at.pv) at.sector
+place_beside group disks accepted placed there lv sector at is = extent_beside group disks placed there at (primary_in_extents group accepted lv sector at is)

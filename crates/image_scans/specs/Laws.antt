@@ -1,16 +1,20 @@
 -- What a scan of the disks finds in every image on the way of a line's change, and that volumes keep their contents.
-use Rattle.std.specs.Prelude.{◌≡◌, ◌<◌, ◌⊎◌, ℕ, ◌^◌, ◌*◌, ◌==◌, Bool, true, false, if◌then◌else◌, List, [], length, take, slice_index, filter_map, flat_map, map, option_map, All, Option, None, Some}
+use Rattle.std.specs.Prelude.{◌≡◌, ◌≢◌, ◌≤◌, ◌<◌, ◌⊎◌, ℕ, ◌^◌, ◌+◌, ◌*◌, ◌==◌, Bool, true, false, IsTrue, if◌then◌else◌, List, [], length, take, replicate, slice_get, slice_index, filter_map, flat_map, map, option_map, All, Option, None, Some}
 use Rattle.std.specs.FinSet as set
 use Rattle.std.specs.List.{enumerate_from, list_any, range_with_len}
+use Rattle.sector_base.specs.Spans.{covers}
 use Rattle.sector_base.specs.declared.places.At.{At}
+use Rattle.sector_base.specs.declared.spans.Span.{Span}
 use Rattle.disk_batch.specs.InTurn.{HasFirstBatches, Put, with_batches}
 use Rattle.disk_batch.specs.Writes.{write_work}
 use Rattle.disk_model.specs.Steps.{Image}
 use Rattle.disk_model.specs.Submitting.{writes_at}
+use Rattle.extent_alloc.specs.declared.part.Part.{Part}
 use Rattle.lvm_script.specs.Values.{is_disk_name}
 use Rattle.lvm_script.specs.declared.line.Line.{Line}
 use Rattle.meta_model.specs.declared.group.Group.{Group}
 use Rattle.meta_model.specs.declared.lv.Lv.{Lv}
+use Rattle.meta_model.specs.declared.pv.Pv.{Pv}
 use Rattle.volume_rules.specs.Extents.{extents_of}
 use Rattle.volume_view.specs.Places.{primary}
 use Rattle.volume_view.specs.View.{at_place, view}
@@ -18,17 +22,18 @@ use Rattle.vg_found.specs.Shape.{HasShape}
 use Rattle.vg_found.specs.Whole.{IsWhole}
 use Rattle.vg_found.specs.declared.found.Found.{Found}
 use Rattle.vg_scan.specs.Scans.{IsScanOf}
+use Rattle.group_ops.specs.Allocating.{Takes}
 use Rattle.group_ops.specs.Laws.{state_in}
-use Rattle.group_ops.specs.Planning.{IsPlanned, change_of, refusal_of}
+use Rattle.group_ops.specs.Planning.{IsPlanned, asks_of, change_of, refusal_of}
 use Rattle.group_ops.specs.declared.state.Change.{Change}
 use Rattle.group_ops.specs.declared.state.NewLabel.{NewLabel}
-use Rattle.vg_change.specs.Batches.{batches_of}
+use Rattle.vg_change.specs.Batches.{batches_of, zeros_of}
 use Rattle.vg_change.specs.CarryingOut.{KeepsImages}
 use Rattle.image_scans.specs.Versions.{FindsVersion, Version, version_in}
 
--- what was found of this image is whole, and nothing is stale or stray on its disks, which have these names; no row refuses the
--- line at this time, and it keeps images as a line does whose batches were begun
-pub record CanCarryOut (base : Image) (sizes : List ℕ) (found : Found) (names : List (List ℕ)) (line : Line) (now : ℕ) : Type 0 where
+-- what was found of this image is whole, and nothing is stale or stray on its disks, which have these names; the line takes these
+-- parts, no row refuses it with them at this time, and it keeps images as a line does whose batches were begun
+pub record CanCarryOut (base : Image) (sizes : List ℕ) (found : Found) (names : List (List ℕ)) (line : Line) (now : ℕ) (given : List Part) : Type 0 where
   pub scan : IsScanOf base sizes found
   pub shape : HasShape found
   pub whole : IsWhole found
@@ -38,8 +43,9 @@ pub record CanCarryOut (base : Image) (sizes : List ℕ) (found : Found) (names 
   pub names_are : All (λ name. is_disk_name name ≡ true) names
   pub planned : IsPlanned line.id line.command
   pub time : now < 2 ^ 48
-  pub passes : refusal_of (state_in found names) line now ≡ None
-  pub keeps : KeepsImages (state_in found names) line now
+  pub takes : Takes (asks_of (state_in found names) line) given
+  pub passes : refusal_of (state_in found names) line now given ≡ None
+  pub keeps : KeepsImages (state_in found names) line now given
 
 -- no disk is left out
 abbrev pub none_out : ℕ → Bool
@@ -74,22 +80,22 @@ BaseScans =
 -- every image on the way of the line's batches
 abbrev pub ImagesScan : Type 0
 ImagesScan =
-    (base image : Image) (sizes : List ℕ) (found : Found) (names : List (List ℕ)) (line : Line) (now : ℕ) → CanCarryOut base sizes found names line now
-    → HasFirstBatches (batches_of (state_in found names) line now) base image
-    → FindsOnTheWay sizes image found (change_of (state_in found names) line) (change_of (state_in found names) line).group
+    (base image : Image) (sizes : List ℕ) (found : Found) (names : List (List ℕ)) (line : Line) (now : ℕ) (given : List Part) → CanCarryOut base sizes found names line now given
+    → HasFirstBatches (batches_of (state_in found names) line now given) base image
+    → FindsOnTheWay sizes image found (change_of (state_in found names) line now given) (change_of (state_in found names) line now given).group
 
 -- every image of a commit whose last batch wasn't begun has the version that was found
 abbrev pub UnpublishedScans : Type 0
 UnpublishedScans =
-    (base image : Image) (sizes : List ℕ) (found : Found) (names : List (List ℕ)) (line : Line) (now n : ℕ) (group : Group) → CanCarryOut base sizes found names line now
-    → (change_of (state_in found names) line).group ≡ Some group → n < length (batches_of (state_in found names) line now) → HasFirstBatches (take n (batches_of (state_in found names) line now)) base image
+    (base image : Image) (sizes : List ℕ) (found : Found) (names : List (List ℕ)) (line : Line) (now : ℕ) (given : List Part) (n : ℕ) (group : Group) → CanCarryOut base sizes found names line now given
+    → (change_of (state_in found names) line now given).group ≡ Some group → n < length (batches_of (state_in found names) line now given) → HasFirstBatches (take n (batches_of (state_in found names) line now given)) base image
     → FindsVersion sizes image none_out (version_in found)
 
 -- the image with all of them
 abbrev pub LastScans : Type 0
 LastScans =
-    (base : Image) (sizes : List ℕ) (found : Found) (names : List (List ℕ)) (line : Line) (now : ℕ) → CanCarryOut base sizes found names line now
-    → FindsAtEnd sizes (with_batches (batches_of (state_in found names) line now) base) found (change_of (state_in found names) line) (change_of (state_in found names) line).group
+    (base : Image) (sizes : List ℕ) (found : Found) (names : List (List ℕ)) (line : Line) (now : ℕ) (given : List Part) → CanCarryOut base sizes found names line now given
+    → FindsAtEnd sizes (with_batches (batches_of (state_in found names) line now given) base) found (change_of (state_in found names) line now given) (change_of (state_in found names) line now given).group
 
 -- ---- volumes
 
@@ -113,18 +119,73 @@ IsOutside batch place = writes_at (map write_work batch) place.0 place.1 ≡ fal
 -- no write of the line covers a primary place of a visible volume of the group that was found
 abbrev pub PlacesAreOutside : Type 0
 PlacesAreOutside =
-    (base : Image) (sizes : List ℕ) (found : Found) (names : List (List ℕ)) (line : Line) (now : ℕ) (group : Group) → CanCarryOut base sizes found names line now → found.group ≡ Some group
-    → All (λ (batch : List Put). All (IsOutside batch) (visible_places group found.disk_of)) (batches_of (state_in found names) line now)
+    (base : Image) (sizes : List ℕ) (found : Found) (names : List (List ℕ)) (line : Line) (now : ℕ) (given : List Part) (group : Group) → CanCarryOut base sizes found names line now given → found.group ≡ Some group
+    → All (λ (batch : List Put). All (IsOutside batch) (visible_places group found.disk_of)) (batches_of (state_in found names) line now given)
 
 -- so in every image on the way each such place has what it has in the base
 abbrev pub PlacesAreKept : Type 0
 PlacesAreKept =
-    (base image : Image) (sizes : List ℕ) (found : Found) (names : List (List ℕ)) (line : Line) (now : ℕ) (group : Group) → CanCarryOut base sizes found names line now → found.group ≡ Some group
-    → HasFirstBatches (batches_of (state_in found names) line now) base image
+    (base image : Image) (sizes : List ℕ) (found : Found) (names : List (List ℕ)) (line : Line) (now : ℕ) (given : List Part) (group : Group) → CanCarryOut base sizes found names line now given → found.group ≡ Some group
+    → HasFirstBatches (batches_of (state_in found names) line now given) base image
     → (lv sector : ℕ) (at : At) → primary group lv sector ≡ Some at → at_place image found.disk_of at ≡ at_place base found.disk_of at
 
 -- and its visible volumes have their contents
 abbrev pub ViewIsKept : Type 0
 ViewIsKept =
-    (base image : Image) (sizes : List ℕ) (found : Found) (names : List (List ℕ)) (line : Line) (now : ℕ) (group : Group) → CanCarryOut base sizes found names line now → found.group ≡ Some group
-    → HasFirstBatches (batches_of (state_in found names) line now) base image → view image group found.disk_of ≡ view base group found.disk_of
+    (base image : Image) (sizes : List ℕ) (found : Found) (names : List (List ℕ)) (line : Line) (now : ℕ) (given : List Part) (group : Group) → CanCarryOut base sizes found names line now given → found.group ≡ Some group
+    → HasFirstBatches (batches_of (state_in found names) line now given) base image → view image group found.disk_of ≡ view base group found.disk_of
+
+-- ---- zeros
+
+-- the place lies in the extents of a physical volume
+pub record IsInExtents (group : Group) (at : At) : Type 0 where
+  pub pv : List ℕ × Pv
+  pub is_pv : slice_get group.pvs at.pv ≡ Some pv
+  pub from : pv.1.pe_start ≤ at.sector
+  pub to : at.sector < pv.1.pe_start + pv.1.pe_count * group.extent_size
+
+-- the sector of the disk does
+pub record LiesInExtents (group : Group) (disk_of : List ℕ) (disk sector : ℕ) : Type 0 where
+  pub at : At
+  pub disk_xl : slice_index disk_of at.pv ≡ disk
+  pub sector_xl : at.sector ≡ sector
+  pub extents : IsInExtents group at
+
+-- and is no primary place of a volume
+pub record IsFree (group : Group) (disk_of : List ℕ) (disk sector : ℕ) : Type 0 where
+  pub lies : LiesInExtents group disk_of disk sector
+  pub free : (lv other : ℕ) (place : At) → primary group lv other ≡ Some place → slice_index disk_of place.pv ≡ disk → place.sector ≢ sector
+
+-- whether the sector of the disk is in one of the spans
+abbrev pub in_spans : List Span → ℕ → ℕ → Bool
+in_spans spans disk sector = list_any (λ (span : Span). covers span disk sector) spans
+
+-- each sector that the change zeroes is free in the group that was found
+abbrev pub ZeroesLie : Found → Change → Type 0
+ZeroesLie found change = (disk sector : ℕ) → IsTrue (in_spans change.zero disk sector) → (group : Group) × (found.group ≡ Some group) × IsFree group found.disk_of disk sector
+
+-- so it is of a line
+abbrev pub LineZeroesLie : Type 0
+LineZeroesLie =
+    (base : Image) (sizes : List ℕ) (found : Found) (names : List (List ℕ)) (line : Line) (now : ℕ) (given : List Part) → CanCarryOut base sizes found names line now given
+    → ZeroesLie found (change_of (state_in found names) line now given)
+
+-- every image on the way of the zeros: a scan finds the same as before
+abbrev pub ZeroesScan : Type 0
+ZeroesScan =
+    (base image : Image) (sizes : List ℕ) (found : Found) (names : List (List ℕ)) (line : Line) (now : ℕ) (given : List Part) → CanCarryOut base sizes found names line now given
+    → HasFirstBatches (zeros_of (state_in found names) line now given) base image → IsScanOf image sizes found
+
+-- and each primary place of a volume has what it has in the base
+abbrev pub ZeroesKeepPlaces : Type 0
+ZeroesKeepPlaces =
+    (base image : Image) (sizes : List ℕ) (found : Found) (names : List (List ℕ)) (line : Line) (now : ℕ) (given : List Part) (group : Group) → CanCarryOut base sizes found names line now given → found.group ≡ Some group
+    → HasFirstBatches (zeros_of (state_in found names) line now given) base image
+    → (lv sector : ℕ) (at : At) → primary group lv sector ≡ Some at → at_place image found.disk_of at ≡ at_place base found.disk_of at
+
+-- in every image on the way of the batches behind them each sector of the zeros has them
+abbrev pub ZeroesAreKept : Type 0
+ZeroesAreKept =
+    (base image : Image) (sizes : List ℕ) (found : Found) (names : List (List ℕ)) (line : Line) (now : ℕ) (given : List Part) → CanCarryOut base sizes found names line now given
+    → HasFirstBatches (batches_of (state_in found names) line now given) (with_batches (zeros_of (state_in found names) line now given) base) image
+    → (disk sector : ℕ) → IsTrue (in_spans (change_of (state_in found names) line now given).zero disk sector) → image disk sector ≡ replicate 512 0

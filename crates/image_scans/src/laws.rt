@@ -1,5 +1,5 @@
 //! What holds of the images on the way of a line: each function does nothing, and its clauses are proved.
-ghost use Rattle.image_scans.specs.Laws.{BaseScans, ImagesScan, LastScans, PlacesAreKept, PlacesAreOutside, UnpublishedScans, ViewIsKept};
+ghost use Rattle.image_scans.specs.Laws.{BaseScans, ImagesScan, LastScans, LineZeroesLie, PlacesAreKept, PlacesAreOutside, UnpublishedScans, ViewIsKept, ZeroesAreKept, ZeroesKeepPlaces, ZeroesScan};
 
 /// A scan of an image on the way of a line finds the version of the group that was found before or the new one: the former
 /// until the last batch of its commit is begun, and once all is written the new one. Where the line makes a new physical
@@ -17,4 +17,13 @@ pub fn change_keeps_view()
     ensures outside { PlacesAreOutside }
     ensures kept { PlacesAreKept }
     ensures view { ViewIsKept }
+{}
+
+/// What a line zeroes before its commit lies in extents that no volume of the group has: in every image on the way of the
+/// zeros a scan finds the same as before, and volumes have their contents; and on the way of the commit the zeros stay.
+pub fn change_zeroes()
+    ensures lie { LineZeroesLie }
+    ensures scan { ZeroesScan }
+    ensures places { ZeroesKeepPlaces }
+    ensures kept { ZeroesAreKept }
 {}

@@ -10,6 +10,5 @@ pub mod RepairedLabels
 pub mod RepairedDisks
 pub mod RepairEnd
 pub mod FoundGroup
-pub mod BesideAreas
 pub mod RepairPlaces
 pub mod SameVersion

@@ -29,7 +29,7 @@ use Rattle.vg_repair.proofs.StrayLabels.{labels_can}
 use Rattle.image_scans.proofs.FoundAreas.{IsHeldOn, all_held}
 use Rattle.image_scans.proofs.Placed.{IsPlaceOn, place_beside}
 use Rattle.repair_scans.specs.Laws.{CanRepair}
-use Rattle.repair_scans.proofs.BesideAreas.{beside_areas}
+use Rattle.image_scans.proofs.BesideAreas.{beside_areas}
 use Rattle.repair_scans.proofs.FoundGroup.{found_accepted}
 use Rattle.repair_scans.proofs.RepairOnTheWay.{shown}
 

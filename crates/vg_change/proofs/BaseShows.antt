@@ -22,7 +22,7 @@ pub base_shows : (areas : List (Area × Option Locn)) (base : Image) → ShowsEn
 base_shows areas base names k d within = let a : Area × Option Locn = get_or areas k d in shown base a.0 a.1 (names k d within)
 
 -- as many as it says
-sized : (base : Image) (area : Area) (entry : Option Locn) → IfSome entry (IsInside area.size) → IsSized area entry (text_in base (area, entry))
+pub sized : (base : Image) (area : Area) (entry : Option Locn) → IfSome entry (IsInside area.size) → IsSized area entry (text_in base (area, entry))
 sized base area None inside = tt
 sized base area (Some locn) inside = (inside, length-map-range_with_len (text_byte (sectors_of area base) area.size locn.offset) 0 locn.size)
 

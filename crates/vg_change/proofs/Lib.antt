@@ -2,6 +2,7 @@ pub mod AddedLabels
 pub mod Adding
 pub mod AreaBatch
 pub mod BaseShows
+pub mod Carried
 pub mod ChangeBatches
 pub mod ChecksumBound
 pub mod DiskSets
@@ -19,3 +20,5 @@ pub mod Sound
 pub mod SoundCommit
 pub mod SoundPvcreate
 pub mod TextRoom
+pub mod ZeroBatch
+pub mod WrittenBoth

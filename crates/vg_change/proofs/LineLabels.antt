@@ -5,10 +5,11 @@ use Rattle.std.specs.Option.{option_map_or}
 use Rattle.std.proofs.lemmas.Bool.{ltb-false}
 use Rattle.std.proofs.lemmas.List.Elements.{All-append, All-cons, All-head, All-map, All-nil, All-weaker}
 use Rattle.std.proofs.lemmas.Option.{same_Some}
+use Rattle.extent_alloc.specs.declared.part.Part.{Part}
 use Rattle.lvm_id.specs.LvmId.{IsId}
 use Rattle.lvm_script.specs.Options.{number_named}
 use Rattle.lvm_script.specs.declared.command.Command.{Command}
-use Rattle.lvm_script.specs.declared.command.Command.TheVariants.{Lvreduce, Lvremove, Lvrename, Pvcreate, Vgcreate, Vgextend, Vgrename}
+use Rattle.lvm_script.specs.declared.command.Command.TheVariants.{Lvcreate, Lvextend, Lvreduce, Lvremove, Lvrename, Pvcreate, Vgcreate, Vgextend, Vgrename}
 use Rattle.lvm_script.specs.declared.line.Line.{Line}
 use Rattle.disk_model.specs.Steps.{Image}
 use Rattle.disk_batch.specs.InTurn.{Put, with_batches, with_writes}
@@ -61,19 +62,21 @@ extend_new : (state : GroupState) (o : Option Group) (pvs : List (List ℕ)) →
 extend_new state None pvs none = inl refl
 extend_new state (Some group) pvs none = absurd cc
 
-new_of : (state : GroupState) (number : ℕ) (id : Option (List ℕ)) (command : Command) → (change_of state (record { number = number; id = id; command = command })).group ≡ None
-    → AreNew (change_of state (record { number = number; id = id; command = command })).labels
-new_of state number id (Pvcreate pv copies) none = new_by state.disks (unwrap_or id []) copies (number_named state.names pv)
-new_of state number id (Vgcreate vg extent_size pvs) none = absurd cc
-new_of state number id (Vgextend vg pvs) none = extend_new state state.group pvs none
-new_of state number id (Vgrename vg new) none = inl (next_labels state number id (Vgrename vg new) refl)
-new_of state number id (Lvreduce path amount) none = inl (next_labels state number id (Lvreduce path amount) refl)
-new_of state number id (Lvremove path) none = inl (next_labels state number id (Lvremove path) refl)
-new_of state number id (Lvrename vg old new) none = inl (next_labels state number id (Lvrename vg old new) refl)
-new_of state number id command none = inl refl
+new_of : (state : GroupState) (number : ℕ) (id : Option (List ℕ)) (command : Command) (now : ℕ) (given : List Part) → (change_of state (record { number = number; id = id; command = command }) now given).group ≡ None
+    → AreNew (change_of state (record { number = number; id = id; command = command }) now given).labels
+new_of state number id (Pvcreate pv copies) now given none = new_by state.disks (unwrap_or id []) copies (number_named state.names pv)
+new_of state number id (Vgcreate vg extent_size pvs) now given none = absurd cc
+new_of state number id (Vgextend vg pvs) now given none = extend_new state state.group pvs none
+new_of state number id (Vgrename vg new) now given none = inl (next_labels state number id (Vgrename vg new) now given refl)
+new_of state number id (Lvcreate new) now given none = inl (next_labels state number id (Lvcreate new) now given refl)
+new_of state number id (Lvextend path growth pvs) now given none = inl (next_labels state number id (Lvextend path growth pvs) now given refl)
+new_of state number id (Lvreduce path amount) now given none = inl (next_labels state number id (Lvreduce path amount) now given refl)
+new_of state number id (Lvremove path) now given none = inl (next_labels state number id (Lvremove path) now given refl)
+new_of state number id (Lvrename vg old new) now given none = inl (next_labels state number id (Lvrename vg old new) now given refl)
+new_of state number id command now given none = inl refl
 
-pub new_labels_are : (state : GroupState) (line : Line) → (change_of state line).group ≡ None → AreNew (change_of state line).labels
-new_labels_are state line none = new_of state line.number line.id line.command none
+pub new_labels_are : (state : GroupState) (line : Line) (now : ℕ) (given : List Part) → (change_of state line now given).group ≡ None → AreNew (change_of state line now given).labels
+new_labels_are state line now given none = new_of state line.number line.id line.command now given none
 
 -- ---- a new physical volume, with no area or with one
 
@@ -230,18 +233,20 @@ found_extend : (state : GroupState) → IsState state → (o : Option Group) (pv
 found_extend state is None pvs = All-nil HeaderIsFound
 found_extend state is (Some group) pvs = found_all state is pvs
 
-none_found : (state : GroupState) (number : ℕ) (id : Option (List ℕ)) (command : Command) → is_next command ≡ true → All HeaderIsFound (change_of state (record { number = number; id = id; command = command })).labels
-none_found state number id command is = subst (All HeaderIsFound) (sym (next_labels state number id command is)) (All-nil HeaderIsFound)
+none_found : (state : GroupState) (number : ℕ) (id : Option (List ℕ)) (command : Command) (now : ℕ) (given : List Part) → is_next command ≡ true → All HeaderIsFound (change_of state (record { number = number; id = id; command = command }) now given).labels
+none_found state number id command now given is = subst (All HeaderIsFound) (sym (next_labels state number id command now given is)) (All-nil HeaderIsFound)
 
-found_of : (state : GroupState) → IsState state → (number : ℕ) (id : Option (List ℕ)) (command : Command) → IsPlanned id command → All HeaderIsFound (change_of state (record { number = number; id = id; command = command })).labels
-found_of state is number id (Pvcreate pv copies) planned = new_found state.disks (unwrap_or id []) copies (number_named state.names pv) (drawn_id id planned)
-found_of state is number id (Vgcreate vg extent_size pvs) planned = found_all state is pvs
-found_of state is number id (Vgextend vg pvs) planned = found_extend state is state.group pvs
-found_of state is number id (Vgrename vg new) planned = none_found state number id (Vgrename vg new) refl
-found_of state is number id (Lvreduce path amount) planned = none_found state number id (Lvreduce path amount) refl
-found_of state is number id (Lvremove path) planned = none_found state number id (Lvremove path) refl
-found_of state is number id (Lvrename vg old new) planned = none_found state number id (Lvrename vg old new) refl
-found_of state is number id command planned = absurd planned
+found_of : (state : GroupState) → IsState state → (number : ℕ) (id : Option (List ℕ)) (command : Command) (now : ℕ) (given : List Part) → IsPlanned id command → All HeaderIsFound (change_of state (record { number = number; id = id; command = command }) now given).labels
+found_of state is number id (Pvcreate pv copies) now given planned = new_found state.disks (unwrap_or id []) copies (number_named state.names pv) (drawn_id id planned)
+found_of state is number id (Vgcreate vg extent_size pvs) now given planned = found_all state is pvs
+found_of state is number id (Vgextend vg pvs) now given planned = found_extend state is state.group pvs
+found_of state is number id (Vgrename vg new) now given planned = none_found state number id (Vgrename vg new) now given refl
+found_of state is number id (Lvcreate new) now given planned = none_found state number id (Lvcreate new) now given refl
+found_of state is number id (Lvextend path growth pvs) now given planned = none_found state number id (Lvextend path growth pvs) now given refl
+found_of state is number id (Lvreduce path amount) now given planned = none_found state number id (Lvreduce path amount) now given refl
+found_of state is number id (Lvremove path) now given planned = none_found state number id (Lvremove path) now given refl
+found_of state is number id (Lvrename vg old new) now given planned = none_found state number id (Lvrename vg old new) now given refl
+found_of state is number id command now given planned = absurd planned
 
-pub headers_found : (state : GroupState) (line : Line) → IsState state → IsPlanned line.id line.command → All HeaderIsFound (change_of state line).labels
-headers_found state line is planned = found_of state is line.number line.id line.command planned
+pub headers_found : (state : GroupState) (line : Line) (now : ℕ) (given : List Part) → IsState state → IsPlanned line.id line.command → All HeaderIsFound (change_of state line now given).labels
+headers_found state line now given is planned = found_of state is line.number line.id line.command now given planned

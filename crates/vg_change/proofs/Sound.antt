@@ -3,16 +3,22 @@ use Rattle.std.proofs.Common.{◌≡◌, ◌<◌, ℕ, List, [], ◌∷◌, ◌+
 use Rattle.std.specs.Prelude.{All, IfSome, unwrap_or}
 use Rattle.std.specs.Option.{option_map_or}
 use Rattle.std.proofs.lemmas.List.Elements.{All-nil}
+use Rattle.extent_alloc.specs.declared.part.Part.{Part}
 use Rattle.lvm_script.specs.declared.command.Command.{Command}
-use Rattle.lvm_script.specs.declared.command.Command.TheVariants.{Lvreduce, Lvremove, Lvrename, Pvcreate, Vgcreate, Vgextend, Vgrename}
+use Rattle.lvm_script.specs.declared.command.Command.TheVariants.{Lvcreate, Lvextend, Lvreduce, Lvremove, Lvrename, Pvcreate, Vgcreate, Vgextend, Vgrename}
 use Rattle.lvm_script.specs.declared.line.Line.{Line}
 use Rattle.lvm_script.specs.declared.op_refusal.OpRefusal.TheVariants.{GroupStands, UnknownGroup}
+use Rattle.conf_text.specs.Printed.{printed}
+use Rattle.meta_print.specs.Layout.{tree_of}
+use Rattle.sector_base.specs.declared.spans.Span.{Span}
 use Rattle.meta_model.specs.declared.group.Group.{Group}
 use Rattle.group_ops.proofs.NextVersions.{CommitsNext, append_nil, commits_next, extended_none, version_is}
 use Rattle.group_ops.specs.Added.{added_of}
+use Rattle.group_ops.specs.Allocating.{Takes}
+use Rattle.group_ops.specs.Committing.{length_row, no_area_row, version_change}
 use Rattle.group_ops.specs.Judging.{area_row, first_refusal, large_row, stored_size, used_row}
 use Rattle.group_ops.specs.NewGroup.{extended}
-use Rattle.group_ops.specs.Planning.{IsPlanned, change_of, extend_by, refusal_of}
+use Rattle.group_ops.specs.Planning.{IsPlanned, asks_of, change_of, extend_by, refusal_of}
 use Rattle.group_ops.specs.State.{IsState}
 use Rattle.group_ops.specs.Vgcreate.{empty_group, new_rows, vgcreate_change}
 use Rattle.group_edits.specs.NextVersion.{next_version}
@@ -23,7 +29,7 @@ use Rattle.group_ops.proofs.Rows.{none_holds}
 use Rattle.vg_change.proofs.SoundCommit.{commit_can_make, commit_lies_on}
 use Rattle.vg_change.proofs.SoundPvcreate.{pvcreate_can_make, pvcreate_lies_on}
 use Rattle.vg_change.specs.CarryingOut.{sizes_of}
-use Rattle.vg_change.specs.Sound.{CanMake, LiesOn}
+use Rattle.vg_change.specs.Sound.{CanMake, CanTakeText, LiesOn}
 
 -- the change can be made at this time, and lies on the disks
 abbrev IsSound : GroupState → Change → ℕ → Type 0
@@ -63,39 +69,57 @@ vgextend_sound state is vg names now (Some group) found none = found_sound state
 
 -- ---- the next version, on the disks of the group
 
-next_sound : (state : GroupState) → IsState state → (change : Change) (now : ℕ) → CommitsNext state change now → IsSound state change now
+-- whatever sectors are to hold zeros before
+with_zeros : (state : GroupState) (change : Change) (zero : List Span) (now : ℕ) → IsSound state change now → IsSound state (record change { zero = zero }) now
+with_zeros state change zero now sound = (
+  record {
+    labels = sound.0.labels;
+    commit = λ group is. let t : CanTakeText change state.areas (printed (tree_of group now)) = sound.0.commit group is in record { listed = t.listed; committed = t.committed; room = t.room };
+  },
+  record { labels = sound.1.labels; differ = sound.1.differ; new_areas = sound.1.new_areas; commit = sound.1.commit },
+)
+
+version_sound : (state : GroupState) → IsState state → (next : Group) (now : ℕ) → All (λ n. n < length state.disks) state.disk_of → no_area_row state ≡ None → length_row state next now ≡ None → IsSound state (version_change state next) now
 unfolding used_row
-next_sound state is change now made =
-    let listed : All (λ n. n < length state.disks) state.disk_of = listed_there state made.old is made.there in
+version_sound state is next now listed has_area fits =
     let same : state.disk_of ++ [] ≡ state.disk_of = append_nil state.disk_of in
-    subst (λ (c : Change). IsSound state c now) (version_is state made.next ∙ sym made.change_xl) (
-      commit_can_make state is made.next state.disk_of [] listed refl now
-          (ap (area_row state.areas) same ∙ made.has_area)
-          (ap (λ (disks : List ℕ). large_row state.areas disks (stored_size (extended made.next (added_of state [])) now)) same
-          ∙ ap (λ (g : Group). large_row state.areas state.disk_of (stored_size g now)) (extended_none state made.next) ∙ made.fits),
-      commit_lies_on state is made.next state.disk_of [] listed refl,
+    subst (λ (c : Change). IsSound state c now) (version_is state [] next) (
+      commit_can_make state is next state.disk_of [] listed refl now
+          (ap (area_row state.areas) same ∙ has_area)
+          (ap (λ (disks : List ℕ). large_row state.areas disks (stored_size (extended next (added_of state [])) now)) same
+          ∙ ap (λ (g : Group). large_row state.areas state.disk_of (stored_size g now)) (extended_none state next) ∙ fits),
+      commit_lies_on state is next state.disk_of [] listed refl,
     )
+
+next_sound : (state : GroupState) → IsState state → (change : Change) (now : ℕ) → CommitsNext state change now → IsSound state change now
+next_sound state is change now made =
+    subst (λ (c : Change). IsSound state c now) (sym made.change_xl)
+    (with_zeros state (version_change state made.next) made.zero now (version_sound state is made.next now (listed_there state made.old is made.there) made.has_area made.fits))
 
 -- ---- all commands
 
-sound_by : (state : GroupState) → IsState state → (number : ℕ) (id : Option (List ℕ)) (command : Command) (now : ℕ) → IsPlanned id command
-    → refusal_of state (record { number = number; id = id; command = command }) now ≡ None → IsSound state (change_of state (record { number = number; id = id; command = command })) now
-sound_by state is number id (Pvcreate pv copies) now planned none =
+sound_by : (state : GroupState) → IsState state → (number : ℕ) (id : Option (List ℕ)) (command : Command) (now : ℕ) (given : List Part) → IsPlanned id command → Takes (asks_of state (record { number = number; id = id; command = command })) given
+    → refusal_of state (record { number = number; id = id; command = command }) now given ≡ None → IsSound state (change_of state (record { number = number; id = id; command = command }) now given) now
+sound_by state is number id (Pvcreate pv copies) now given planned takes none =
     (pvcreate_can_make state is (unwrap_or id []) pv copies now, pvcreate_lies_on state is (unwrap_or id []) pv copies none)
-sound_by state is number id (Vgcreate vg extent_size pvs) now planned none = vgcreate_sound state is (empty_group (unwrap_or id []) vg extent_size) pvs now state.group none
-sound_by state is number id (Vgextend vg pvs) now planned none = vgextend_sound state is vg pvs now state.group refl none
-sound_by state is number id (Vgrename vg new) now planned none =
-    next_sound state is (change_of state (record { number = number; id = id; command = Vgrename vg new })) now (commits_next state number id (Vgrename vg new) now planned refl none)
-sound_by state is number id (Lvreduce path amount) now planned none =
-    next_sound state is (change_of state (record { number = number; id = id; command = Lvreduce path amount })) now (commits_next state number id (Lvreduce path amount) now planned refl none)
-sound_by state is number id (Lvremove path) now planned none =
-    next_sound state is (change_of state (record { number = number; id = id; command = Lvremove path })) now (commits_next state number id (Lvremove path) now planned refl none)
-sound_by state is number id (Lvrename vg old new) now planned none =
-    next_sound state is (change_of state (record { number = number; id = id; command = Lvrename vg old new })) now (commits_next state number id (Lvrename vg old new) now planned refl none)
-sound_by state is number id command now planned none = absurd planned
+sound_by state is number id (Vgcreate vg extent_size pvs) now given planned takes none = vgcreate_sound state is (empty_group (unwrap_or id []) vg extent_size) pvs now state.group none
+sound_by state is number id (Vgextend vg pvs) now given planned takes none = vgextend_sound state is vg pvs now state.group refl none
+sound_by state is number id (Vgrename vg new) now given planned takes none =
+    next_sound state is (change_of state (record { number = number; id = id; command = Vgrename vg new }) now given) now (commits_next state number id (Vgrename vg new) now given planned refl takes none)
+sound_by state is number id (Lvcreate new) now given planned takes none =
+    next_sound state is (change_of state (record { number = number; id = id; command = Lvcreate new }) now given) now (commits_next state number id (Lvcreate new) now given planned refl takes none)
+sound_by state is number id (Lvextend path growth pvs) now given planned takes none =
+    next_sound state is (change_of state (record { number = number; id = id; command = Lvextend path growth pvs }) now given) now (commits_next state number id (Lvextend path growth pvs) now given planned refl takes none)
+sound_by state is number id (Lvreduce path amount) now given planned takes none =
+    next_sound state is (change_of state (record { number = number; id = id; command = Lvreduce path amount }) now given) now (commits_next state number id (Lvreduce path amount) now given planned refl takes none)
+sound_by state is number id (Lvremove path) now given planned takes none =
+    next_sound state is (change_of state (record { number = number; id = id; command = Lvremove path }) now given) now (commits_next state number id (Lvremove path) now given planned refl takes none)
+sound_by state is number id (Lvrename vg old new) now given planned takes none =
+    next_sound state is (change_of state (record { number = number; id = id; command = Lvrename vg old new }) now given) now (commits_next state number id (Lvrename vg old new) now given planned refl takes none)
+sound_by state is number id command now given planned takes none = absurd planned
 
-pub can_make : (state : GroupState) (line : Line) (now : ℕ) → IsState state → IsPlanned line.id line.command → refusal_of state line now ≡ None → CanMake state.areas (change_of state line) now
-can_make state line now is planned none = (sound_by state is line.number line.id line.command now planned none).0
+pub can_make : (state : GroupState) (line : Line) (now : ℕ) (given : List Part) → IsState state → IsPlanned line.id line.command → Takes (asks_of state line) given → refusal_of state line now given ≡ None → CanMake state.areas (change_of state line now given) now
+can_make state line now given is planned takes none = (sound_by state is line.number line.id line.command now given planned takes none).0
 
-pub lies_on : (state : GroupState) (line : Line) (now : ℕ) → IsState state → IsPlanned line.id line.command → refusal_of state line now ≡ None → LiesOn (sizes_of state.disks) state.areas (change_of state line)
-lies_on state line now is planned none = (sound_by state is line.number line.id line.command now planned none).1
+pub lies_on : (state : GroupState) (line : Line) (now : ℕ) (given : List Part) → IsState state → IsPlanned line.id line.command → Takes (asks_of state line) given → refusal_of state line now given ≡ None → LiesOn (sizes_of state.disks) state.areas (change_of state line now given)
+lies_on state line now given is planned takes none = (sound_by state is line.number line.id line.command now given planned takes none).1

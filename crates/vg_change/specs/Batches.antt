@@ -1,8 +1,10 @@
 -- What a change writes, as batches of writes, each lasting before the next begins.
 use Rattle.std.specs.Prelude.{ℕ, ◌/◌, false, List, [], ◌∷◌, ◌++◌, map, filter, flat_map, replicate, Option, Some, None}
+use Rattle.sector_base.specs.declared.spans.Span.{Span}
 use Rattle.conf_text.specs.Printed.{printed}
 use Rattle.disk_batch.specs.InTurn.{Put}
 use Rattle.disk_model.specs.Puts.{one_sector}
+use Rattle.extent_alloc.specs.declared.part.Part.{Part}
 use Rattle.mda_header.specs.declared.header.Locn.{Locn}
 use Rattle.mda_header.specs.declared.header.MdaHeader.{MdaHeader}
 use Rattle.mda_header.specs.HeaderBytes.{header_bytes as mda_bytes}
@@ -24,6 +26,16 @@ use Rattle.group_ops.specs.declared.state.NewLabel.{NewLabel}
 abbrev pub batch_if : List Put → List (List Put)
 batch_if [] = []
 batch_if (put ∷ puts) = (put ∷ puts) ∷ []
+
+-- ---- zeros
+
+-- the write of zeros to the sectors of the span
+abbrev pub zero_put : Span → Put
+zero_put span = (span, replicate span.count (replicate 512 0))
+
+-- the batch of the zeros of a change, which lasts before its commit begins
+abbrev pub zero_batches : Change → List (List Put)
+zero_batches change = batch_if (map zero_put change.zero)
 
 -- ---- labels
 
@@ -72,13 +84,17 @@ commit_batches (Some group) now areas =
 
 -- ---- all of it
 
--- all batches of a change at this time, on disks with these areas
+-- all batches of a change behind its zeros, at this time, on disks with these areas
 abbrev pub change_batches : Change → List (Area × Option Locn) → ℕ → List (List Put)
 change_batches change areas now =
     batch_if (new_area_puts change.group change.labels)
     ++ batch_if (map label_put change.labels)
     ++ commit_batches change.group now (areas_of change areas)
 
--- the batches of the line's change at this time
-abbrev pub batches_of : GroupState → Line → ℕ → List (List Put)
-batches_of state line now = change_batches (change_of state line) state.areas now
+-- the zeros of the line's change, where it takes these parts
+abbrev pub zeros_of : GroupState → Line → ℕ → List Part → List (List Put)
+zeros_of state line now given = zero_batches (change_of state line now given)
+
+-- the batches of the line's change at this time behind them
+abbrev pub batches_of : GroupState → Line → ℕ → List Part → List (List Put)
+batches_of state line now given = change_batches (change_of state line now given) state.areas now

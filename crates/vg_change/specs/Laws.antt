@@ -2,6 +2,7 @@
 use Rattle.std.specs.Prelude.{◌≡◌, ◌≢◌, ◌⊎◌, ℕ, [], List, All, Option, Some, None}
 use Rattle.conf_text.specs.Printed.{printed}
 use Rattle.disk_model.specs.Steps.{Image}
+use Rattle.extent_alloc.specs.declared.part.Part.{Part}
 use Rattle.lvm_script.specs.declared.line.Line.{Line}
 use Rattle.mda_header.specs.Header.{IsHeader}
 use Rattle.mda_header.specs.declared.header.Locn.{Locn}
@@ -49,9 +50,9 @@ LabelsKept labels base image =
     All (λ (label : NewLabel). (image label.disk label.sector ≡ base label.disk label.sector) ⊎ (image label.disk label.sector ≡ label_bytes label)) labels
 
 -- what every image on the way keeps of what the disks held before
-pub record AreasAreKept (state : GroupState) (line : Line) (now : ℕ) (base image : Image) : Type 0 where
-  pub areas : AreasKeptBy (change_of state line).group now (change_of state line) state.areas base image
-  pub labels : LabelsKept (change_of state line).labels base image
+pub record AreasAreKept (state : GroupState) (line : Line) (now : ℕ) (given : List Part) (base image : Image) : Type 0 where
+  pub areas : AreasKeptBy (change_of state line now given).group now (change_of state line now given) state.areas base image
+  pub labels : LabelsKept (change_of state line now given).labels base image
 
 -- lvm2's readers find the label and the header in its sector
 pub record HasLabel (image : Image) (new : NewLabel) : Type 0 where
@@ -66,6 +67,6 @@ HoldsAfter None now change areas image =
 HoldsAfter (Some group) now change areas image = All (ShowsBy (new_reading (printed (tree_of group now))) image) (areas_of change areas)
 
 -- what a reader finds once the line is done: the labels, and the areas
-pub record IsFoundAfter (state : GroupState) (line : Line) (now : ℕ) (image : Image) : Type 0 where
-  pub labels : All (HasLabel image) (change_of state line).labels
-  pub areas : HoldsAfter (change_of state line).group now (change_of state line) state.areas image
+pub record IsFoundAfter (state : GroupState) (line : Line) (now : ℕ) (given : List Part) (image : Image) : Type 0 where
+  pub labels : All (HasLabel image) (change_of state line now given).labels
+  pub areas : HoldsAfter (change_of state line now given).group now (change_of state line now given) state.areas image

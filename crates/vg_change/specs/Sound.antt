@@ -1,6 +1,9 @@
 -- Which changes can be written.
-use Rattle.std.specs.Prelude.{◌≡◌, ◌≢◌, ◌≤◌, ◌<◌, ◌+◌, ◌/◌, ◌^◌, ℕ, List, length, slice_index_or, All, AllPairs, Option, Some, None}
+use Rattle.std.specs.Prelude.{◌≡◌, ◌≢◌, ◌≤◌, ◌<◌, ◌+◌, ◌/◌, ◌^◌, ℕ, List, length, map, slice_index_or, All, AllPairs, Option, Some, None}
+use Rattle.sector_base.specs.declared.spans.Span.{Span}
 use Rattle.conf_text.specs.Printed.{printed}
+use Rattle.disk_batch.specs.InTurn.{ShareNoSector}
+use Rattle.disk_batch.specs.Writes.{LieIn}
 use Rattle.mda_header.specs.declared.header.Locn.{Locn}
 use Rattle.mda_ring.specs.declared.area.Area.{Area}
 use Rattle.meta_model.specs.declared.group.Group.{Group}
@@ -12,7 +15,7 @@ use Rattle.vg_commit.specs.TooLarge.{first_too_large}
 use Rattle.group_ops.specs.Judging.{set_of}
 use Rattle.group_ops.specs.declared.state.Change.{Change}
 use Rattle.group_ops.specs.declared.state.NewLabel.{NewLabel}
-use Rattle.vg_change.specs.Batches.{areas_of}
+use Rattle.vg_change.specs.Batches.{areas_of, zero_put}
 
 -- a label for one of the first four sectors of one of 64 disks, whose lists fit behind it
 pub record CanLabel (label : NewLabel) : Type 0 where
@@ -48,6 +51,11 @@ LabelLies sizes label = IsOnDisk sizes label.disk label.sector
 pub record AreasLie (sizes : List ℕ) (label : NewLabel) : Type 0 where
   pub lie : All (λ (area : Extent). IsOnDisk sizes label.disk (header_sector area)) label.header.areas
   pub differ : AllPairs (λ (a b : Extent). header_sector a ≢ header_sector b) label.header.areas
+
+-- the zeros lie in disks of these sizes, and no two spans of them share a sector
+pub record ZeroesLieOn (sizes : List ℕ) (zero : List Span) : Type 0 where
+  pub lie : LieIn sizes (map zero_put zero)
+  pub apart : ShareNoSector (map zero_put zero)
 
 -- all that it writes lies in disks of these sizes, and no two labels are on one disk
 pub record LiesOn (sizes : List ℕ) (areas : List (Area × Option Locn)) (change : Change) : Type 0 where

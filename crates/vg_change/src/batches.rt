@@ -23,7 +23,7 @@ use sector_base::{PvDisks, PvSet, Sectors, Span, Text};
 use std::alloc::{AllocError, Global};
 use vg_commit::{CommitRefusal, Prepared, prepare_text};
 
-/// The batches of the change at this time, on disks that have these areas. Only memory can be wanting.
+/// The batches of the change behind its zeros, at this time, on disks that have these areas. Only memory can be wanting.
 pub fn batches_of(
     alloc: Global,
     areas: &Areas,

@@ -1,24 +1,25 @@
 //! A line is carried out.
-ghost use Rattle.std.specs.Prelude.{◌≡◌, ◌<◌, ◌^◌, []};
-ghost use Rattle.std.specs.Prelude.{MatchResult};
+ghost use Rattle.std.specs.Prelude.{◌≡◌, ◌≤◌, ◌<◌, ◌+◌, ◌^◌, [], is_ok, map, sum_by, All, MatchResult};
+ghost use Rattle.disk_batch.specs.Batches.{writes_of};
+ghost use Rattle.disk_batch.specs.InTurn.{CanRun, ops_of, sectors_of};
 ghost use Rattle.disk_model.specs.Faults.{HasSameFaults};
 ghost use Rattle.disk_model.specs.Idle.{IsIdleAgain};
 ghost use Rattle.disk_model.specs.Since.{BetweenTold};
-ghost use Rattle.group_ops.specs.Planning.{IsPlanned, refusal_of};
+ghost use Rattle.group_ops.specs.Planning.{IsPlanned};
 ghost use Rattle.group_ops.specs.State.{IsState};
-ghost use Rattle.vg_change.specs.CarryingOut.{Carries, HasBegun, IsFault, KeepsImages, sizes_of};
-ghost use Rattle.vg_change.specs.Batches.{batches_of};
+ghost use Rattle.vg_change.specs.CarryingOut.{IsCarried, WritesBoth, sizes_of};
 
 use crate::ChangeFault;
 use crate::batches::batches_of;
-use disk_batch::{reserve_all, write_in_turn};
+use crate::zeros::zeros_of;
+use disk_batch::{Batch, reserve_both, write_in_turn};
 use disk_model::Shelf;
 use group_ops::{GroupState, plan};
 use lvm_script::Line;
 use std::alloc::Global;
 
-/// Carries out what the line changes at this time, on the disks of this state, where nothing else is in flight. All memory is
-/// taken before anything is written.
+/// Carries out what the line changes at this time, on the disks of this state, where nothing else is in flight: first its
+/// zeros, and once these last its batches. All memory is taken before anything is written.
 ///
 /// # Errors
 ///
@@ -37,17 +38,31 @@ pub fn carry_out<S: Shelf>(
     requires disks { (S.state shelf.old).sizes ≡ sizes_of state.now.disks }
     requires idle { (S.state shelf.old).in_flight ≡ [] }
     ensures again { IsIdleAgain (S.state shelf.old) (S.state shelf.new) }
-    ensures cause { MatchResult result
-        (λ _. HasSameFaults (S.state shelf.old) (S.state shelf.new) × (refusal_of state.now line.now now ≡ None))
-        (IsFault state.now line.now now (S.state shelf.old) (S.state shelf.new)) }
-    ensures images { HasBegun result → KeepsImages state.now line.now now }
-    ensures told { BetweenTold (Carries (batches_of state.now line.now now) result) (S.state shelf.old).told (S.state shelf.new).told }
+    ensures carried { IsCarried state.now line.now now (S.state shelf.old) result (S.state shelf.new) }
 {
     let change = plan(alloc, state, line, now)?;
+    let zeros = zeros_of(alloc, &change)?;
     let batches = batches_of(alloc, &state.areas, &change, now)?;
-    reserve_all(&batches, shelf)?;
-    match write_in_turn(batches, shelf) {
+    reserve_both(&zeros, &batches, shelf)?;
+    match write_both(zeros, batches, shelf) {
         Ok(()) => Ok(()),
         Err(pv) => Err(ChangeFault::Failed(pv)),
     }
+}
+
+// Carries out the zeros and, where that went well, the batches. It is the disk of an operation that failed, if one did.
+fn write_both<S: Shelf>(zeros: Vec<Batch>, batches: Vec<Batch>, shelf: &mut S) -> Result<(), u32>
+    requires idle { (S.state shelf.old).in_flight ≡ [] }
+    requires zeros_can_run { All (CanRun (S.state shelf.old).sizes) zeros.items }
+    requires can_run { All (CanRun (S.state shelf.old).sizes) batches.items }
+    requires ops { sum_by ops_of zeros.items + sum_by ops_of batches.items ≤ (S.state shelf.old).spare_ops }
+    requires sectors { sum_by sectors_of zeros.items + sum_by sectors_of batches.items ≤ (S.state shelf.old).spare_sectors }
+    ensures again { IsIdleAgain (S.state shelf.old) (S.state shelf.new) }
+    ensures fault { MatchResult result (λ _. HasSameFaults (S.state shelf.old) (S.state shelf.new)) (λ pv. (S.state shelf.old).faults pv < (S.state shelf.new).faults pv) }
+    ensures told { BetweenTold (WritesBoth (map writes_of zeros.items) (map writes_of batches.items) (is_ok result)) (S.state shelf.old).told (S.state shelf.new).told }
+{
+    if let Err(pv) = write_in_turn(zeros, shelf) {
+        return Err(pv);
+    }
+    write_in_turn(batches, shelf)
 }

@@ -1,33 +1,66 @@
 -- The change of a line that no row refuses can be made, and its batches can be carried out.
-use Rattle.std.proofs.Common.{ℕ, List, sym, subst}
+use Rattle.std.proofs.Common.{ℕ, List, map, refl, ap, subst}
+use Rattle.std.proofs.lemmas.Result.{err_from_is_err_and}
 use Rattle.std.specs.Prelude.{All}
+use Rattle.disk_batch.specs.Batches.{writes_of}
 use Rattle.disk_batch.specs.InTurn.{CanRun}
-use Rattle.group_ops.specs.declared.state.Change.{Change}
+use Rattle.disk_model.specs.State.{State}
+use Rattle.vg_change.proofs.Carried.{done, failed, lies, made, unplanned, wanting}
 use Rattle.vg_change.proofs.HeldInDisks.{sizes_kept}
-use Rattle.vg_change.proofs.LineImages.{keeps_images}
-use Rattle.vg_change.proofs.Sound.{can_make, lies_on}
+use Rattle.vg_change.proofs.ZeroBatch.{planned_few, planned_lie}
 use Rattle.vg_change.specs.CarryingOut.{sizes_of}
-use Rattle.vg_change.specs.Sound.{CanMake, LiesOn}
 use Rattle.vg_change.proofs.carrying.carry_out.Goals as goal
 
+pub zeros_of-requires : goal.zeros_of-requires
+zeros_of-requires g c = planned_few c.args.state.now.disks c.requires.state.few c.in_ok-change.change.zero c.in_ok-change.ensures.zeros
+
 pub batches_of-requires : goal.batches_of-requires
-batches_of-requires g c =
-    subst (λ (change : Change). CanMake c.args.state.now.areas change c.args.now) (sym c.in_ok-change.ensures.1)
-    (can_make c.args.state.now c.args.line.now c.args.now c.requires.state c.requires.planned c.in_ok-change.ensures.0)
+batches_of-requires g c = made c.args.state.now c.args.line.now c.args.now c.requires.state c.requires.planned c.in_ok-change.change c.in_ok-change.ensures.plans
 
-pub write_in_turn-requires-clause-can_run : goal.write_in_turn-requires-clause-can_run
-write_in_turn-requires-clause-can_run g c =
-    let lies =
-    subst (λ (change : Change). LiesOn (sizes_of c.args.state.now.disks) c.args.state.now.areas change) (sym c.in_ok-change.ensures.1)
-    (lies_on c.args.state.now c.args.line.now c.args.now c.requires.state c.requires.planned c.in_ok-change.ensures.0)
-    in
-    subst (λ (sizes : List ℕ). All (CanRun sizes) c.in_ok-batches.batches.items) (sizes_kept _ _ _ _ (sizes_of c.args.state.now.disks) c.in_ok-reserve_all.ensures.room c.requires.disks)
-    (c.in_ok-batches.ensures.can_run (sizes_of c.args.state.now.disks) lies)
+pub write_both-requires-clause-zeros_can_run : goal.write_both-requires-clause-zeros_can_run
+write_both-requires-clause-zeros_can_run g c =
+    subst (λ (sizes : List ℕ). All (CanRun sizes) c.in_ok-zeros.zeros.items) (sizes_kept _ _ _ _ (sizes_of c.args.state.now.disks) c.in_ok-reserve_both.ensures.room c.requires.disks)
+    (c.in_ok-zeros.ensures.can_run (sizes_of c.args.state.now.disks) (planned_lie c.args.state.now.disks c.requires.state.few c.in_ok-change.change.zero c.in_ok-change.ensures.zeros))
 
-pub returns-in-Ok-clause-images : goal.returns-in-Ok-clause-images
-returns-in-Ok-clause-images g c begun =
-    keeps_images c.args.state.now c.args.line.now c.args.now c.requires.state c.requires.planned c.in_ok-change.ensures.0 c.in_ok-change.change c.in_ok-change.ensures.1 c.in_ok-batches.ensures.read_again
+pub write_both-requires-clause-can_run : goal.write_both-requires-clause-can_run
+write_both-requires-clause-can_run g c =
+    subst (λ (sizes : List ℕ). All (CanRun sizes) c.in_ok-batches.batches.items) (sizes_kept _ _ _ _ (sizes_of c.args.state.now.disks) c.in_ok-reserve_both.ensures.room c.requires.disks)
+    (c.in_ok-batches.ensures.can_run (sizes_of c.args.state.now.disks)
+    (lies c.args.state.now c.args.line.now c.args.now c.requires.state c.requires.planned c.in_ok-change.change c.in_ok-change.ensures.plans))
 
-pub returns-clause-images : goal.returns-clause-images
-returns-clause-images g c begun =
-    keeps_images c.args.state.now c.args.line.now c.args.now c.requires.state c.requires.planned c.in_ok-change.ensures.0 c.in_ok-change.change c.in_ok-change.ensures.1 c.in_ok-batches.ensures.read_again
+pub returns-in_err-change-clause-carried : goal.returns-in_err-change-clause-carried
+returns-in_err-change-clause-carried g c =
+    let p = err_from_is_err_and c.from_residual.result c.from_residual.ensures.1 in
+    rw (p.1, p.2) (unplanned c.args.state.now c.args.line.now c.args.now c.in_err-change.field-0.0 c.in_err-change.ensures.plans (g.S.Shelf.state c.args.shelf.now))
+
+pub returns-in_err-zeros-clause-carried : goal.returns-in_err-zeros-clause-carried
+returns-in_err-zeros-clause-carried g c =
+    let p = err_from_is_err_and c.from_residual-in_err-zeros.result c.from_residual-in_err-zeros.ensures.1 in
+    let s0 = g.S.Shelf.state c.args.shelf.now in
+    rw (p.1, p.2) (wanting c.args.state.now c.args.line.now c.args.now s0 s0 refl (λ pv. refl))
+
+pub returns-in_err-batches-clause-carried : goal.returns-in_err-batches-clause-carried
+returns-in_err-batches-clause-carried g c =
+    let p = err_from_is_err_and c.from_residual-in_err-batches.result c.from_residual-in_err-batches.ensures.1 in
+    let s0 = g.S.Shelf.state c.args.shelf.now in
+    rw (p.1, p.2) (wanting c.args.state.now c.args.line.now c.args.now s0 s0 refl (λ pv. refl))
+
+pub returns-in_err-reserve_both-clause-carried : goal.returns-in_err-reserve_both-clause-carried
+returns-in_err-reserve_both-clause-carried g c =
+    let p = err_from_is_err_and c.from_residual-in_err-reserve_both.result c.from_residual-in_err-reserve_both.ensures.1 in
+    let same = c.in_err-reserve_both.ensures.err in
+    rw (p.1, p.2)
+    (wanting c.args.state.now c.args.line.now c.args.now (g.S.Shelf.state c.args.shelf.now) (g.S.Shelf.state c.reserve_both.new.shelf) (ap (λ (s : State). s.told) same)
+    (λ pv. ap (λ (s : State). s.faults pv) same))
+
+pub returns-in-Ok-clause-carried : goal.returns-in-Ok-clause-carried
+returns-in-Ok-clause-carried g c =
+    done c.args.state.now c.args.line.now c.args.now c.requires.state c.requires.planned c.in_ok-change.change c.in_ok-change.ensures.plans c.in_ok-batches.ensures.read_again (g.S.Shelf.state c.args.shelf.now)
+    (g.S.Shelf.state c.reserve_both.new.shelf) (g.S.Shelf.state c.write_both.new.shelf) _ _ c.in_ok-reserve_both.ensures.room (map writes_of c.in_ok-zeros.zeros.items) c.in_ok-zeros.ensures.writes (map writes_of c.in_ok-batches.batches.items) c.in_ok-batches.ensures.writes
+    c.in-Ok.ensures.fault c.in-Ok.ensures.told
+
+pub returns-clause-carried : goal.returns-clause-carried
+returns-clause-carried g c =
+    failed c.args.state.now c.args.line.now c.args.now c.requires.state c.requires.planned c.in_ok-change.change c.in_ok-change.ensures.plans c.in_ok-batches.ensures.read_again (g.S.Shelf.state c.args.shelf.now)
+    (g.S.Shelf.state c.reserve_both.new.shelf) (g.S.Shelf.state c.write_both.new.shelf) _ _ c.in_ok-reserve_both.ensures.room (map writes_of c.in_ok-zeros.zeros.items) c.in_ok-zeros.ensures.writes (map writes_of c.in_ok-batches.batches.items) c.in_ok-batches.ensures.writes c.in-Err.pv
+    c.in-Err.ensures.fault c.in-Err.ensures.told
