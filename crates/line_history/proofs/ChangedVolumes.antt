@@ -4,9 +4,12 @@ use Rattle.std.specs.Prelude.{IfSome, IsSomeAnd, option_map, slice_get, slice_in
 use Rattle.std.specs.Option.{option_map_or}
 use Rattle.std.proofs.lemmas.Option.{same_Some}
 use Rattle.disk_model.specs.Steps.{Image}
+use Rattle.extent_alloc.specs.declared.part.Part.{Part}
 use Rattle.lvm_script.specs.declared.amount.Amount.{Amount}
+use Rattle.lvm_script.specs.declared.amount.Growth.{Growth}
 use Rattle.lvm_script.specs.declared.command.Command.{Command}
-use Rattle.lvm_script.specs.declared.command.Command.TheVariants.{Lvreduce, Lvremove, Lvrename, Pvcreate, Vgcreate, Vgextend, Vgrename}
+use Rattle.lvm_script.specs.declared.command.Command.TheVariants.{Lvcreate, Lvextend, Lvreduce, Lvremove, Lvrename, Pvcreate, Vgcreate, Vgextend, Vgrename}
+use Rattle.lvm_script.specs.declared.command.NewVolume.{NewVolume}
 use Rattle.lvm_script.specs.declared.command.Path.{Path}
 use Rattle.lvm_script.specs.declared.line.Line.{Line}
 use Rattle.lvm_script.specs.declared.op_refusal.OpRefusal.{OpRefusal}
@@ -25,6 +28,8 @@ use Rattle.group_edits.proofs.Inserted.{slice_get-pushed}
 use Rattle.group_edits.proofs.KeptPlaces.{primary_kept, with_pvs}
 use Rattle.group_edits.proofs.RenamedPlaces.{primary_named}
 use Rattle.group_edits.proofs.Visible.{named_is_visible}
+use Rattle.group_edits.specs.LongerVolume.{longer_volume}
+use Rattle.group_edits.specs.NewVolume.{new_lv}
 use Rattle.group_edits.specs.NextVersion.{next_version}
 use Rattle.group_edits.specs.Removing.{without_volume}
 use Rattle.group_edits.specs.RenamedGroup.{renamed_group}
@@ -32,14 +37,19 @@ use Rattle.group_edits.specs.RenamedVolume.{renamed_volume}
 use Rattle.group_edits.specs.ShortenedVolume.{shortened, shortened_volume}
 use Rattle.group_edits.specs.Visible.{visible_named}
 use Rattle.group_ops.specs.Added.{added_of, disks_added, pv_of}
+use Rattle.group_ops.specs.Allocating.{Takes}
 use Rattle.group_ops.specs.Committing.{named_rows, no_change, version_change}
 use Rattle.group_ops.specs.Judging.{first_refusal}
 use Rattle.group_ops.specs.Laws.{state_in}
+use Rattle.group_ops.proofs.CreatedVolume.{Creates, creates}
+use Rattle.group_ops.proofs.NextVersions.{drawn_is}
+use Rattle.group_ops.specs.Lvcreate.{created_group, kind_for}
+use Rattle.group_ops.specs.Lvextend.{extend_in_rows, extend_lv_rows, lengthen_rows}
 use Rattle.group_ops.specs.Lvreduce.{kept_by, reduce_change, reduce_in_rows, reduce_lv_rows, reduced_group}
 use Rattle.group_ops.specs.Lvremove.{remove_change, remove_in_rows, remove_lv_rows}
 use Rattle.group_ops.specs.Lvrename.{rename_in_rows, rename_lv_rows}
 use Rattle.group_ops.specs.NewGroup.{extended, free_number, names_in, pv_name, with_added}
-use Rattle.group_ops.specs.Planning.{IsPlanned, change_of, extend_by, refusal_of}
+use Rattle.group_ops.specs.Planning.{IsPlanned, asks_of, change_of, extend_by, refusal_of}
 use Rattle.group_ops.specs.Vgcreate.{empty_group}
 use Rattle.group_ops.specs.Volumes.{rows_on}
 use Rattle.group_ops.specs.declared.added.Added.{Added}
@@ -53,6 +63,7 @@ use Rattle.repair_scans.proofs.FoundGroup.{found_accepted}
 use Rattle.volume_history.specs.Placed.{group_name, volumes_of}
 use Rattle.volume_history.specs.Changing.{ChangesVolumes, changed_named, cut_to, has_named, named_so, without_named}
 use Rattle.line_history.proofs.KeptVolumes.{KeepsDisks, volumes_kept}
+use Rattle.line_history.proofs.LongerVolumes.{create_changes, extend_changes}
 use Rattle.line_history.proofs.RemovedVolumes.{volumes_removed}
 use Rattle.line_history.proofs.RenamedVolumes.{named_in, volumes_renamed}
 use Rattle.line_history.proofs.ShortenedVolumes.{volumes_shortened}
@@ -215,35 +226,64 @@ module _ (found : Found) (names : List (List ℕ)) where
         (sym (ap (λ (o : Option (ℕ × Lv)). option_map_or (λ (x : ℕ × Lv). version_change state (reduced_group path.lv amount old x.1)) o (no_change state)) seen))
         (of_version (Lvreduce path amount) (reduced_group path.lv amount old v.1) (reduce_changes path amount old there v seen))
 
-    by_command : (number : ℕ) (id : Option (List ℕ)) (command : Command) (now : ℕ) → IsPlanned id command → refusal_of state (record { number = number; id = id; command = command }) now ≡ None
-        → (group : Group) → (change_of state (record { number = number; id = id; command = command })).group ≡ Some group
-        → ChangesVolumes command (version_in found) (Some (version_of group (change_of state (record { number = number; id = id; command = command }))))
-    by_command number id (Pvcreate pv copies) now planned passes group is = absurd cc
-    by_command number id (Vgcreate vg extent_size pvs) now planned passes group is =
-        create_keeps (unwrap_or id []) vg extent_size pvs (change_of state (record { number = number; id = id; command = Vgcreate vg extent_size pvs })) group (none_found vg _ found.group passes)
+    -- lvextend: it has more behind its own extents
+    extended_by : (path : Path) (growth : Growth) (pvs : List (List ℕ)) (given : List Part) (old : Group) → found.group ≡ Some old → (v : ℕ × Lv) → visible_named old path.lv ≡ Some v
+        → ChangesVolumes (Lvextend path growth pvs) (version_in found) (Some (version_of (longer_volume path.lv given old) (version_change state (longer_volume path.lv given old))))
+    extended_by path growth pvs given old there v seen =
+        subst (λ (before : Option Version). ChangesVolumes (Lvextend path growth pvs) before (Some (on_disks (longer_volume path.lv given old)))) (sym (version_found old there))
+        (extend_changes path growth pvs given (was old) found.disk_of (accepted old there) (same_disks old (longer_volume path.lv given old) there) (trees old there) v seen)
+
+    -- lvcreate: there is one volume more
+    created_by : (id : List ℕ) (new : NewVolume) (now : ℕ) (given : List Part) (made : Creates state id new now given)
+        → ChangesVolumes (Lvcreate new) (version_in found) (Some (version_of (created_group id new now given made.old) (version_change state (created_group id new now given made.old))))
+    created_by id new now given made =
+        subst (λ (before : Option Version). ChangesVolumes (Lvcreate new) before (Some (on_disks (created_group id new now given made.old)))) (sym (version_found made.old made.there))
+        (create_changes new (new_lv id (kind_for new) given now) (was made.old) found.disk_of (accepted made.old made.there) (same_disks made.old (created_group id new now given made.old) made.there) refl made.free)
+
+    -- the rows of an lvextend on its volume
+    abbrev extend_rows_on : Path → Growth → List (List ℕ) → ℕ → List Part → Group → ℕ × Lv → List (Option OpRefusal)
+    extend_rows_on path growth pvs now given old volume = extend_lv_rows state path.lv growth pvs old volume ++ lengthen_rows state path.lv now old given
+
+    by_command : (number : ℕ) (id : Option (List ℕ)) (command : Command) (now : ℕ) (given : List Part) → IsPlanned id command → Takes (asks_of state (record { number = number; id = id; command = command })) given → refusal_of state (record { number = number; id = id; command = command }) now given ≡ None
+        → (group : Group) → (change_of state (record { number = number; id = id; command = command }) now given).group ≡ Some group
+        → ChangesVolumes command (version_in found) (Some (version_of group (change_of state (record { number = number; id = id; command = command }) now given)))
+    by_command number id (Pvcreate pv copies) now given planned takes passes group is = absurd cc
+    by_command number id (Vgcreate vg extent_size pvs) now given planned takes passes group is =
+        create_keeps (unwrap_or id []) vg extent_size pvs (change_of state (record { number = number; id = id; command = Vgcreate vg extent_size pvs }) now given) group (none_found vg _ found.group passes)
         (same_Some (extended (empty_group (unwrap_or id []) vg extent_size) (added_of state pvs)) group is)
-    by_command number id (Vgextend vg pvs) now planned passes group is = extend_keeps vg pvs found.group refl group is
-    by_command number id (Vgrename vg new) now planned passes group is =
+    by_command number id (Vgextend vg pvs) now given planned takes passes group is = extend_keeps vg pvs found.group refl group is
+    by_command number id (Vgrename vg new) now given planned takes passes group is =
         where_found (Vgrename vg new) (λ g. version_change state (renamed_group g new)) found.group refl (λ old there. of_version (Vgrename vg new) (renamed_group old new) (named_keeps vg new old there)) group is
-    by_command number id (Lvrename vg name new) now planned passes group is =
+    by_command number id (Lvrename vg name new) now given planned takes passes group is =
         where_found (Lvrename vg name new) (λ g. version_change state (renamed_volume name new g)) found.group refl
         (λ old there.
         let seen = named_behind (named_rows old vg) old name (rename_lv_rows state name new now old) (rows_pass vg (rename_in_rows state vg name new now) old there passes) in
         of_version (Lvrename vg name new) (renamed_volume name new old) (rename_changes vg name new old there seen.0 seen.1))
         group is
-    by_command number id (Lvremove path) now planned passes group is =
+    by_command number id (Lvremove path) now given planned takes passes group is =
         where_found (Lvremove path) (remove_change state path.lv) found.group refl
         (λ old there.
         let seen = named_behind (named_rows old path.vg) old path.lv (remove_lv_rows state path.lv now old) (rows_pass path.vg (remove_in_rows state path now) old there passes) in
         removed_by path old there seen.0 seen.1)
         group is
-    by_command number id (Lvreduce path amount) now planned passes group is =
+    by_command number id (Lvcreate new) now given planned takes passes group is =
+        let own : List ℕ = unwrap_or id [] in
+        let made : Creates state own new now given = creates state own new now given (drawn_is id planned.0) planned.1 found.group refl takes passes in
+        subst (λ (change : Change). (g : Group) → change.group ≡ Some g → ChangesVolumes (Lvcreate new) (version_in found) (Some (version_of g change))) (sym made.change_xl)
+        (of_version (Lvcreate new) (created_group own new now given made.old) (created_by own new now given made)) group is
+    by_command number id (Lvextend path growth pvs) now given planned takes passes group is =
+        where_found (Lvextend path growth pvs) (λ g. version_change state (longer_volume path.lv given g)) found.group refl
+        (λ old there.
+        let seen = named_behind (named_rows old path.vg) old path.lv (extend_rows_on path growth pvs now given old) (rows_pass path.vg (λ g. extend_in_rows state path growth pvs now g given) old there passes) in
+        of_version (Lvextend path growth pvs) (longer_volume path.lv given old) (extended_by path growth pvs given old there seen.0 seen.1))
+        group is
+    by_command number id (Lvreduce path amount) now given planned takes passes group is =
         where_found (Lvreduce path amount) (reduce_change state path.lv amount) found.group refl
         (λ old there.
         let seen = named_behind (named_rows old path.vg) old path.lv (reduce_lv_rows state path.lv amount now old) (rows_pass path.vg (reduce_in_rows state path amount now) old there passes) in
         reduced_by path amount old there seen.0 seen.1)
         group is
-    by_command number id command now planned passes group is = absurd planned
+    by_command number id command now given planned takes passes group is = absurd planned
 
 -- ---- the line
 
@@ -252,7 +292,7 @@ found_tree : (readings : List Reading) (found : Found) → IsSettledScan reading
 found_tree readings found (settled_none nothing none given) group is = absurd (let e : ◌≡◌ {A = Option Group} None (Some group) = sym none ∙ is in cc)
 found_tree readings found (settled_some held parts some copy given all) group is = subst HasTree (same_Some held.group group (sym some ∙ is)) (copy_tree held.text held.group held.passed copy)
 
-pub commit_changes_volumes : (base : Image) (sizes : List ℕ) (found : Found) (names : List (List ℕ)) (line : Line) (now : ℕ) → CanCarryOut base sizes found names line now → (group : Group)
-    → (change_of (state_in found names) line).group ≡ Some group → ChangesVolumes line.command (version_in found) (Some (version_of group (change_of (state_in found names) line)))
-commit_changes_volumes base sizes found names line now p group is =
-    by_command found names p.shape (found_accepted base sizes found p.scan) (found_tree p.scan.readings found (settled base sizes found names line now p)) line.number line.id line.command now p.planned p.passes group is
+pub commit_changes_volumes : (base : Image) (sizes : List ℕ) (found : Found) (names : List (List ℕ)) (line : Line) (now : ℕ) (given : List Part) → CanCarryOut base sizes found names line now given → (group : Group)
+    → (change_of (state_in found names) line now given).group ≡ Some group → ChangesVolumes line.command (version_in found) (Some (version_of group (change_of (state_in found names) line now given)))
+commit_changes_volumes base sizes found names line now given p group is =
+    by_command found names p.shape (found_accepted base sizes found p.scan) (found_tree p.scan.readings found (settled base sizes found names line now given p)) line.number line.id line.command now given p.planned p.takes p.passes group is

@@ -14,14 +14,14 @@ use Rattle.vg_scan.specs.Scans.{IsScanOf}
 use Rattle.volume_history.proofs.CommandKinds.{created_quiet}
 use Rattle.volume_history.specs.Commands.{commits}
 use Rattle.volume_history.specs.Laws.{ScansAreOne}
-use Rattle.line_history.proofs.Finding.{can_carry_out, repaired_base}
+use Rattle.line_history.proofs.Finding.{can_carry_out, zeroed_base}
 use Rattle.line_history.proofs.LineKinds.{Kind, commits_group, creates, kind_of}
 use Rattle.line_history.proofs.Lines.{change, finds_next, last_image, next}
 use Rattle.line_history.specs.EachSet.{EachSetFinds, SetsAgree}
 use Rattle.line_history.specs.LineRun.{Given, RunsLine, Done}
 
 module _ (scans : RepairedScans) (each : EachSetFinds) (one : ScansAreOne) (g : Given) (start ended : Told) (r : RunsLine g Done start ended) where
-  of_commit : (group : Group) → (change scans g Done start ended r refl refl).group ≡ Some group → SetsAgree g.sizes ended
+  of_commit : (group : Group) → (change scans g Done start ended r refl).group ≡ Some group → SetsAgree g.sizes ended
   of_commit group made image is version finds some other scan there =
       let last : image ≡ _ = last_image scans g Done start ended r refl refl refl image is in
       let same : version ≡ next scans g Done start ended r refl refl group made =
@@ -29,14 +29,14 @@ module _ (scans : RepairedScans) (each : EachSetFinds) (one : ScansAreOne) (g : 
       (subst (λ (i : Image). FindsVersion g.sizes i none_out (next scans g Done start ended r refl refl group made)) (sym last) (finds_next scans g Done start ended r refl refl group made))
       in
       let own : other ≡ group =
-      each (repaired_base g) g.sizes (repaired_of g.found) g.names g.line g.clock group (can_carry_out scans g Done start ended r refl refl) made some other
+      each (zeroed_base g) g.sizes (repaired_of g.found) g.names g.line g.clock g.given group (can_carry_out scans g Done start ended r refl refl) made some other
       (subst (λ (i : Image). IsScanOf i g.sizes some) last scan) there
       in
       ap (λ (v : Option Version). option_map (λ (w : Version). w.group) v) same ∙ ap (λ (x : Group). Some x) (sym own)
 
   pub sets_agree : commits g.line.command ≡ true → SetsAgree g.sizes ended
-  sets_agree commit = by (kind_of (state_in (repaired_of g.found) g.names) (r.given.named ∙ sym (repaired_count g.found)) g.line g.clock r.given.planned (r.passes refl))
+  sets_agree commit = by (kind_of (state_in (repaired_of g.found) g.names) (r.given.named ∙ sym (repaired_count g.found)) g.line g.clock g.given r.given.planned (r.takes refl) (r.passes refl))
     where
-      by : Kind g.names g.line.command (change scans g Done start ended r refl refl) → SetsAgree g.sizes ended
+      by : Kind g.names g.line.command (change scans g Done start ended r refl) → SetsAgree g.sizes ended
       by (commits_group group made) = of_commit group made
-      by (creates disk label none created labels on) = absurd (true≢false (sym commit ∙ (created_quiet g.names disk g.line.command created).1))
+      by (creates disk label none created labels on no_zeros) = absurd (true≢false (sym commit ∙ (created_quiet g.names disk g.line.command created).1))

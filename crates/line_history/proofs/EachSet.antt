@@ -11,6 +11,7 @@ use Rattle.disk_batch.specs.InTurn.{HasFirstBatches, Put, with_batches}
 use Rattle.disk_model.specs.Steps.{Image}
 use Rattle.disk_contents.specs.Standing.{area_on}
 use Rattle.disk_contents.specs.declared.contents.AreaFound.{AreaFound}
+use Rattle.extent_alloc.specs.declared.part.Part.{Part}
 use Rattle.lvm_script.specs.declared.line.Line.{Line}
 use Rattle.mda_header.specs.declared.header.Locn.{Locn}
 use Rattle.mda_ring.specs.declared.area.Area.{Area}
@@ -68,15 +69,15 @@ only_found group readings some other gives finds (TwoGroups a b) is by = absurd 
 only_found group readings some other gives finds (Conflict a b seqno) is by = absurd by
 only_found group readings some other gives finds (PvShape pv) is by = absurd by
 
-module _ (base : Image) (sizes : List ℕ) (found : Found) (names : List (List ℕ)) (line : Line) (now : ℕ) (p : CanCarryOut base sizes found names line now) where
+module _ (base : Image) (sizes : List ℕ) (found : Found) (names : List (List ℕ)) (line : Line) (now : ℕ) (given : List Part) (p : CanCarryOut base sizes found names line now given) where
   abbrev state : GroupState
   state = state_in found names
 
   abbrev change : Change
-  change = change_of state line
+  change = change_of state line now given
 
   abbrev last : Image
-  last = with_batches (batches_of state line now) base
+  last = with_batches (batches_of state line now given) base
 
   -- the batches, where this group is committed
   abbrev batches_with : Option Group → List (List Put)
@@ -96,16 +97,16 @@ module _ (base : Image) (sizes : List ℕ) (found : Found) (names : List (List �
     copy = let early : now < 2 ^ 48 = p.time in printed_copy group now (omega (arith, early)) c.makes.whole.tree c.makes.whole.accepted
 
     ends : All (HasLabel (with_batches (batches_with (Some group)) base)) change.labels
-    ends = subst (λ (g : Option Group). All (HasLabel (with_batches (batches_with g) base)) change.labels) c.makes.made (p.keeps.found base (shown base sizes found names line now p)).labels
+    ends = subst (λ (g : Option Group). All (HasLabel (with_batches (batches_with g) base)) change.labels) c.makes.made (p.keeps.found base (shown base sizes found names line now given p)).labels
 
-    whole : HasFirstBatches (batches_of state line now) base last
-    whole = all_written (batches_of state line now) base
+    whole : HasFirstBatches (batches_of state line now given) base last
+    whole = all_written (batches_of state line now given) base
 
     front : HasFirstBatches (batches_with (Some group)) base last
     front = subst (λ (g : Option Group). HasFirstBatches (batches_with g) base last) c.makes.made whole
 
     kept : All (IsKeptOrNew text base last) state.areas
-    kept = subst (λ (g : Option Group). AreasKeptBy g now change state.areas base last) c.makes.made (p.keeps.kept base last (shown base sizes found names line now p) whole).areas
+    kept = subst (λ (g : Option Group). AreasKeptBy g now change state.areas base last) c.makes.made (p.keeps.kept base last (shown base sizes found names line now given p) whole).areas
 
     -- each area on a disk of the group shows the new text
     abbrev IsNew : Area × Option Locn → Type 0
@@ -114,21 +115,21 @@ module _ (base : Image) (sizes : List ℕ) (found : Found) (names : List (List �
     all_new : All IsNew state.areas
     all_new =
         of_passed (lies_on (set_of change.disk_of)) (ShowsBy (new_reading text) last) state.areas
-        (subst (λ (g : Option Group). HoldsAfter g now change state.areas last) c.makes.made (p.keeps.found base (shown base sizes found names line now p)).areas)
+        (subst (λ (g : Option Group). HoldsAfter g now change state.areas last) c.makes.made (p.keeps.found base (shown base sizes found names line now given p)).areas)
 
     module _ (k : ℕ) (disk : Disk) (reading : Reading) (at_disk : slice_get found.disks k ≡ Some disk) (at_reading : slice_get p.scan.readings k ≡ Some reading) (reads : IsDiskReading k (base k) disk reading) where
       again : DiskAgain k (last k) (lists group) (λ id r. false) new disk reading
       again =
-          each_again state (is_state base sizes found names line now p) change group c.makes text ((can base sizes found names line now p).commit group c.makes.made) (can base sizes found names line now p).labels
-          (lies base sizes found names line now p).differ base ends last front [] copy kept k disk reading at_disk reads
-          (none_refused (λ id r. false) reading.pv (gives_at NotRefused p.scan.readings k reading (settled_read p.scan.readings found (settled base sizes found names line now p)) at_reading))
+          each_again state (is_state base sizes found names line now given p) change group c.makes text ((can base sizes found names line now given p).commit group c.makes.made) (can base sizes found names line now given p).labels
+          (lies base sizes found names line now given p).differ base ends last front [] copy kept k disk reading at_disk reads
+          (none_refused (λ id r. false) reading.pv (gives_at NotRefused p.scan.readings k reading (settled_read p.scan.readings found (settled base sizes found names line now given p)) at_reading))
 
       shown_on : set.contains (set_of change.disk_of) k ≡ true → All (IsShown text k last) (areas_on disk.contents)
       shown_on on n d within held is =
           let area : AreaFound = get_or (areas_on disk.contents) n d in
           let here : held.0.pv ≡ k = ap (λ (a : Area). a.pv) (entry_kept (area_on k area.area) area.entry held is) in
           let zero_less : 0 + k ≡ k = omega arith in
-          of_held IsNew 0 found.disks (subst (All IsNew) (is_state base sizes found names line now p).areas all_new) k disk at_disk n d within held (ap (λ (m : ℕ). held_area m area) zero_less ∙ is)
+          of_held IsNew 0 found.disks (subst (All IsNew) (is_state base sizes found names line now given p).areas all_new) k disk at_disk n d within held (ap (λ (m : ℕ). held_area m area) zero_less ∙ is)
           (ap (set.contains (set_of change.disk_of)) here ∙ on)
 
       -- each disk gives no copy but the new one
@@ -140,7 +141,7 @@ module _ (base : Image) (sizes : List ℕ) (found : Found) (names : List (List �
           (recursion_from_All (IsShown text k last) (areas_on disk.contents) (shown_on on)))
           (λ off.
           let before : PvGives (GivesOnly group) reading.pv =
-          pv_weaker IsNone (GivesOnly group) (none_given group) reading.pv (nothing_off base sizes found names line now p group c.makes.made k disk reading at_disk at_reading reads off)
+          pv_weaker IsNone (GivesOnly group) (none_given group) reading.pv (nothing_off base sizes found names line now given p group c.makes.made k disk reading at_disk at_reading reads off)
           in
           (again_give (GivesOnly group) new refl tt (lists group) (λ id r. false) (reading ∷ []) (again.read ∷ []) (again.same_sectors, again.again, tt) (before, tt)).0)
           (cases_Bool (set.contains (set_of change.disk_of) k))
@@ -176,11 +177,11 @@ module _ (base : Image) (sizes : List ℕ) (found : Found) (names : List (List �
         only_found group scan.readings some other (subst (DisksGive (λ disk. GivesOnly group)) same s.gives) finds (decide_scan scan.readings) refl scan.answer
 
 -- a line that commits a group
-pub set_finds : OneReading → (base : Image) (sizes : List ℕ) (found : Found) (names : List (List ℕ)) (line : Line) (now : ℕ) → CanCarryOut base sizes found names line now → (group : Group)
-    → (change_of (state_in found names) line).group ≡ Some group → (some : Found) (other : Group) → IsScanOf (with_batches (batches_of (state_in found names) line now) base) sizes some → some.group ≡ Some other → other ≡ group
-set_finds one_reading base sizes found names line now p group is some other scan finds = by (line_makes base sizes found names line now p)
+pub set_finds : OneReading → (base : Image) (sizes : List ℕ) (found : Found) (names : List (List ℕ)) (line : Line) (now : ℕ) (given : List Part) → CanCarryOut base sizes found names line now given → (group : Group)
+    → (change_of (state_in found names) line now given).group ≡ Some group → (some : Found) (other : Group) → IsScanOf (with_batches (batches_of (state_in found names) line now given) base) sizes some → some.group ≡ Some other → other ≡ group
+set_finds one_reading base sizes found names line now given p group is some other scan finds = by (line_makes base sizes found names line now given p)
   where
-    by : LineMakes found (state_in found names) (change_of (state_in found names) line) → other ≡ group
-    by (makes_version c) = of_commit base sizes found names line now p c one_reading some other scan finds ∙ same_Some c.group group (sym c.makes.made ∙ is)
+    by : LineMakes found (state_in found names) (change_of (state_in found names) line now given) → other ≡ group
+    by (makes_version c) = of_commit base sizes found names line now given p c one_reading some other scan finds ∙ same_Some c.group group (sym c.makes.made ∙ is)
     by (makes_pv m) = absurd (let e : ◌≡◌ {A = Option Group} None (Some group) = sym m.none ∙ is in cc)
     by (makes_nothing none labels) = absurd (let e : ◌≡◌ {A = Option Group} None (Some group) = sym none ∙ is in cc)

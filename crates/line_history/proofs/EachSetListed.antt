@@ -7,8 +7,9 @@ use Rattle.std.specs.Option.{option_map_or}
 use Rattle.disk_model.specs.Steps.{Image}
 use Rattle.disk_contents.specs.declared.contents.PvFound.{PvFound}
 use Rattle.disk_contents.specs.declared.contents.PvFound.TheVariants.{NoLabel, NoHeader, Whole}
+use Rattle.extent_alloc.specs.declared.part.Part.{Part}
 use Rattle.lvm_script.specs.declared.command.Command.{Command}
-use Rattle.lvm_script.specs.declared.command.Command.TheVariants.{Lvreduce, Lvremove, Lvrename, Pvcreate, Vgcreate, Vgextend, Vgrename}
+use Rattle.lvm_script.specs.declared.command.Command.TheVariants.{Lvcreate, Lvextend, Lvreduce, Lvremove, Lvrename, Pvcreate, Vgcreate, Vgextend, Vgrename}
 use Rattle.lvm_script.specs.declared.line.Line.{Line}
 use Rattle.lvm_script.specs.declared.op_refusal.OpRefusal.{OpRefusal}
 use Rattle.lvm_script.specs.declared.op_refusal.OpRefusal.TheVariants.{GroupStands}
@@ -25,9 +26,10 @@ use Rattle.group_ops.proofs.Disks.{disk_with_own}
 use Rattle.group_ops.proofs.NextVersions.{append_nil, commits_next, is_next}
 use Rattle.group_ops.proofs.Passed.{absent}
 use Rattle.group_ops.specs.Added.{added_of, disks_added}
+use Rattle.group_ops.specs.Allocating.{Takes}
 use Rattle.group_ops.specs.Judging.{first_refusal, set_of}
 use Rattle.group_ops.specs.Laws.{state_in}
-use Rattle.group_ops.specs.Planning.{IsPlanned, change_of, extend_by, refusal_of}
+use Rattle.group_ops.specs.Planning.{IsPlanned, asks_of, change_of, extend_by, refusal_of}
 use Rattle.group_ops.specs.declared.state.Change.{Change}
 use Rattle.image_scans.proofs.CommitLine.{settled}
 use Rattle.image_scans.proofs.Given.{IsNone, IsSettled, PvGives, pv_weaker}
@@ -50,22 +52,24 @@ module _ (found : Found) (names : List (List ℕ)) (old : Group) (there : found.
   extends pvs None is = absurd (let e : ◌≡◌ {A = Option Group} (Some old) None = sym there ∙ is in cc)
   extends pvs (Some group) is = (disks_added (added_of (state_in found names) pvs), refl)
 
-  next_front : (number : ℕ) (id : Option (List ℕ)) (command : Command) (now : ℕ) → IsPlanned id command → is_next command ≡ true → refusal_of (state_in found names) (record { number = number; id = id; command = command }) now ≡ None
-      → HasFront (change_of (state_in found names) (record { number = number; id = id; command = command }))
-  next_front number id command now planned next passes =
-      let made = commits_next (state_in found names) number id command now planned next passes in ([], ap (λ (c : Change). c.disk_of) made.change_xl ∙ sym (append_nil found.disk_of))
+  next_front : (number : ℕ) (id : Option (List ℕ)) (command : Command) (now : ℕ) (given : List Part) → IsPlanned id command → is_next command ≡ true → Takes (asks_of (state_in found names) (record { number = number; id = id; command = command })) given → refusal_of (state_in found names) (record { number = number; id = id; command = command }) now given ≡ None
+      → HasFront (change_of (state_in found names) (record { number = number; id = id; command = command }) now given)
+  next_front number id command now given planned next takes passes =
+      let made = commits_next (state_in found names) number id command now given planned next takes passes in ([], ap (λ (c : Change). c.disk_of) made.change_xl ∙ sym (append_nil found.disk_of))
 
-  front_by : (number : ℕ) (id : Option (List ℕ)) (command : Command) (now : ℕ) → IsPlanned id command → refusal_of (state_in found names) (record { number = number; id = id; command = command }) now ≡ None
-      → (group : Group) → (change_of (state_in found names) (record { number = number; id = id; command = command })).group ≡ Some group
-      → HasFront (change_of (state_in found names) (record { number = number; id = id; command = command }))
-  front_by number id (Pvcreate pv copies) now planned passes group is = absurd cc
-  front_by number id (Vgcreate vg extent_size pvs) now planned passes group is = absurd (let e : ◌≡◌ {A = Option Group} (Some old) None = sym there ∙ none_found _ found.group passes in cc)
-  front_by number id (Vgextend vg pvs) now planned passes group is = extends pvs found.group refl
-  front_by number id (Vgrename vg new) now planned passes group is = next_front number id (Vgrename vg new) now planned refl passes
-  front_by number id (Lvreduce path amount) now planned passes group is = next_front number id (Lvreduce path amount) now planned refl passes
-  front_by number id (Lvremove path) now planned passes group is = next_front number id (Lvremove path) now planned refl passes
-  front_by number id (Lvrename vg old new) now planned passes group is = next_front number id (Lvrename vg old new) now planned refl passes
-  front_by number id command now planned passes group is = absurd planned
+  front_by : (number : ℕ) (id : Option (List ℕ)) (command : Command) (now : ℕ) (given : List Part) → IsPlanned id command → Takes (asks_of (state_in found names) (record { number = number; id = id; command = command })) given → refusal_of (state_in found names) (record { number = number; id = id; command = command }) now given ≡ None
+      → (group : Group) → (change_of (state_in found names) (record { number = number; id = id; command = command }) now given).group ≡ Some group
+      → HasFront (change_of (state_in found names) (record { number = number; id = id; command = command }) now given)
+  front_by number id (Pvcreate pv copies) now given planned takes passes group is = absurd cc
+  front_by number id (Vgcreate vg extent_size pvs) now given planned takes passes group is = absurd (let e : ◌≡◌ {A = Option Group} (Some old) None = sym there ∙ none_found _ found.group passes in cc)
+  front_by number id (Vgextend vg pvs) now given planned takes passes group is = extends pvs found.group refl
+  front_by number id (Vgrename vg new) now given planned takes passes group is = next_front number id (Vgrename vg new) now given planned refl takes passes
+  front_by number id (Lvcreate new) now given planned takes passes group is = next_front number id (Lvcreate new) now given planned refl takes passes
+  front_by number id (Lvextend path growth pvs) now given planned takes passes group is = next_front number id (Lvextend path growth pvs) now given planned refl takes passes
+  front_by number id (Lvreduce path amount) now given planned takes passes group is = next_front number id (Lvreduce path amount) now given planned refl takes passes
+  front_by number id (Lvremove path) now given planned takes passes group is = next_front number id (Lvremove path) now given planned refl takes passes
+  front_by number id (Lvrename vg old new) now given planned takes passes group is = next_front number id (Lvrename vg old new) now given planned refl takes passes
+  front_by number id command now given planned takes passes group is = absurd planned
 
 -- ---- a disk that is none of these isn't listed
 
@@ -91,15 +95,15 @@ nothing_is HoldsNone is = refl
 nothing_is (Copy group text passed) is = absurd cc
 nothing_is (Refused why) is = absurd cc
 
-module _ (base : Image) (sizes : List ℕ) (found : Found) (names : List (List ℕ)) (line : Line) (now : ℕ) (p : CanCarryOut base sizes found names line now) (group : Group) (is : (change_of (state_in found names) line).group ≡ Some group) where
+module _ (base : Image) (sizes : List ℕ) (found : Found) (names : List (List ℕ)) (line : Line) (now : ℕ) (given : List Part) (p : CanCarryOut base sizes found names line now given) (group : Group) (is : (change_of (state_in found names) line now given).group ≡ Some group) where
   abbrev change : Change
-  change = change_of (state_in found names) line
+  change = change_of (state_in found names) line now given
 
   module _ (k : ℕ) (disk : Disk) (reading : Reading) (at_disk : slice_get found.disks k ≡ Some disk) (at_reading : slice_get p.scan.readings k ≡ Some reading) (reads : IsDiskReading k (base k) disk reading)
       (off : set.contains (set_of change.disk_of) k ≡ false) where
     unlisted : (old : Group) → found.group ≡ Some old → is_listed old reading ≡ false
     unlisted old there =
-        let front = front_by found names old there line.number line.id line.command now p.planned p.passes group is in
+        let front = front_by found names old there line.number line.id line.command now given p.planned p.takes p.passes group is in
         let listed : found.disk_of ≡ disks_of old found.disks = subst (λ (o : Option Group). IfSome o (λ g. found.disk_of ≡ disks_of g found.disks)) there p.shape.disk_of in
         let apart : Each (λ n. n ≢ k) (disks_of old found.disks ++ front.0) = subst (Each (λ n. n ≢ k)) (front.1 ∙ ap (λ (l : List ℕ). l ++ front.0) listed) (absent set.empty change.disk_of k off).1 in
         unlisted_by old k reading.sectors (base k) disk.contents reading.pv reads.pv_xl
@@ -112,4 +116,4 @@ module _ (base : Image) (sizes : List ℕ) (found : Found) (names : List (List �
 
     -- it gives nothing
     pub nothing_off : PvGives IsNone reading.pv
-    nothing_off = by (settled base sizes found names line now p)
+    nothing_off = by (settled base sizes found names line now given p)

@@ -1,16 +1,15 @@
 -- What a scan finds in the images of a run of one line, and that the places of volumes keep their contents.
-use Rattle.std.proofs.Common.{◌≡◌, ℕ, true, false, Some, ⊎_elim, refl, sym, ap, subst, ◌∙◌}
+use Rattle.std.proofs.Common.{◌≡◌, ℕ, true, Option, Some, ⊎_elim, refl, sym, ap, subst, ◌∙◌}
 use Rattle.std.proofs.Math.Path.{fun_ext}
-use Rattle.std.proofs.lemmas.Bool.{false≢true}
 use Rattle.sector_base.specs.declared.places.At.{At}
-use Rattle.disk_batch.proofs.InTurn.{first_none}
 use Rattle.disk_batch.specs.InTurn.{HasFirstBatches, with_batches}
 use Rattle.disk_model.specs.Steps.{Image, IsSame, Told}
 use Rattle.image_scans.proofs.CommitLine.{all_written}
 use Rattle.image_scans.proofs.LineScans.{base_scans}
 use Rattle.image_scans.proofs.NoWrites.{place_kept}
+use Rattle.image_scans.proofs.Zeroes.{zeroes_keep_places, zeroes_scan}
 use Rattle.image_scans.specs.Laws.{CanCarryOut, none_out}
-use Rattle.image_scans.specs.Versions.{FindsVersion, version_in}
+use Rattle.image_scans.specs.Versions.{FindsVersion, Version, version_in}
 use Rattle.meta_model.specs.declared.group.Group.{Group}
 use Rattle.repair_scans.proofs.RepairFound.{repairs_scan}
 use Rattle.repair_scans.proofs.RepairPlaces.{place_kept as repair_keeps}
@@ -21,8 +20,8 @@ use Rattle.vg_repair.specs.Repaired.{repaired_of}
 use Rattle.vg_scan.specs.Scans.{IsScanOf}
 use Rattle.volume_view.specs.Places.{primary}
 use Rattle.volume_view.specs.View.{at_place}
-use Rattle.line_history.proofs.Images.{IsAfter, IsBefore, begun_repair}
-use Rattle.line_history.specs.LineRun.{Given, RunsLine, Stage, batches_in, is_repaired, line_begun, repair_begun, repairs_in}
+use Rattle.line_history.proofs.Images.{IsAfter, IsBefore, IsZeroing, begun_repair}
+use Rattle.line_history.specs.LineRun.{Given, RunsLine, Stage, is_repaired, repair_begun, repairs_in, zeros_begun, zeros_in}
 
 -- images that are the same in each sector are one
 pub one_image : (a b : Image) → IsSame a b → a ≡ b
@@ -36,6 +35,10 @@ KeepsPlaces g image =
 -- the base and all of the repair
 abbrev pub repaired_base : Given → Image
 repaired_base g = with_batches (repairs_in g) g.base
+
+-- and all zeros of the line
+abbrev pub zeroed_base : Given → Image
+zeroed_base g = with_batches (zeros_in g) (repaired_base g)
 
 module _ (scans : RepairedScans) (g : Given) (stage : Stage) (start ended : Told) (r : RunsLine g stage start ended) where
   pub found_before : FindsVersion g.sizes g.base none_out (version_in g.found)
@@ -79,11 +82,12 @@ module _ (scans : RepairedScans) (g : Given) (stage : Stage) (start ended : Told
     kept_start : KeepsPlaces g (repaired_base g)
     kept_start group there lv sector at is_at = repair_keeps g.base g.sizes g.found (can_repair begun) group there lv sector at is_at (repaired_base g) all_repaired
 
-    -- ---- and the line was begun
-    module _ (line : line_begun stage ≡ true) where
-      pub can_carry_out : CanCarryOut (repaired_base g) g.sizes (repaired_of g.found) g.names g.line g.clock
-      can_carry_out = record {
-        scan = scan_repaired;
+    -- ---- and its zeros were begun
+    module _ (zeros : zeros_begun stage ≡ true) where
+      -- the line can be carried out on any base of which a scan finds that
+      can_on : (base : Image) → IsScanOf base g.sizes (repaired_of g.found) → CanCarryOut base g.sizes (repaired_of g.found) g.names g.line g.clock g.given
+      can_on base scan = record {
+        scan = scan;
         shape = r.repaired_shape repaired;
         whole = r.repaired_whole repaired;
         no_stale = refl;
@@ -92,25 +96,55 @@ module _ (scans : RepairedScans) (g : Given) (stage : Stage) (start ended : Told
         names_are = r.given.names_are;
         planned = r.given.planned;
         time = r.given.time;
-        passes = r.passes line;
-        keeps = r.keeps line;
+        takes = r.takes zeros;
+        passes = r.passes zeros;
+        keeps = r.keeps zeros;
       }
 
-    pub kept_after : (image : Image) → IsAfter g stage start ended r image → KeepsPlaces g image
-    kept_after image is group there lv sector at is_at =
-        ⊎_elim
-        (λ same. ap (λ (i : Image). at_place i g.found.disk_of at) (one_image image (repaired_base g) same) ∙ kept_start group there lv sector at is_at)
-        (λ way. place_kept (repaired_base g) g.sizes (repaired_of g.found) g.names g.line g.clock (can_carry_out way.0) group there image way.1 lv sector at is_at ∙ kept_start group there lv sector at is_at)
-        is
+      pub can_start : CanCarryOut (repaired_base g) g.sizes (repaired_of g.found) g.names g.line g.clock g.given
+      can_start = can_on (repaired_base g) scan_repaired
 
-    -- an image from the start on is one on the way of the line, where that was begun
-    pub on_the_way : line_begun stage ≡ true → (image : Image) → IsAfter g stage start ended r image → HasFirstBatches (batches_in g) (repaired_base g) image
-    on_the_way line image is = ⊎_elim (λ same. first_none (batches_in g) (repaired_base g) image same) (λ way. way.1) is
+      -- on their way the same is found
+      scan_zeroing : (image : Image) → HasFirstBatches (zeros_in g) (repaired_base g) image → IsScanOf image g.sizes (repaired_of g.found)
+      scan_zeroing image way = zeroes_scan (repaired_base g) g.sizes (repaired_of g.found) g.names g.line g.clock g.given can_start image way
 
-    -- and the base with all of the repair where it wasn't
-    pub stays_after : line_begun stage ≡ false → (image : Image) → IsAfter g stage start ended r image → FindsVersion g.sizes image none_out (version_in g.found)
-    stays_after unbegun image is =
+      all_zeroed : HasFirstBatches (zeros_in g) (repaired_base g) (zeroed_base g)
+      all_zeroed = all_written (zeros_in g) (repaired_base g)
+
+      pub scan_zeroed : IsScanOf (zeroed_base g) g.sizes (repaired_of g.found)
+      scan_zeroed = scan_zeroing (zeroed_base g) all_zeroed
+
+      -- and so the line can be carried out behind them
+      pub can_carry_out : CanCarryOut (zeroed_base g) g.sizes (repaired_of g.found) g.names g.line g.clock g.given
+      can_carry_out = can_on (zeroed_base g) scan_zeroed
+
+      finds_scanned : (image : Image) → IsScanOf image g.sizes (repaired_of g.found) → FindsVersion g.sizes image none_out (version_in g.found)
+      finds_scanned image scan = subst (λ (v : Option Version). FindsVersion g.sizes image none_out v) same_version (base_scans image g.sizes (repaired_of g.found) scan (r.repaired_whole repaired))
+
+      pub finds_zeroed : FindsVersion g.sizes (zeroed_base g) none_out (version_in g.found)
+      finds_zeroed = finds_scanned (zeroed_base g) scan_zeroed
+
+      kept_on_way : (image : Image) → HasFirstBatches (zeros_in g) (repaired_base g) image → KeepsPlaces g image
+      kept_on_way image way group there lv sector at is_at =
+          zeroes_keep_places (repaired_base g) g.sizes (repaired_of g.found) g.names g.line g.clock g.given can_start image way group there lv sector at is_at ∙ kept_start group there lv sector at is_at
+
+      -- behind the zeros an image on the way of the line keeps the places too
+      pub kept_after : (image : Image) → IsAfter g stage start ended r image → KeepsPlaces g image
+      kept_after image way group there lv sector at is_at =
+          place_kept (zeroed_base g) g.sizes (repaired_of g.found) g.names g.line g.clock g.given can_carry_out group there image way lv sector at is_at
+          ∙ kept_on_way (zeroed_base g) all_zeroed group there lv sector at is_at
+
+    -- until the zeros are written
+    pub finds_zeroing : (image : Image) → IsZeroing g stage start ended r image → FindsVersion g.sizes image none_out (version_in g.found)
+    finds_zeroing image is =
         ⊎_elim
         (λ same. subst (λ (i : Image). FindsVersion g.sizes i none_out (version_in g.found)) (sym (one_image image (repaired_base g) same)) finds_start)
-        (λ way. absurd (false≢true (sym unbegun ∙ way.0)))
+        (λ way. finds_scanned way.0 image (scan_zeroing way.0 image way.1))
+        is
+
+    pub kept_zeroing : (image : Image) → IsZeroing g stage start ended r image → KeepsPlaces g image
+    kept_zeroing image is group there lv sector at is_at =
+        ⊎_elim
+        (λ same. ap (λ (i : Image). at_place i g.found.disk_of at) (one_image image (repaired_base g) same) ∙ kept_start group there lv sector at is_at)
+        (λ way. kept_on_way way.0 image way.1 group there lv sector at is_at)
         is

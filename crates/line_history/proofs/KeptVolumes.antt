@@ -11,7 +11,8 @@ use Rattle.volume_rules.specs.Rules.{IsAccepted}
 use Rattle.volume_view.specs.Places.{primary}
 use Rattle.volume_view.proofs.PrimariesStand.{primary_stands}
 use Rattle.image_scans.specs.Versions.{Version}
-use Rattle.image_scans.proofs.Placed.{IsInExtents, primary_in_extents}
+use Rattle.image_scans.specs.Laws.{IsInExtents}
+use Rattle.image_scans.proofs.Placed.{primary_in_extents}
 use Rattle.volume_history.specs.Placed.{Place, PlacedVolume, no_place, on_disk, place_of, placed_from, places_of, volumes_of}
 
 -- ---- rows

@@ -1,6 +1,7 @@
 pub mod KeptVolumes
 pub mod RenamedVolumes
 pub mod ShortenedVolumes
+pub mod LongerVolumes
 pub mod RemovedVolumes
 pub mod ChangedVolumes
 pub mod Untouched
@@ -11,6 +12,7 @@ pub mod Images
 pub mod Finding
 pub mod Origins
 pub mod LineKinds
+pub mod NewZeroes
 pub mod Lines
 pub mod OneDisk
 pub mod NewDisk
@@ -19,6 +21,7 @@ pub mod Looks
 pub mod WritesLieAny
 pub mod WritesLieLine
 pub mod WritesLieRepair
+pub mod WritesLieZeros
 pub mod EachSetListed
 pub mod EachSetAreas
 pub mod EachSetDisks

@@ -4,9 +4,10 @@ use Rattle.std.specs.Prelude.{option_map, slice_get, unwrap_or}
 use Rattle.std.specs.Option.{option_map_or}
 use Rattle.std.specs.Str.{bytes_eq}
 use Rattle.std.proofs.lemmas.Option.{same_Some}
+use Rattle.extent_alloc.specs.declared.part.Part.{Part}
 use Rattle.lvm_script.specs.Options.{Word, number_named}
 use Rattle.lvm_script.specs.declared.command.Command.{Command}
-use Rattle.lvm_script.specs.declared.command.Command.TheVariants.{Lvreduce, Lvremove, Lvrename, Pvcreate, Vgcreate, Vgextend, Vgrename}
+use Rattle.lvm_script.specs.declared.command.Command.TheVariants.{Lvcreate, Lvextend, Lvreduce, Lvremove, Lvrename, Pvcreate, Vgcreate, Vgextend, Vgrename}
 use Rattle.lvm_script.specs.declared.line.Line.{Line}
 use Rattle.lvm_script.specs.declared.op_refusal.OpRefusal.{OpRefusal}
 use Rattle.lvm_script.specs.declared.op_refusal.OpRefusal.TheVariants.{UnknownGroup, UnknownPv}
@@ -14,9 +15,10 @@ use Rattle.meta_model.specs.declared.group.Group.{Group}
 use Rattle.vg_found.specs.declared.disk.Disk.{Disk}
 use Rattle.group_ops.proofs.NextVersions.{commits_next, is_next}
 use Rattle.group_ops.specs.Added.{added_of}
+use Rattle.group_ops.specs.Allocating.{Takes}
 use Rattle.group_ops.specs.Judging.{first_refusal}
 use Rattle.group_ops.specs.NewGroup.{extended}
-use Rattle.group_ops.specs.Planning.{IsPlanned, change_of, extend_by, refusal_of}
+use Rattle.group_ops.specs.Planning.{IsPlanned, asks_of, change_of, extend_by, refusal_of}
 use Rattle.group_ops.specs.Pvcreate.{disk_rows, new_label, pvcreate_change}
 use Rattle.group_ops.specs.Vgcreate.{empty_group}
 use Rattle.group_edits.specs.NextVersion.{next_version}
@@ -26,10 +28,10 @@ use Rattle.group_ops.specs.declared.state.GroupState.{GroupState}
 use Rattle.group_ops.specs.declared.state.NewLabel.{NewLabel}
 use Rattle.volume_history.specs.Commands.{created_disk}
 
--- a line with this change
+-- a line with this change: one that creates a physical volume zeroes nothing
 pub data Kind (names : List Word) (command : Command) (change : Change) : Type 0 where
   commits_group : (group : Group) → change.group ≡ Some group → Kind names command change
-  creates : (disk : ℕ) (label : NewLabel) → change.group ≡ None → created_disk names command ≡ Some disk → change.labels ≡ label ∷ [] → label.disk ≡ disk → Kind names command change
+  creates : (disk : ℕ) (label : NewLabel) → change.group ≡ None → created_disk names command ≡ Some disk → change.labels ≡ label ∷ [] → label.disk ≡ disk → change.zero ≡ [] → Kind names command change
 
 -- ---- pvcreate
 
@@ -63,7 +65,7 @@ create_kind state id pv copies command (Some number) is created many none =
     creates number (new_label id copies number disk.0) refl created
     (ap (λ (o : Option ℕ). option_map_or (λ number. option_map_or (λ disk. new_label id copies number disk ∷ []) (slice_get state.disks number) []) o []) is
     ∙ ap (λ (o : Option Disk). option_map_or (λ disk. new_label id copies number disk ∷ []) o []) disk.1)
-    refl
+    refl refl
 
 -- ---- any line
 
@@ -72,21 +74,23 @@ extend_kind : (state : GroupState) (vg : List ℕ) (pvs : List (List ℕ)) (now 
 extend_kind state vg pvs now command None none = absurd cc
 extend_kind state vg pvs now command (Some group) none = commits_group (extended (next_version group) (added_of state pvs)) refl
 
-next_kind : (state : GroupState) (number : ℕ) (id : Option (List ℕ)) (command : Command) (now : ℕ) → IsPlanned id command → is_next command ≡ true
-    → refusal_of state (record { number = number; id = id; command = command }) now ≡ None → Kind state.names command (change_of state (record { number = number; id = id; command = command }))
-next_kind state number id command now planned is none =
-    let made = commits_next state number id command now planned is none in commits_group made.next (ap (λ (c : Change). c.group) made.change_xl)
+next_kind : (state : GroupState) (number : ℕ) (id : Option (List ℕ)) (command : Command) (now : ℕ) (given : List Part) → IsPlanned id command → is_next command ≡ true
+    → Takes (asks_of state (record { number = number; id = id; command = command })) given → refusal_of state (record { number = number; id = id; command = command }) now given ≡ None → Kind state.names command (change_of state (record { number = number; id = id; command = command }) now given)
+next_kind state number id command now given planned is takes none =
+    let made = commits_next state number id command now given planned is takes none in commits_group made.next (ap (λ (c : Change). c.group) made.change_xl)
 
-kind_by : (state : GroupState) → length state.names ≡ length state.disks → (number : ℕ) (id : Option (List ℕ)) (command : Command) (now : ℕ) → IsPlanned id command
-    → refusal_of state (record { number = number; id = id; command = command }) now ≡ None → Kind state.names command (change_of state (record { number = number; id = id; command = command }))
-kind_by state many number id (Pvcreate pv copies) now planned none = create_kind state (unwrap_or id []) pv copies (Pvcreate pv copies) (number_named state.names pv) refl refl many none
-kind_by state many number id (Vgcreate vg extent_size pvs) now planned none = commits_group (extended (empty_group (unwrap_or id []) vg extent_size) (added_of state pvs)) refl
-kind_by state many number id (Vgextend vg pvs) now planned none = extend_kind state vg pvs now (Vgextend vg pvs) state.group none
-kind_by state many number id (Vgrename vg new) now planned none = next_kind state number id (Vgrename vg new) now planned refl none
-kind_by state many number id (Lvreduce path amount) now planned none = next_kind state number id (Lvreduce path amount) now planned refl none
-kind_by state many number id (Lvremove path) now planned none = next_kind state number id (Lvremove path) now planned refl none
-kind_by state many number id (Lvrename vg old new) now planned none = next_kind state number id (Lvrename vg old new) now planned refl none
-kind_by state many number id command now planned none = absurd planned
+kind_by : (state : GroupState) → length state.names ≡ length state.disks → (number : ℕ) (id : Option (List ℕ)) (command : Command) (now : ℕ) (given : List Part) → IsPlanned id command
+    → Takes (asks_of state (record { number = number; id = id; command = command })) given → refusal_of state (record { number = number; id = id; command = command }) now given ≡ None → Kind state.names command (change_of state (record { number = number; id = id; command = command }) now given)
+kind_by state many number id (Pvcreate pv copies) now given planned takes none = create_kind state (unwrap_or id []) pv copies (Pvcreate pv copies) (number_named state.names pv) refl refl many none
+kind_by state many number id (Vgcreate vg extent_size pvs) now given planned takes none = commits_group (extended (empty_group (unwrap_or id []) vg extent_size) (added_of state pvs)) refl
+kind_by state many number id (Vgextend vg pvs) now given planned takes none = extend_kind state vg pvs now (Vgextend vg pvs) state.group none
+kind_by state many number id (Vgrename vg new) now given planned takes none = next_kind state number id (Vgrename vg new) now given planned refl takes none
+kind_by state many number id (Lvcreate new) now given planned takes none = next_kind state number id (Lvcreate new) now given planned refl takes none
+kind_by state many number id (Lvextend path growth pvs) now given planned takes none = next_kind state number id (Lvextend path growth pvs) now given planned refl takes none
+kind_by state many number id (Lvreduce path amount) now given planned takes none = next_kind state number id (Lvreduce path amount) now given planned refl takes none
+kind_by state many number id (Lvremove path) now given planned takes none = next_kind state number id (Lvremove path) now given planned refl takes none
+kind_by state many number id (Lvrename vg old new) now given planned takes none = next_kind state number id (Lvrename vg old new) now given planned refl takes none
+kind_by state many number id command now given planned takes none = absurd planned
 
-pub kind_of : (state : GroupState) → length state.names ≡ length state.disks → (line : Line) (now : ℕ) → IsPlanned line.id line.command → refusal_of state line now ≡ None → Kind state.names line.command (change_of state line)
-kind_of state many line now planned none = kind_by state many line.number line.id line.command now planned none
+pub kind_of : (state : GroupState) → length state.names ≡ length state.disks → (line : Line) (now : ℕ) (given : List Part) → IsPlanned line.id line.command → Takes (asks_of state line) given → refusal_of state line now given ≡ None → Kind state.names line.command (change_of state line now given)
+kind_of state many line now given planned takes none = kind_by state many line.number line.id line.command now given planned takes none

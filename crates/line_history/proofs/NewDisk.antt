@@ -1,5 +1,7 @@
 -- A line that makes a new physical volume: its disk is left out once it was written, until the line is done.
 use Rattle.std.proofs.Common.{◌≡◌, ◌≤◌, ℕ, ◌+◌, ◌-◌, ◌==◌, ◌&&◌, ◌||◌, Bool, true, false, List, [], ◌∷◌, ◌++◌, length, map, take, Option, Some, None, refl, sym, ap, subst, ◌∙◌, arith}
+use Rattle.sector_base.specs.declared.spans.Span.{Span}
+use Rattle.disk_batch.proofs.InTurn.{of_submitted, turns_both}
 use Rattle.disk_batch.specs.InTurn.{Put, WritesInTurn}
 use Rattle.disk_model.specs.CrashValues.{IsImage}
 use Rattle.disk_model.specs.Durability.{IsBase}
@@ -8,10 +10,11 @@ use Rattle.disk_model.specs.Order.{WritesNothing}
 use Rattle.disk_model.specs.Since.{writes_submitted}
 use Rattle.disk_model.specs.Steps.{Image, Step, Told, steps_on}
 use Rattle.group_ops.specs.declared.state.NewLabel.{NewLabel}
+use Rattle.image_scans.proofs.LineScans.{images_scan}
 use Rattle.image_scans.specs.Laws.{FindsAtEnd, FindsOnTheWay, is_labelled, none_out}
 use Rattle.image_scans.specs.Versions.{FindsVersion, Version, version_in}
 use Rattle.meta_model.specs.declared.group.Group.{Group}
-use Rattle.vg_change.specs.Batches.{areas_of, batch_if, commit_batches, label_put, new_area_puts}
+use Rattle.vg_change.specs.Batches.{areas_of, batch_if, commit_batches, label_put, new_area_puts, zero_put}
 use Rattle.repair_scans.specs.Laws.{RepairedScans}
 use Rattle.vg_repair.specs.Repaired.{repaired_of}
 use Rattle.volume_history.proofs.Bits.{eq_of}
@@ -19,12 +22,12 @@ use Rattle.volume_history.proofs.Phases.{finds_with}
 use Rattle.volume_history.specs.Chronicles.{has_written, steps_upto}
 use Rattle.volume_history.specs.Commands.{created_disk}
 use Rattle.volume_history.specs.Single.{CreateLaw, CreatedLaw, is_half_made}
-use Rattle.line_history.proofs.Finding.{finds_start, one_image, repaired_base, same_version}
-use Rattle.line_history.proofs.Images.{quiet_base, start_base}
-use Rattle.line_history.proofs.Lines.{change, done_finds, done_image, is_still, last_image, origin_repaired, way_at}
+use Rattle.line_history.proofs.Finding.{can_start, finds_start, one_image, repaired_base, same_version}
+use Rattle.line_history.proofs.Images.{all_zeros, begun_zeros, line as line_of, quiet_base, start_base}
+use Rattle.line_history.proofs.Lines.{change, done_finds, done_image, is_still, last_image, origin_repaired}
 use Rattle.line_history.proofs.OneDisk.{AreOn, BatchesAreOn, first_on, label_on, older_on, unwritten}
 use Rattle.line_history.proofs.Seen.{part, part_then, told_then}
-use Rattle.line_history.specs.LineRun.{Given, RunsLine, Stage, batches_if, batches_in, is_done, is_repaired, line_begun}
+use Rattle.line_history.specs.LineRun.{Given, RunsLine, Stage, batches_in, is_done, is_repaired, is_zeroed, zeros_in}
 
 -- a test of one disk, which gives there what it gives
 at_disk : (disk pv : ℕ) (test : ℕ → Bool) (w : Bool) → test disk ≡ w → ((disk == pv) && test pv) ≡ ((disk == pv) && w)
@@ -46,11 +49,17 @@ or_false : (b : Bool) → (b || false) ≡ b
 or_false true = refl
 or_false false = refl
 
-module _ (scans : RepairedScans) (g : Given) (stage : Stage) (start ended : Told) (r : RunsLine g stage start ended) (repaired : is_repaired stage ≡ true) (begun : line_begun stage ≡ true)
-    (disk : ℕ) (label : NewLabel) (none : (change scans g stage start ended r repaired begun).group ≡ None) (created : created_disk g.names g.line.command ≡ Some disk)
-    (labels : (change scans g stage start ended r repaired begun).labels ≡ label ∷ []) (on : label.disk ≡ disk) where
-  abbrev line : WritesInTurn start (batches_if (line_begun stage) (batches_in g)) (is_done stage) ended
-  line = r.written repaired
+module _ (scans : RepairedScans) (g : Given) (stage : Stage) (start ended : Told) (r : RunsLine g stage start ended) (repaired : is_repaired stage ≡ true) (zeroed : is_zeroed stage ≡ true)
+    (disk : ℕ) (label : NewLabel) (none : (change scans g stage start ended r repaired).group ≡ None) (created : created_disk g.names g.line.command ≡ Some disk)
+    (labels : (change scans g stage start ended r repaired).labels ≡ label ∷ []) (on : label.disk ≡ disk) (no_zeros : (change scans g stage start ended r repaired).zero ≡ []) where
+  -- it writes no zeros, so that its batches are all that it writes
+  all_batches : zeros_in g ++ batches_in g ≡ batches_in g
+  all_batches = ap (λ (spans : List Span). batch_if (map zero_put spans) ++ batches_in g) no_zeros
+
+  line : WritesInTurn start (batches_in g) (is_done stage) ended
+  line =
+      subst (λ (l : List (List Put)). WritesInTurn start l (is_done stage) ended) all_batches
+      (turns_both start r.zeroed ended (zeros_in g) (batches_in g) (is_done stage) (all_zeros g stage start ended r repaired zeroed) (line_of g stage start ended r repaired zeroed))
 
   abbrev version : Option Version
   version = version_in g.found
@@ -59,16 +68,22 @@ module _ (scans : RepairedScans) (g : Given) (stage : Stage) (start ended : Told
   abbrev batches_with : Option Group → List NewLabel → List (List Put)
   batches_with group all =
       batch_if (new_area_puts group all) ++ batch_if (map label_put all)
-      ++ commit_batches group g.clock (areas_of (change scans g stage start ended r repaired begun) (repaired_of g.found).areas)
+      ++ commit_batches group g.clock (areas_of (change scans g stage start ended r repaired) (repaired_of g.found).areas)
 
-  batches_on : BatchesAreOn disk (batches_if (line_begun stage) (batches_in g))
+  batches_on : BatchesAreOn disk (batches_in g)
   batches_on =
-      subst (λ (w : Bool). BatchesAreOn disk (batches_if w (batches_in g))) (sym begun)
-      (subst (λ (o : Option Group). BatchesAreOn disk (batches_with o (change scans g stage start ended r repaired begun).labels)) (sym none)
-      (subst (λ (all : List NewLabel). BatchesAreOn disk (batches_with None all)) (sym labels) (label_on disk label on)))
+      subst (λ (o : Option Group). BatchesAreOn disk (batches_with o (change scans g stage start ended r repaired).labels)) (sym none)
+      (subst (λ (all : List NewLabel). BatchesAreOn disk (batches_with None all)) (sym labels) (label_on disk label on))
 
   since_on : AreOn disk (writes_submitted line.since)
-  since_on = subst (AreOn disk) (sym line.writes) (first_on disk line.submitted (batches_if (line_begun stage) (batches_in g)) batches_on)
+  since_on = subst (AreOn disk) (sym line.writes) (first_on disk line.submitted (batches_in g) batches_on)
+
+  -- an image from the start on is one on their way
+  new_way : (m : ℕ) → length start.steps ≤ m → m ≤ length ended.steps → (image : Image) → IsImage (at_moment m ended) image
+      → FindsOnTheWay g.sizes image (repaired_of g.found) (change scans g stage start ended r repaired) (change scans g stage start ended r repaired).group
+  new_way m ge le image is =
+      images_scan (repaired_base g) g.sizes (repaired_of g.found) g.names g.line g.clock g.given (can_start scans g stage start ended r repaired (begun_zeros stage zeroed)) image
+      (of_submitted line.submitted (batches_in g) (repaired_base g) image (line.every_image (repaired_base g) (start_base g stage start ended r repaired) m ge le image is))
 
   -- ---- at a moment from the start on
   module _ (m : ℕ) (ge : length start.steps ≤ m) (le : m ≤ length ended.steps) where
@@ -82,16 +97,16 @@ module _ (scans : RepairedScans) (g : Given) (stage : Stage) (start ended : Told
     half_made : (w : Bool) → has_written steps disk ≡ w → (pv : ℕ) → is_half_made (origin_repaired scans g stage start ended r repaired) disk m pv ≡ ((disk == pv) && w)
     half_made w is pv = ap (λ (l : List Step). (disk == pv) && has_written l pv) part_is ∙ at_disk disk pv (λ k. has_written steps k) w is
 
-    labelled : (pv : ℕ) → is_labelled (change scans g stage start ended r repaired begun).labels pv ≡ (disk == pv)
+    labelled : (pv : ℕ) → is_labelled (change scans g stage start ended r repaired).labels pv ≡ (disk == pv)
     labelled pv = ap (λ (all : List NewLabel). is_labelled all pv) labels ∙ or_false (label.disk == pv) ∙ ap (λ (k : ℕ). k == pv) on
 
     finds_then : (w : Bool) → has_written steps disk ≡ w → (image : Image) → IsImage (at_moment m ended) image
         → FindsVersion g.sizes image (is_half_made (origin_repaired scans g stage start ended r repaired) disk m) version
     finds_then true is image im =
-        finds_with g.sizes image (is_labelled (change scans g stage start ended r repaired begun).labels) (is_half_made (origin_repaired scans g stage start ended r repaired) disk m) version
+        finds_with g.sizes image (is_labelled (change scans g stage start ended r repaired).labels) (is_half_made (origin_repaired scans g stage start ended r repaired) disk m) version
         (λ pv. labelled pv ∙ sym (half_made true is pv ∙ and_true (disk == pv)))
-        (subst (λ (v : Option Version). FindsVersion g.sizes image (is_labelled (change scans g stage start ended r repaired begun).labels) v) (same_version scans g stage start ended r repaired)
-        (subst (λ (o : Option Group). FindsOnTheWay g.sizes image (repaired_of g.found) (change scans g stage start ended r repaired begun) o) none (way_at scans g stage start ended r repaired begun m ge le image im)))
+        (subst (λ (v : Option Version). FindsVersion g.sizes image (is_labelled (change scans g stage start ended r repaired).labels) v) (same_version scans g stage start ended r repaired)
+        (subst (λ (o : Option Group). FindsOnTheWay g.sizes image (repaired_of g.found) (change scans g stage start ended r repaired) o) none (new_way m ge le image im)))
     finds_then false is image im =
         let nothing : WritesNothing steps = unwritten disk steps (older_on disk (length ended.steps - m) line.since since_on) is in
         let stays : IsBase (steps_on steps start) (repaired_base g) = quiet_base start (steps_on steps start) steps refl nothing (repaired_base g) (start_base g stage start ended r repaired) in
@@ -112,7 +127,7 @@ module _ (scans : RepairedScans) (g : Given) (stage : Stage) (start ended : Told
   pub created_law : is_done stage ≡ true → CreatedLaw (origin_repaired scans g stage start ended r repaired)
   created_law done = record {
     after = λ image im.
-        subst (λ (i : Image). FindsVersion g.sizes i none_out version) (sym (last_image scans g stage start ended r repaired begun done image im))
-        (subst (λ (v : Option Version). FindsVersion g.sizes (done_image scans g stage start ended r repaired begun) none_out v) (same_version scans g stage start ended r repaired)
-        (subst (λ (o : Option Group). FindsAtEnd g.sizes (done_image scans g stage start ended r repaired begun) (repaired_of g.found) (change scans g stage start ended r repaired begun) o) none (done_finds scans g stage start ended r repaired begun)));
+        subst (λ (i : Image). FindsVersion g.sizes i none_out version) (sym (last_image scans g stage start ended r repaired zeroed done image im))
+        (subst (λ (v : Option Version). FindsVersion g.sizes (done_image scans g stage start ended r repaired zeroed) none_out v) (same_version scans g stage start ended r repaired)
+        (subst (λ (o : Option Group). FindsAtEnd g.sizes (done_image scans g stage start ended r repaired zeroed) (repaired_of g.found) (change scans g stage start ended r repaired) o) none (done_finds scans g stage start ended r repaired zeroed)));
   }

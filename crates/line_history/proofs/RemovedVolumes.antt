@@ -7,10 +7,11 @@ use Rattle.scan_rules.proofs.SameLists.{pointwise-same_bytes}
 use Rattle.scan_rules.specs.Decision.{same_bytes}
 use Rattle.volume_rules.specs.Rules.{IsAccepted}
 use Rattle.group_edits.proofs.RemovedPlaces.{primary_without}
+use Rattle.group_edits.proofs.Renumbered.{extents_same}
 use Rattle.group_edits.proofs.Staying.{new, next_going, next_staying, rows_after, rows_going, rows_staying}
-use Rattle.group_edits.proofs.StayingRules.{extents_after}
 use Rattle.group_edits.proofs.VisibleStay.{removed_goes, visible_stays}
-use Rattle.group_edits.specs.Removing.{lv_after, stays, without_volume}
+use Rattle.group_edits.specs.Removing.{on_after, stays, without_volume}
+use Rattle.group_edits.specs.Renumbered.{renumbered_lv}
 use Rattle.group_edits.specs.Visible.{visible_from, visible_named}
 use Rattle.image_scans.specs.Versions.{Version}
 use Rattle.volume_history.specs.Changing.{without_named}
@@ -41,9 +42,9 @@ module _ (before : Version) (disk_of : List ℕ) (removed : ℕ) where
   left number rows = placed_from after (new stay number) (rows_after stay number rows)
 
   left_staying : (number : ℕ) (row : List ℕ × Lv) (rows : List (List ℕ × Lv)) → stay number ≡ true
-      → left number (row ∷ rows) ≡ cond row.1.status.visible (record { id = row.1.id; name = row.0; places = places_of after (new stay number) (lv_after stay row.1) } ∷ left (number + 1) rows) (left (number + 1) rows)
+      → left number (row ∷ rows) ≡ cond row.1.status.visible (record { id = row.1.id; name = row.0; places = places_of after (new stay number) (renumbered_lv (on_after stay) row.1) } ∷ left (number + 1) rows) (left (number + 1) rows)
   left_staying number row rows stayed =
-      let volume : PlacedVolume = record { id = row.1.id; name = row.0; places = places_of after (new stay number) (lv_after stay row.1) } in
+      let volume : PlacedVolume = record { id = row.1.id; name = row.0; places = places_of after (new stay number) (renumbered_lv (on_after stay) row.1) } in
       let next : new stay number + 1 ≡ new stay (number + 1) = sym (next_staying stay number stayed) ∙ ap (new stay) (let e : suc number ≡ number + 1 = omega arith in e) in
       ap (placed_from after (new stay number)) (rows_staying stay number row rows stayed)
       ∙ ap (λ (n : ℕ). cond row.1.status.visible (volume ∷ placed_from after n (rows_after stay (number + 1) rows)) (placed_from after n (rows_after stay (number + 1) rows))) next
@@ -61,7 +62,7 @@ module _ (before : Version) (disk_of : List ℕ) (removed : ℕ) where
     left_kept number one rows is stayed =
         left_staying number one rows stayed
         ∙ ap (λ (l : List Place). cond one.1.status.visible (record { id = one.1.id; name = one.0; places = l } ∷ left (number + 1) rows) (left (number + 1) rows))
-        (places_kept before after accepted disks refl number (new stay number) one (lv_after stay one.1) is (extents_after stay one.1) (λ sector at goes. primary_without before.group removed row accepted there seen number sector at stayed goes))
+        (places_kept before after accepted disks refl number (new stay number) one (renumbered_lv (on_after stay) one.1) is (extents_same (on_after stay) one.1) (λ sector at goes. primary_without before.group removed row accepted there seen number sector at stayed goes))
 
     -- a hidden row leaves nothing, and a visible one its volume, where it isn't the removed one
     left_hidden : (number : ℕ) (one : List ℕ × Lv) (rows : List (List ℕ × Lv)) → slice_get before.group.lvs number ≡ Some one → one.1.status.visible ≡ false → left number (one ∷ rows) ≡ left (number + 1) rows

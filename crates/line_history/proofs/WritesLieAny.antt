@@ -44,13 +44,7 @@ module _ (pv sector : ℕ) where
   written_append (put ∷ first) more value (inl here) = inl (inl here)
   written_append (put ∷ first) more value (inr later) = ⊎_elim (λ x. inl (inr x)) (λ y. inr y) (written_append first more value later)
 
-  -- where each of a list has one write
-  pub written_of : {X : Type 0} (put : X → Put) (xs : List X) (value : List ℕ) → IsWrittenBy (map put xs) pv sector value → list_any (λ (x : X). covers (put x).0 pv sector) xs ≡ true
-  written_of put [] value by = absurd by
-  written_of put (x ∷ xs) value (inl here) = or_left (covers (put x).0 pv sector) (list_any (λ y. covers (put y).0 pv sector) xs) here.0
-  written_of put (x ∷ xs) value (inr later) = or_right (covers (put x).0 pv sector) (list_any (λ y. covers (put y).0 pv sector) xs) (written_of put xs value later)
-
-  -- and where each has several
+  -- where each of a list has several
   pub written_of_flat : {X : Type 0} (puts : X → List Put) (is : X → Bool) → ((x : X) (value : List ℕ) → IsWrittenBy (puts x) pv sector value → is x ≡ true) → (xs : List X) (value : List ℕ) → IsWrittenBy (flat_map puts xs) pv sector value → list_any is xs ≡ true
   written_of_flat puts is each [] value by = absurd by
   written_of_flat puts is each (x ∷ xs) value by =

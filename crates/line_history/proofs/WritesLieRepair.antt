@@ -15,7 +15,8 @@ use Rattle.vg_repair.specs.Stale.{stale_areas, text_of}
 use Rattle.repair_scans.specs.Laws.{CanRepair}
 use Rattle.repair_scans.proofs.RepairOnTheWay.{IsClearWrite, writes}
 use Rattle.line_history.specs.Places.{BatchesWrite, AtStray, AtStrayHeader, InStale, IsRepairPlace}
-use Rattle.line_history.proofs.WritesLieAny.{any_writes, area_write, written_of}
+use Rattle.image_scans.proofs.Front.{written_of}
+use Rattle.line_history.proofs.WritesLieAny.{any_writes, area_write}
 
 module _ (base : Image) (sizes : List ℕ) (found : Found) (p : CanRepair base sizes found) (pv sector : ℕ) where
   at_header : (value : List ℕ) → IsClearWrite base sizes found p pv sector value → IsRepairPlace found pv sector

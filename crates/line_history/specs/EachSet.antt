@@ -3,6 +3,7 @@ use Rattle.std.specs.Prelude.{◌≡◌, ℕ, true, List, Option, Some, option_m
 use Rattle.disk_batch.specs.InTurn.{with_batches}
 use Rattle.disk_model.specs.CrashValues.{IsImage}
 use Rattle.disk_model.specs.Steps.{Image, Told}
+use Rattle.extent_alloc.specs.declared.part.Part.{Part}
 use Rattle.lvm_script.specs.declared.line.Line.{Line}
 use Rattle.meta_model.specs.declared.group.Group.{Group}
 use Rattle.vg_found.specs.declared.found.Found.{Found}
@@ -19,9 +20,9 @@ use Rattle.line_history.specs.LineRun.{Given, RunsLine, Done}
 -- that was committed
 abbrev pub EachSetFinds : Type 0
 EachSetFinds =
-    (base : Image) (sizes : List ℕ) (found : Found) (names : List (List ℕ)) (line : Line) (now : ℕ) (group : Group) → CanCarryOut base sizes found names line now
-    → (change_of (state_in found names) line).group ≡ Some group
-    → (some : Found) (other : Group) → IsScanOf (with_batches (batches_of (state_in found names) line now) base) sizes some → some.group ≡ Some other → other ≡ group
+    (base : Image) (sizes : List ℕ) (found : Found) (names : List (List ℕ)) (line : Line) (now : ℕ) (given : List Part) (group : Group) → CanCarryOut base sizes found names line now given
+    → (change_of (state_in found names) line now given).group ≡ Some group
+    → (some : Found) (other : Group) → IsScanOf (with_batches (batches_of (state_in found names) line now given) base) sizes some → some.group ≡ Some other → other ≡ group
 
 -- in every image that a crash may leave then, a scan of any of the disks finds no group or that of the version which a scan of
 -- all of them finds

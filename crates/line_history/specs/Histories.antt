@@ -5,7 +5,10 @@ use Rattle.disk_model.specs.Order.{WritesNothing}
 use Rattle.disk_model.specs.Record.{IsRecord}
 use Rattle.disk_model.specs.Since.{writes_submitted}
 use Rattle.disk_model.specs.Steps.{Image, Step, Told, steps_on}
+use Rattle.extent_alloc.specs.declared.part.Part.{Part}
+use Rattle.group_ops.specs.Allocating.{Takes}
 use Rattle.group_ops.specs.Laws.{state_in}
+use Rattle.group_ops.specs.Planning.{asks_of}
 use Rattle.image_scans.specs.Laws.{none_out}
 use Rattle.image_scans.specs.Versions.{FindsVersion, Version}
 use Rattle.line_table.specs.declared.journal.EntryKind.{EntryKind}
@@ -15,7 +18,7 @@ use Rattle.lvm_script.specs.Options.{Word}
 use Rattle.lvm_script.specs.declared.answer.Answer.{Answer}
 use Rattle.lvm_script.specs.declared.answer.Answer.TheVariants as answer
 use Rattle.lvm_script.specs.declared.line.Line.{Line}
-use Rattle.vg_change.specs.Batches.{batches_of}
+use Rattle.vg_change.specs.Batches.{batches_of, zeros_of}
 use Rattle.vg_found.specs.declared.found.Found.{Found}
 use Rattle.vg_repair.specs.Batches.{repair_batches}
 use Rattle.vg_repair.specs.Repaired.{repaired_of}
@@ -24,7 +27,7 @@ use Rattle.volume_history.specs.Chronicles.{pending}
 use Rattle.volume_history.specs.Commands.{commits, is_good}
 use Rattle.volume_history.specs.Quiet.{is_quiet}
 use Rattle.volume_history.specs.Runs.{HasHistory, Run, zero_piece}
-use Rattle.line_history.specs.LineRun.{Given, RunsLine, Stage, Repaired, Writing, Done}
+use Rattle.line_history.specs.LineRun.{Given, RunsLine, Stage, Repaired, Zeroing, Writing, Done}
 
 -- the run of disks of these sizes and names, from when they were handed in, as far as this is told
 abbrev pub run_from : Told → List ℕ → List Word → ℕ → Told → Run
@@ -42,6 +45,7 @@ journal_of_line begun answered _ = entry kind.Begun begun ∷ entry kind.Answere
 -- what a line may answer that came so far
 abbrev pub MayAnswer : Stage → Answer → Type 0
 MayAnswer Repaired (answer.Refused refusal) = Unit {0}
+MayAnswer Zeroing (answer.PvFailed pv) = Unit {0}
 MayAnswer Writing (answer.PvFailed pv) = Unit {0}
 MayAnswer Done answer.Fine = Unit {0}
 MayAnswer _ _ = ⊥
@@ -52,7 +56,9 @@ pub record HasSubmittedAll (handed : Told) (base : Image) (sizes : List ℕ) (na
   pub scan : IsScanOf base sizes found
   pub since : List Step
   pub steps : ended ≡ steps_on since handed
-  pub writes : writes_submitted since ≡ flat_map (λ batch. batch) (repair_batches found ++ batches_of (state_in (repaired_of found) names) line clock)
+  pub given : List Part
+  pub takes : Takes (asks_of (state_in (repaired_of found) names) line) given
+  pub writes : writes_submitted since ≡ flat_map (λ batch. batch) (repair_batches found ++ zeros_of (state_in (repaired_of found) names) line clock given ++ batches_of (state_in (repaired_of found) names) line clock given)
 
 -- a run of one line had come to its last batch
 abbrev pub IsAtLast : Told → Image → List ℕ → List Word → ℕ → List (Line × Option Answer) → Told → Type 0
@@ -78,6 +84,7 @@ LinesHaveHistories =
 
 -- nothing of the line was written
 abbrev pub IsBeforeLine : Stage → Type 0
+IsBeforeLine Zeroing = ⊥
 IsBeforeLine Writing = ⊥
 IsBeforeLine Done = ⊥
 IsBeforeLine _ = Unit {0}

@@ -4,6 +4,7 @@ use Rattle.sector_base.specs.declared.places.At.{At}
 use Rattle.disk_model.specs.CrashValues.{IsImage}
 use Rattle.disk_model.specs.Record.{IsRecord}
 use Rattle.disk_model.specs.Steps.{Image, Told}
+use Rattle.extent_alloc.specs.declared.part.Part.{Part}
 use Rattle.lvm_script.specs.declared.line.Line.{Line}
 use Rattle.meta_model.specs.declared.group.Group.{Group}
 use Rattle.volume_view.specs.Places.{primary}
@@ -22,9 +23,9 @@ use Rattle.volume_history.specs.Changing.{ChangesVolumes}
 -- the version that a line commits has the volumes that its command makes of those that were found
 abbrev pub CommitChangesVolumes : Type 0
 CommitChangesVolumes =
-    (base : Image) (sizes : List ℕ) (found : Found) (names : List (List ℕ)) (line : Line) (now : ℕ) (group : Group) → CanCarryOut base sizes found names line now
-    → (change_of (state_in found names) line).group ≡ Some group
-    → ChangesVolumes line.command (version_in found) (Some (version_of group (change_of (state_in found names) line)))
+    (base : Image) (sizes : List ℕ) (found : Found) (names : List (List ℕ)) (line : Line) (now : ℕ) (given : List Part) (group : Group) → CanCarryOut base sizes found names line now given
+    → (change_of (state_in found names) line now given).group ≡ Some group
+    → ChangesVolumes line.command (version_in found) (Some (version_of group (change_of (state_in found names) line now given)))
 
 -- where every image that a crash may leave has at each primary place of the found group what the base has, the places of its
 -- volumes are untouched

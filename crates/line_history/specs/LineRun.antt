@@ -1,17 +1,19 @@
--- A run of one line that changes something: the disks are opened, what was found is repaired, and the line is carried out, each
--- part as far as it came.
+-- A run of one line that changes something: the disks are opened, what was found is repaired, and the line is carried out, its
+-- zeros first, each part as far as it came.
 use Rattle.std.specs.Prelude.{◌≡◌, ◌<◌, ℕ, ◌^◌, Bool, true, false, IsTrue, if◌then◌else◌, List, [], length, All, None}
 use Rattle.disk_batch.specs.InTurn.{Put, WritesInTurn}
 use Rattle.disk_model.specs.Durability.{IsBase}
 use Rattle.disk_model.specs.Order.{WritesNothing}
 use Rattle.disk_model.specs.Record.{IsRecord}
 use Rattle.disk_model.specs.Steps.{Image, Step, Told, steps_on}
+use Rattle.extent_alloc.specs.declared.part.Part.{Part}
 use Rattle.lvm_script.specs.Options.{Word}
 use Rattle.lvm_script.specs.Values.{is_disk_name}
 use Rattle.lvm_script.specs.declared.line.Line.{Line}
+use Rattle.group_ops.specs.Allocating.{Takes}
 use Rattle.group_ops.specs.Laws.{state_in}
-use Rattle.group_ops.specs.Planning.{IsPlanned, refusal_of}
-use Rattle.vg_change.specs.Batches.{batches_of}
+use Rattle.group_ops.specs.Planning.{IsPlanned, asks_of, refusal_of}
+use Rattle.vg_change.specs.Batches.{batches_of, zeros_of}
 use Rattle.vg_change.specs.CarryingOut.{KeepsImages}
 use Rattle.vg_found.specs.Shape.{HasShape}
 use Rattle.vg_found.specs.Whole.{IsWhole}
@@ -30,7 +32,9 @@ pub data Stage : Type 0 where
   Repairing : Stage
   -- all was repaired, and nothing of the line was written
   Repaired : Stage
-  -- the line's writes were begun, and an operation of it failed
+  -- the zeros of the line were begun, and an operation of it failed
+  Zeroing : Stage
+  -- the line's batches behind them were begun, and an operation of it failed
   Writing : Stage
   Done : Stage
 
@@ -45,11 +49,18 @@ is_repaired Opened = false
 is_repaired Repairing = false
 is_repaired _ = true
 
--- the line's own writes were begun
-abbrev pub line_begun : Stage → Bool
-line_begun Writing = true
-line_begun Done = true
-line_begun _ = false
+-- the line's zeros were begun
+abbrev pub zeros_begun : Stage → Bool
+zeros_begun Zeroing = true
+zeros_begun Writing = true
+zeros_begun Done = true
+zeros_begun _ = false
+
+-- all of them were written, and the line's batches behind them begun
+abbrev pub is_zeroed : Stage → Bool
+is_zeroed Writing = true
+is_zeroed Done = true
+is_zeroed _ = false
 
 -- the line was done
 abbrev pub is_done : Stage → Bool
@@ -60,7 +71,8 @@ is_done _ = false
 abbrev pub batches_if : Bool → List (List Put) → List (List Put)
 batches_if begun batches = if begun then batches else []
 
--- what was given: the disks as they were handed in, what a scan found there, their names, the line and the time
+-- what was given: the disks as they were handed in, what a scan found there, their names, the line, the time, and the extents that
+-- the line takes
 pub record Given : Type 0 where
   pub handed : Told
   pub base : Image
@@ -69,14 +81,19 @@ pub record Given : Type 0 where
   pub names : List Word
   pub line : Line
   pub clock : ℕ
+  pub given : List Part
 
 -- the batches of its repair
 abbrev pub repairs_in : Given → List (List Put)
 repairs_in g = repair_batches g.found
 
--- those of the line, by what is found once it is done
+-- those of the line's zeros, by what is found once it is done
+abbrev pub zeros_in : Given → List (List Put)
+zeros_in g = zeros_of (state_in (repaired_of g.found) g.names) g.line g.clock g.given
+
+-- and those behind them
 abbrev pub batches_in : Given → List (List Put)
-batches_in g = batches_of (state_in (repaired_of g.found) g.names) g.line g.clock
+batches_in g = batches_of (state_in (repaired_of g.found) g.names) g.line g.clock g.given
 
 -- each sector has one possible value, that of the base, of which the scan was taken; it found something whole; and the line can
 -- be planned
@@ -90,7 +107,8 @@ pub record IsGiven (g : Given) : Type 0 where
   pub planned : IsPlanned g.line.id g.line.command
   pub time : g.clock < 2 ^ 48
 
--- what the run did to the disks, until it ended with this record; the line began at the start
+-- what the run did to the disks, until it ended with this record; the line began at the start, and its commit once its zeros
+-- were written
 pub record RunsLine (g : Given) (stage : Stage) (start ended : Told) : Type 0 where
   pub given : IsGiven g
   -- the disks were opened: nothing was written
@@ -104,9 +122,14 @@ pub record RunsLine (g : Given) (stage : Stage) (start ended : Told) : Type 0 wh
   pub repair_keeps : IsTrue (repair_begun stage) → RepairKeepsImages g.found
   pub repaired_shape : IsTrue (is_repaired stage) → HasShape (repaired_of g.found)
   pub repaired_whole : IsTrue (is_repaired stage) → IsWhole (repaired_of g.found)
-  -- and then the line was carried out, or the run ended
-  pub written : IsTrue (is_repaired stage) → WritesInTurn start (batches_if (line_begun stage) (batches_in g)) (is_done stage) ended
-  pub unrepaired : is_repaired stage ≡ false → ended ≡ start
-  pub passes : IsTrue (line_begun stage) → refusal_of (state_in (repaired_of g.found) g.names) g.line g.clock ≡ None
-  pub keeps : IsTrue (line_begun stage) → KeepsImages (state_in (repaired_of g.found) g.names) g.line g.clock
+  -- and then the line's zeros were written, or the run ended
+  pub zeroed : Told
+  pub zeros : IsTrue (is_repaired stage) → WritesInTurn start (batches_if (zeros_begun stage) (zeros_in g)) (is_zeroed stage) zeroed
+  pub unrepaired : is_repaired stage ≡ false → zeroed ≡ start
+  -- and then its other batches, or the run ended
+  pub written : IsTrue (is_zeroed stage) → WritesInTurn zeroed (batches_in g) (is_done stage) ended
+  pub unzeroed : is_zeroed stage ≡ false → ended ≡ zeroed
+  pub takes : IsTrue (zeros_begun stage) → Takes (asks_of (state_in (repaired_of g.found) g.names) g.line) g.given
+  pub passes : IsTrue (zeros_begun stage) → refusal_of (state_in (repaired_of g.found) g.names) g.line g.clock g.given ≡ None
+  pub keeps : IsTrue (zeros_begun stage) → KeepsImages (state_in (repaired_of g.found) g.names) g.line g.clock g.given
   pub record_is : IsRecord ended.steps

@@ -7,6 +7,7 @@ use Rattle.disk_batch.specs.Writes.{write_work}
 use Rattle.disk_model.specs.Puts.{one_sector}
 use Rattle.disk_model.specs.Steps.{Image}
 use Rattle.disk_model.specs.Submitting.{writes_at}
+use Rattle.extent_alloc.specs.declared.part.Part.{Part}
 use Rattle.lvm_script.specs.declared.line.Line.{Line}
 use Rattle.mda_header.specs.declared.header.Locn.{Locn}
 use Rattle.mda_ring.specs.declared.area.Area.{Area}
@@ -18,10 +19,10 @@ use Rattle.group_ops.specs.Laws.{state_in}
 use Rattle.group_ops.specs.Planning.{change_of}
 use Rattle.group_ops.specs.declared.state.Change.{Change}
 use Rattle.group_ops.specs.declared.state.NewLabel.{NewLabel}
-use Rattle.vg_change.specs.Batches.{areas_of, batches_of}
+use Rattle.vg_change.specs.Batches.{areas_of, batches_of, zeros_of}
 use Rattle.vg_repair.specs.Batches.{repair_batches, stray_areas, stray_labels}
 use Rattle.vg_repair.specs.Stale.{stale_areas}
-use Rattle.image_scans.specs.Laws.{CanCarryOut}
+use Rattle.image_scans.specs.Laws.{CanCarryOut, IsFree}
 use Rattle.repair_scans.specs.Laws.{CanRepair}
 
 -- a write of one of the batches covers this sector of this disk
@@ -61,12 +62,18 @@ pub data IsRepairPlace (found : Found) (pv sector : ℕ) : Type 0 where
 
 -- ---- the laws
 
--- each write of a line lies where a line may write
+-- each write of a line behind its zeros lies where a line may write
 abbrev pub LineWritesLie : Type 0
 LineWritesLie =
-    (base : Image) (sizes : List ℕ) (found : Found) (names : List (List ℕ)) (line : Line) (now : ℕ) → CanCarryOut base sizes found names line now
-    → (pv sector : ℕ) → BatchesWrite (batches_of (state_in found names) line now) pv sector
-    → IsLinePlace (change_of (state_in found names) line) (state_in found names).areas pv sector
+    (base : Image) (sizes : List ℕ) (found : Found) (names : List (List ℕ)) (line : Line) (now : ℕ) (given : List Part) → CanCarryOut base sizes found names line now given
+    → (pv sector : ℕ) → BatchesWrite (batches_of (state_in found names) line now given) pv sector
+    → IsLinePlace (change_of (state_in found names) line now given) (state_in found names).areas pv sector
+
+-- each write of its zeros lies in the extents of the group that was found, at no primary place of a volume
+abbrev pub ZeroWritesLie : Type 0
+ZeroWritesLie =
+    (base : Image) (sizes : List ℕ) (found : Found) (names : List (List ℕ)) (line : Line) (now : ℕ) (given : List Part) → CanCarryOut base sizes found names line now given
+    → (pv sector : ℕ) → BatchesWrite (zeros_of (state_in found names) line now given) pv sector → (group : Group) × (found.group ≡ Some group) × IsFree group found.disk_of pv sector
 
 -- each write of a repair lies where a repair may write
 abbrev pub RepairWritesLie : Type 0

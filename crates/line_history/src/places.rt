@@ -1,10 +1,11 @@
 //! Where writes lie: the function does nothing, and its clauses are proved.
-ghost use Rattle.line_history.specs.Places.{LineWritesLie, RepairWritesLie};
+ghost use Rattle.line_history.specs.Places.{LineWritesLie, RepairWritesLie, ZeroWritesLie};
 
 /// A line writes in metadata areas of the group that it commits, to the label sectors of the physical volumes that it creates
-/// or adds, and to the headers of the areas of one that it creates. A repair writes in stale areas, and to the label sectors
-/// of strays and the headers of their areas.
+/// or adds, and to the headers of the areas of one that it creates; its zeros lie in extents that no volume has. A repair
+/// writes in stale areas, and to the label sectors of strays and the headers of their areas.
 pub fn writes_lie()
     ensures line { LineWritesLie }
+    ensures zeros { ZeroWritesLie }
     ensures repair { RepairWritesLie }
 {}

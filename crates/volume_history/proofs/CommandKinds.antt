@@ -1,6 +1,7 @@
 -- What commands are that leave the volumes as they are, and those that create no sector.
 use Rattle.std.proofs.Common.{◌≡◌, ℕ, Bool, true, false, List, Option, Some, None, refl}
 use Rattle.disk_model.specs.Steps.{Image}
+use Rattle.group_ops.proofs.NextVersions.{zeroes}
 use Rattle.image_scans.specs.Versions.{Version}
 use Rattle.line_table.specs.Machine.{PlainState, plain_after}
 use Rattle.lvm_script.specs.Options.{Word}
@@ -137,10 +138,6 @@ commit_kind names (command.Pvmove moving) q = (refl, refl)
 commit_kind names _ q = cc
 
 -- no sector is born as a zero but in lvcreate
-abbrev pub zeroes : Command → Bool
-zeroes (command.Lvcreate new) = true
-zeroes _ = false
-
 pub none_zeroed : (c : Command) → zeroes c ≡ false → (before after : Option Version) (state : PlainState) (image : Image) (x : ℕ) → is_zeroed (command_step c before after state image) x ≡ false
 none_zeroed (command.Lvcreate new) q before after state image x = cc
 none_zeroed _ q before after state image x = refl

@@ -9,6 +9,7 @@ pub mod Quiet
 pub mod Reshaped
 pub mod Made
 pub mod MadeVersions
+pub mod ZeroedVolume
 pub mod Places
 pub mod WriteLife
 pub mod AtTake

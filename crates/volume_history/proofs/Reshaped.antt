@@ -7,7 +7,8 @@ use Rattle.image_scans.specs.Versions.{Version}
 use Rattle.line_table.specs.Machine.{PlainState, PlainStep, PlainVolume, plain_after, sector_of, sectors_of}
 use Rattle.lvm_script.specs.declared.command.Command.{Command}
 use Rattle.std.proofs.lemmas.Bool.{true≢false}
-use Rattle.volume_history.proofs.CommandKinds.{none_zeroed, zeroes}
+use Rattle.group_ops.proofs.NextVersions.{zeroes}
+use Rattle.volume_history.proofs.CommandKinds.{none_zeroed}
 use Rattle.volume_history.specs.Single.{ZeroesStand}
 use Rattle.volume_history.proofs.Quiet.{OwnSectors, own_sectors, untouched_at, value_on, values_length}
 use Rattle.volume_history.specs.Candidates.{base, is_born, is_zeroed, no_image, place_at}

@@ -2,8 +2,10 @@
 use Rattle.std.specs.Prelude.{◌≡◌, ◌≤◌, ◌<◌, ◌⊎◌, ℕ, ◌+◌, nat_lt, Bool, true, false, not, ◌==◌, ◌&&◌, ◌||◌, IsTrue, if◌then◌else◌, List, [], ◌∷◌, length, map, Option, Some, None, slice_index_or, is_some}
 use Rattle.std.specs.List.{range_with_len}
 use Rattle.sector_base.specs.declared.places.Piece.{Piece}
+use Rattle.extent_alloc.specs.declared.part.Part.{Part}
+use Rattle.group_ops.specs.Allocating.{Takes}
 use Rattle.group_ops.specs.Laws.{state_in}
-use Rattle.group_ops.specs.Planning.{IsPlanned, change_of, refusal_of}
+use Rattle.group_ops.specs.Planning.{IsPlanned, asks_of, change_of, refusal_of}
 use Rattle.group_ops.specs.declared.state.Change.{Change}
 use Rattle.image_scans.specs.Versions.{FindsVersion, Version}
 use Rattle.line_table.specs.Machine.{PlainState, key_of, list_of, sector_of}
@@ -169,13 +171,15 @@ version_made change = option_version change.group
     option_version None = None
     option_version (Some group) = Some (record { group = group; disk_of = change.disk_of })
 
--- the line makes one version of another: it is one that can be planned, a scan of what a read gives finds the one, by it and
--- by the time no refusal of the line holds, and its change is the other
+-- the line makes one version of another: it is one that can be planned, a scan of what a read gives finds the one, by it, by the
+-- time and by some parts that the line takes no refusal of it holds, and its change is the other
 pub record Makes (o : Origin) (es : List Entry) (moment : ℕ) (line : Line) (after : Option Version) : Type 0 where
   pub planned : IsPlanned line.id line.command
   pub before : FindsNow o es moment (in_force o es)
-  pub accepted : refusal_of (state_in before.found o.names) line o.clock ≡ None
-  pub change : after ≡ version_made (change_of (state_in before.found o.names) line)
+  pub given : List Part
+  pub takes : Takes (asks_of (state_in before.found o.names) line) given
+  pub accepted : refusal_of (state_in before.found o.names) line o.clock given ≡ None
+  pub change : after ≡ version_made (change_of (state_in before.found o.names) line o.clock given)
 
 -- the same of a line that was begun
 abbrev pub MakesFrom : Origin → List Entry → ℕ → Option (Line × ℕ) → Option Version → Type 0
