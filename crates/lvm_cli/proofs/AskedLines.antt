@@ -6,6 +6,7 @@ use Rattle.std.specs.Bool.{MatchBool}
 use Rattle.disk_model.specs.State.{State}
 use Rattle.std.specs.Option.{option_map_or}
 use Rattle.lvm_report.specs.AnswerLines.{answers_text}
+use Rattle.extent_alloc.specs.declared.part.Part.{Part}
 use Rattle.lvm_script.specs.Answers.{answer_text}
 use Rattle.lvm_script.specs.Options.{Word}
 use Rattle.lvm_script.specs.declared.answer.Answer.{Answer}
@@ -111,14 +112,14 @@ entered_answers words now ids old outcome after new runs = by (command_line_of w
 
 -- ---- the outcome is that of line 1, and where a line has answered its answers are what is printed
 
-cause_first : (spec : CommandSpec) (context : Context) (old new : State) (outcome : Outcome) → IsCause spec context old new outcome → IsOfLineOne outcome
-cause_first spec context old new (Ended ending) cause = tt
-cause_first spec context old new (Answered n answer.Fine) cause = cause.0
-cause_first spec context old new (Answered n (answer.Refused refusal)) cause = cause.0
-cause_first spec context old new (Answered n (answer.PvFailed pv)) cause = cause.0
-cause_first spec context old new (Answered n answer.NoMemory) cause = cause.0
-cause_first spec context old new (Answered n _) cause = absurd cause
-cause_first spec context old new (Reported text whole) cause = tt
+cause_first : (spec : CommandSpec) (context : Context) (given : List Part) (old new : State) (outcome : Outcome) → IsCause spec context given old new outcome → IsOfLineOne outcome
+cause_first spec context given old new (Ended ending) cause = tt
+cause_first spec context given old new (Answered n answer.Fine) cause = cause.0
+cause_first spec context given old new (Answered n (answer.Refused refusal)) cause = cause.0
+cause_first spec context given old new (Answered n (answer.PvFailed pv)) cause = cause.0
+cause_first spec context given old new (Answered n answer.NoMemory) cause = cause.0
+cause_first spec context given old new (Answered n _) cause = absurd cause
+cause_first spec context given old new (Reported text whole) cause = tt
 
 refused_first : (old : State) (outcome : Outcome) (new : State) → IsRefused old outcome new → IsOfLineOne outcome
 refused_first old outcome new refused = ⊎_elim (λ is. subst IsOfLineOne (sym is) tt) (λ is. subst IsOfLineOne (sym is) tt) refused.0
@@ -127,7 +128,7 @@ line_first : (names : List Word) (command : Command) (id : Option (List ℕ)) (n
 line_first names command id now old outcome new = by (is_built command)
   where
     by : (built : Bool) → MatchBool built (Meets (spec_of command) (context_with names id now old) old outcome new) (IsRefused old outcome new) → IsOfLineOne outcome
-    by true meets = cause_first (spec_of command) (context_with names id now old) old new outcome meets.cause
+    by true meets = cause_first (spec_of command) (context_with names id now old) meets.given old new outcome meets.cause
     by false refused = refused_first old outcome new refused
 
 request_first : (names : List Word) (request : Request) (ids : ℕ → List ℕ) (now : ℕ) (old : State) (outcome : Outcome) (new : State) → RunsRequest names request ids now old outcome new → IsOfLineOne outcome

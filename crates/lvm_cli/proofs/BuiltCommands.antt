@@ -1,7 +1,7 @@
 -- Which commands change something.
 use Rattle.std.proofs.Common.{◌≡◌, true, refl}
 use Rattle.lvm_script.specs.declared.command.Command.{Command}
-use Rattle.lvm_script.specs.declared.command.Command.TheVariants.{Lvreduce, Lvremove, Lvrename, Lvs, Pvcreate, Pvck, Pvs, Vgcfgbackup, Vgck, Vgcreate, Vgextend, Vgrename, Vgs}
+use Rattle.lvm_script.specs.declared.command.Command.TheVariants.{Lvcreate, Lvextend, Lvreduce, Lvremove, Lvrename, Lvs, Pvcreate, Pvck, Pvs, Vgcfgbackup, Vgck, Vgcreate, Vgextend, Vgrename, Vgs}
 use Rattle.lvm_script.specs.Lines.{changes}
 use Rattle.lvm_cli.specs.Changing.{changing}
 use Rattle.lvm_cli.specs.Commands.{is_built, spec_of}
@@ -12,6 +12,8 @@ spec_of_changing (Pvcreate pv copies) built change = refl
 spec_of_changing (Vgcreate vg extent_size pvs) built change = refl
 spec_of_changing (Vgextend vg pvs) built change = refl
 spec_of_changing (Vgrename vg new) built change = refl
+spec_of_changing (Lvcreate new) built change = refl
+spec_of_changing (Lvextend path growth pvs) built change = refl
 spec_of_changing (Lvreduce path amount) built change = refl
 spec_of_changing (Lvremove path) built change = refl
 spec_of_changing (Lvrename vg old new) built change = refl

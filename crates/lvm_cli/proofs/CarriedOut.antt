@@ -1,7 +1,7 @@
 -- Each exit of a command that changes something.
-use Rattle.std.proofs.Common.{◌≡◌, ◌<◌, ℕ, Bool, true, false, List, length, take, Option, Some, None, refl, sym, ap, subst, ◌∙◌, arith}
+use Rattle.std.proofs.Common.{◌≡◌, ◌<◌, ℕ, ◌^◌, Bool, true, false, List, [], length, take, Option, Some, None, ⊎_elim, refl, sym, ap, subst, ◌∙◌, arith}
 use Rattle.std.specs.FinSet as set
-use Rattle.std.specs.Prelude.{Result, Ok, Err, MatchResult}
+use Rattle.std.specs.Prelude.{All, Result, Ok, Err, MatchResult}
 use Rattle.disk_batch.proofs.InTurn.{of_submitted}
 use Rattle.disk_batch.specs.InTurn.{HasFirstBatches, Put, WritesInTurn, with_batches}
 use Rattle.disk_model.specs.Durability.{IsBase}
@@ -16,20 +16,32 @@ use Rattle.disk_model.specs.Steps.{Image, Told, now_after}
 use Rattle.disk_model.proofs.EveryMoment.{since_weaken}
 use Rattle.disk_model.proofs.LastFault.{same_faults_both}
 use Rattle.disk_model.proofs.StepsSince.{between_both, between_weaker}
+use Rattle.extent_alloc.specs.declared.part.Part.{Part}
+use Rattle.group_ops.specs.Allocating.{Takes}
 use Rattle.group_ops.specs.Laws.{state_in}
-use Rattle.group_ops.specs.Planning.{refusal_of}
+use Rattle.group_ops.specs.Planning.{IsPlanned, asks_of, refusal_of}
+use Rattle.image_scans.proofs.CommitLine.{all_written}
+use Rattle.image_scans.proofs.Zeroes.{IsPlannedOn, zeroes_show}
+use Rattle.repair_scans.proofs.FoundGroup.{found_group}
+use Rattle.group_ops.proofs.WholeState.{whole_is_state}
+use Rattle.vg_repair.proofs.RepairedSizes.{repaired_count}
+use Rattle.line_history.proofs.Seen.{record_before}
 use Rattle.group_ops.specs.declared.state.GroupState.{GroupState}
 use Rattle.lvm_script.specs.Options.{Word}
+use Rattle.lvm_script.specs.Values.{is_disk_name}
 use Rattle.lvm_script.specs.declared.answer.Answer.{Answer}
 use Rattle.lvm_script.specs.declared.answer.Answer.TheVariants as answer
+use Rattle.lvm_script.specs.declared.answer.Answer.TheVariants.{Fine, PvFailed}
 use Rattle.lvm_script.specs.declared.command.Command.{Command}
 use Rattle.lvm_script.specs.declared.line.Line.{Line}
 use Rattle.lvm_script.specs.declared.op_refusal.OpRefusal.{OpRefusal}
-use Rattle.vg_change.specs.Batches.{batches_of}
-use Rattle.vg_change.specs.CarryingOut.{Carries, HasBegun, IsFault, KeepsImages}
+use Rattle.vg_change.specs.Batches.{batches_of, zeros_of}
+use Rattle.vg_change.specs.CarryingOut.{Carries, HasBegun, HasJudged, IsFault, KeepsImages, WritesBehind}
 use Rattle.vg_change.specs.Laws.{ShowsEntries}
 use Rattle.vg_change.specs.declared.fault.ChangeFault.{ChangeFault}
 use Rattle.vg_change.specs.declared.fault.ChangeFault.TheVariants as fault
+use Rattle.vg_found.specs.Shape.{HasShape}
+use Rattle.vg_found.specs.Whole.{IsWhole}
 use Rattle.vg_found.specs.declared.found.Found.{Found}
 use Rattle.vg_repair.specs.Batches.{repair_batches}
 use Rattle.vg_repair.specs.Repaired.{repaired_of}
@@ -40,9 +52,9 @@ use Rattle.vg_repair.specs.declared.fault.RepairFault.{RepairFault}
 use Rattle.vg_repair.specs.declared.fault.RepairFault.TheVariants as repair
 use Rattle.vg_repair.proofs.RepairedEntries.{repaired_entries}
 use Rattle.vg_scan.specs.Scans.{HoldsNow, IsScanOf}
-use Rattle.lvm_cli.specs.Changing.{GoesOn, IsCarriedOut, IsChanged, changing, ending_of, line_in, outcome_of}
+use Rattle.lvm_cli.specs.Changing.{GoesOn, IsCarriedOut, IsChanged, IsWholeAgain, changing, ending_of, line_in, outcome_of}
 use Rattle.lvm_cli.specs.CommandSpec.{Context, Finds}
-use Rattle.lvm_cli.specs.Meets.{ChangesDisks, IsJudged, IsTaken, Meets, batches_if, is_done, line_begun}
+use Rattle.lvm_cli.specs.Meets.{ChangesDisks, IsJudged, IsTaken, Meets, batches_if, is_done, is_taken, line_begun}
 use Rattle.lvm_cli.specs.Scan.{FindsWhole, IsOpenCause, IsOpened, OpensDisks}
 use Rattle.lvm_cli.specs.declared.ending.Ending.{Ending}
 use Rattle.lvm_cli.specs.declared.ending.Ending.TheVariants.{WordsRefused, NoMemory, OpenFailed, ScanReadFailed, ScanRefused, RepairFailed, RepairRefused}
@@ -60,35 +72,39 @@ module _ (names : List Word) (command : Command) (id : Option (List ℕ)) (time 
   abbrev here : Line
   here = line_in context command
 
-  abbrev Does : Outcome → Told → Told → Type 0
-  Does outcome = ChangesDisks (changing command) context outcome
+  abbrev Does : List Part → Outcome → Told → Told → Type 0
+  Does given outcome = ChangesDisks (changing command) context given outcome
 
   -- the disks weren't taken
   pub meets_unopened : (new : State) (ending : Ending) → IsIdleAgain old new → IsOpenCause old new ending → BetweenTold (λ a b. OpensDisks old.sizes a false b) old.told new.told
       → Meets (changing command) context old (Ended ending) new
   meets_unopened new WordsRefused again cause opens = absurd cause
   meets_unopened new NoMemory again cause opens = record {
+    given = [];
     cause = tt;
-    told = between_weaker (λ a b. OpensDisks old.sizes a false b) (Does (Ended NoMemory)) old.told new.told
-        (λ a b o. looks (changing command) context (Ended NoMemory) refl refl refl None a b (λ taken. absurd (cc)) o) opens;
+    told = between_weaker (λ a b. OpensDisks old.sizes a false b) (Does [] (Ended NoMemory)) old.told new.told
+        (λ a b o. looks (changing command) context [] (Ended NoMemory) refl refl refl None a b (λ taken. absurd (cc)) o) opens;
     again = again;
   }
   meets_unopened new (OpenFailed pv) again cause opens = record {
+    given = [];
     cause = (refl, cause);
-    told = between_weaker (λ a b. OpensDisks old.sizes a false b) (Does (Ended (OpenFailed pv))) old.told new.told
-        (λ a b o. looks (changing command) context (Ended (OpenFailed pv)) refl refl refl None a b (λ taken. absurd (cc)) o) opens;
+    told = between_weaker (λ a b. OpensDisks old.sizes a false b) (Does [] (Ended (OpenFailed pv))) old.told new.told
+        (λ a b o. looks (changing command) context [] (Ended (OpenFailed pv)) refl refl refl None a b (λ taken. absurd (cc)) o) opens;
     again = again;
   }
   meets_unopened new (ScanReadFailed pv) again cause opens = record {
+    given = [];
     cause = (λ judged. absurd (cc), cause);
-    told = between_weaker (λ a b. OpensDisks old.sizes a false b) (Does (Ended (ScanReadFailed pv))) old.told new.told
-        (λ a b o. looks (changing command) context (Ended (ScanReadFailed pv)) refl refl refl None a b (λ taken. absurd (cc)) o) opens;
+    told = between_weaker (λ a b. OpensDisks old.sizes a false b) (Does [] (Ended (ScanReadFailed pv))) old.told new.told
+        (λ a b o. looks (changing command) context [] (Ended (ScanReadFailed pv)) refl refl refl None a b (λ taken. absurd (cc)) o) opens;
     again = again;
   }
   meets_unopened new (ScanRefused refusal whole) again cause opens = record {
+    given = [];
     cause = cause;
-    told = between_weaker (λ a b. OpensDisks old.sizes a false b) (Does (Ended (ScanRefused refusal whole))) old.told new.told
-        (λ a b o. looks (changing command) context (Ended (ScanRefused refusal whole)) refl refl refl None a b (λ taken. absurd (cc)) o) opens;
+    told = between_weaker (λ a b. OpensDisks old.sizes a false b) (Does [] (Ended (ScanRefused refusal whole))) old.told new.told
+        (λ a b o. looks (changing command) context [] (Ended (ScanRefused refusal whole)) refl refl refl None a b (λ taken. absurd (cc)) o) opens;
     again = again;
   }
   meets_unopened new (RepairFailed pv) again cause opens = absurd cause
@@ -121,13 +137,15 @@ module _ (names : List Word) (command : Command) (id : Option (List ℕ)) (time 
       meets_fault : (why : RepairFault) → IsRepairFault found mid new why → BetweenTold (Repairs (repair_batches found) (Err why)) mid.told new.told
           → Meets (changing command) context old (Ended (ending_of why)) new
       meets_fault repair.NoMemory cause told = record {
+        given = [];
         cause = tt;
-        told = between_both (λ a b. OpensDisks old.sizes a true b) (λ a b. b ≡ a) (Does (Ended NoMemory)) old.told mid.told new.told
-            (λ a m b o e. looks (changing command) context (Ended NoMemory) refl refl refl None a b (λ t. absurd (cc)) (subst (λ (t : Told). OpensDisks old.sizes a false t) (sym e) (unpassed old.sizes a m o)))
+        told = between_both (λ a b. OpensDisks old.sizes a true b) (λ a b. b ≡ a) (Does [] (Ended NoMemory)) old.told mid.told new.told
+            (λ a m b o e. looks (changing command) context [] (Ended NoMemory) refl refl refl None a b (λ t. absurd (cc)) (subst (λ (t : Told). OpensDisks old.sizes a false t) (sym e) (unpassed old.sizes a m o)))
             opens told;
         again = again_both;
       }
       meets_fault (repair.Pv pv) cause told = record {
+        given = [];
         cause = (refl, Some found, taken None cause.0, subst (λ (n : ℕ). n < new.faults pv) (opened.faults pv) cause.1);
         told = λ before is.
             let o = opens before is in
@@ -141,37 +159,47 @@ module _ (names : List Word) (command : Command) (id : Option (List ℕ)) (time 
                 opening = o.2;
                 start = w.0;
                 repair = w.2;
+                takes = λ begun. absurd (cc);
+                zeroed = w.0;
+                ready = false;
+                zeros = none_in_turn w.0 false;
                 line = none_in_turn w.0 false;
-                keeps = λ begun. absurd (cc);
+                begun = λ ready. absurd (cc);
+                all = λ done. absurd (cc);
+                keeps = λ ready. absurd (cc);
                 found_after = λ done. absurd (cc);
               },
             );
         again = again_both;
       }
       meets_fault (repair.TooLarge pv need room) cause told = record {
+        given = [];
         cause = (refl, same_faults_both old mid new opened.faults cause.0, Some found, taken (Some (pv, need, room)) cause.1);
         told = λ before is.
             let o = opens before is in
             let w = told o.0 o.1 in (
               w.0,
               w.1,
-              looks (changing command) context (Ended (RepairRefused pv need room)) refl refl refl (Some found) before w.0 (λ t. held_now before is)
+              looks (changing command) context [] (Ended (RepairRefused pv need room)) refl refl refl (Some found) before w.0 (λ t. held_now before is)
                   (subst (λ (t : Told). OpensDisks old.sizes before true t) (sym w.2) o.2),
             );
         again = again_both;
       }
 
     -- ---- all was repaired
-    module _ (done new : State) (again : IsIdleAgain mid done) (repaired : IsRepaired found mid done (repaired_of found))
-        (repairs : BetweenTold (λ a b. WritesInTurn a (repair_batches found) true b) mid.told done.told) (images_kept : StraysAreOthers found → RepairKeepsImages found) where
+    module _ (planned : IsPlanned id command) (early : time < 2 ^ 48) (count : length names ≡ length found.disks) (named : All (λ name. is_disk_name name ≡ true) names) (done new : State) (again : IsIdleAgain mid done) (repaired : IsRepaired found mid done (repaired_of found))
+        (repairs : BetweenTold (λ a b. WritesInTurn a (repair_batches found) true b) mid.told done.told) (images_kept : StraysAreOthers found → RepairKeepsImages found) (given : List Part) where
       abbrev state : GroupState
       state = state_in (repaired_of found) names
 
-      abbrev batches : List (List Put)
-      batches = batches_of state here time
+      abbrev zeros : List (List Put)
+      zeros = zeros_of state here time given
 
-      judged : (refusal : Option OpRefusal) → refusal_of state here time ≡ refusal → IsJudged (changing command) context old refusal
-      judged refusal is = (Some found, taken None repaired.fits, is)
+      abbrev batches : List (List Put)
+      batches = batches_of state here time given
+
+      judged : (refusal : Option OpRefusal) → Takes (asks_of state here) given → refusal_of state here time given ≡ refusal → IsJudged (changing command) context given old refusal
+      judged refusal takes is = (Some found, taken None repaired.fits, takes, is)
 
       faults_since : HasSameFaults old done
       faults_since = same_faults_both old mid done opened.faults repaired.faults
@@ -206,17 +234,13 @@ module _ (names : List Word) (command : Command) (id : Option (List ℕ)) (time 
             subst (λ (image : Image). ShowsEntries (repaired_of found).areas image) (sym now_start)
             (repaired_entries found opened.shape (images_kept (strays_are_others (now_after before.opened before.steps) old.sizes found (held_now before is).0)) (now_after before.opened before.steps) (entries_now before is))
 
-        entries_base : IsRecord start.steps → (base : Image) → IsBase start base → ShowsEntries (repaired_of found).areas base
-        entries_base record_is base base_is =
-            subst (λ (image : Image). ShowsEntries (repaired_of found).areas image) (same_image (now_after start.opened start.steps) base (now_base start base record_is base_is)) entries_start
-
-      module _ (again_line : IsIdleAgain done new) (record_start : (told : Told) → done.told ≡ Some told → IsRecord told.steps) where
+      module _ (again_line : IsIdleAgain done new) (record_new : (told : Told) → new.told ≡ Some told → IsRecord told.steps) where
         again_all : IsIdleAgain old new
         again_all = record { idle = again_line.idle; sizes = again_line.sizes ∙ again.sizes ∙ idle.sizes }
 
         -- nothing of its own was written
         module _ (said : Answer) (unlined : line_begun (Answered 1 said) ≡ false) (undone : is_done (Answered 1 said) ≡ false) where
-          judged_alone : BetweenTold (λ a b. b ≡ a) done.told new.told → BetweenTold (Does (Answered 1 said)) old.told new.told
+          judged_alone : BetweenTold (λ a b. b ≡ a) done.told new.told → BetweenTold (Does given (Answered 1 said)) old.told new.told
           judged_alone same before is =
               let l = same (start before is) (start_told before is) in (
                 l.0,
@@ -228,96 +252,144 @@ module _ (names : List Word) (command : Command) (id : Option (List ℕ)) (time 
                   opening = (opens before is).2;
                   start = start before is;
                   repair = written before is;
-                  line = subst (λ (t : Told). WritesInTurn (start before is) (batches_if (line_begun (Answered 1 said)) batches) (is_done (Answered 1 said)) t) (sym l.2)
-                      (none_begun (line_begun (Answered 1 said)) (is_done (Answered 1 said)) batches (start before is) unlined);
-                  keeps = λ begun. absurd (untrue (line_begun (Answered 1 said)) unlined begun);
+                  takes = λ begun. absurd (untrue (line_begun (Answered 1 said)) unlined begun);
+                  zeroed = start before is;
+                  ready = false;
+                  zeros = none_begun (line_begun (Answered 1 said)) false zeros (start before is) unlined;
+                  line = subst (λ (t : Told). WritesInTurn (start before is) [] (is_done (Answered 1 said)) t) (sym l.2) (none_in_turn (start before is) (is_done (Answered 1 said)));
+                  begun = λ ready. absurd (cc);
+                  all = λ done'. absurd (untrue (is_done (Answered 1 said)) undone done');
+                  keeps = λ ready. absurd (cc);
                   found_after = λ done'. absurd (untrue (is_done (Answered 1 said)) undone done');
                 },
               )
 
-        -- its batches were written, as far as they came
-        module _ (images : KeepsImages state here time) (before : Told) (is : old.told ≡ Some before) (after : Told) (well : Bool) (w : WritesInTurn (start before is) batches well after) where
-          kept : (base : Image) → IsBase (start before is) base → EveryImageSince (length (start before is).steps) after ((changing command).keeps context (Some found) base)
+        -- its zeros were written, and its other batches as far as they came
+        module _ (shape : HasShape (repaired_of found)) (whole : IsWhole (repaired_of found)) (takes : Takes (asks_of state here) given) (passes : refusal_of state here time given ≡ None)
+            (images : KeepsImages state here time given) (before : Told) (is : old.told ≡ Some before) (after : Told) (told_new : new.told ≡ Some after) (well : Bool) (w : WritesBehind zeros batches well (start before is) after) where
+          -- the entries of the areas stand in every base then
+          entries_zeroed : ShowsEntries (repaired_of found).areas (now_after w.zeroed.opened w.zeroed.steps)
+          entries_zeroed =
+              let on : IsPlannedOn (repaired_of found) names here time given = record {
+                shape = shape;
+                whole = whole;
+                state = whole_is_state (repaired_of found) names shape whole (count ∙ sym (repaired_count found)) named;
+                held = found_group (now_after before.opened before.steps) old.sizes found (held_now before is).0;
+                planned = planned;
+                time = early;
+                takes = takes;
+                passes = passes;
+              }
+              in
+              let base : Image = now_after (start before is).opened (start before is).steps in
+              subst (λ (image : Image). ShowsEntries (repaired_of found).areas image) (sym (same_image (now_after w.zeroed.opened w.zeroed.steps) (with_batches zeros base) (w.first.now refl)))
+              (zeroes_show (repaired_of found) names here time given on base (with_batches zeros base) (all_written zeros base) (entries_start before is))
+
+          entries_base : (base : Image) → IsBase w.zeroed base → ShowsEntries (repaired_of found).areas base
+          entries_base base base_is =
+              let record_is : IsRecord w.zeroed.steps = record_before w.zeroed after w.behind.since w.behind.steps (record_new after told_new) in
+              subst (λ (image : Image). ShowsEntries (repaired_of found).areas image) (same_image (now_after w.zeroed.opened w.zeroed.steps) base (now_base w.zeroed base record_is base_is)) entries_zeroed
+
+          kept : (base : Image) → IsBase w.zeroed base → EveryImageSince (length w.zeroed.steps) after ((changing command).keeps context (Some found) given base)
           kept base base_is =
-              since_weaken after (length (start before is).steps) (length (start before is).steps) (HasFirstBatches (take w.submitted batches) base) ((changing command).keeps context (Some found) base) (omega arith)
-              (λ image has. (found, refl, images.kept base image (entries_base before is (record_start (start before is) (start_told before is)) base base_is) (of_submitted w.submitted batches base image has)))
-              (w.every_image base base_is)
+              since_weaken after (length w.zeroed.steps) (length w.zeroed.steps) (HasFirstBatches (take w.behind.submitted batches) base) ((changing command).keeps context (Some found) given base) (omega arith)
+              (λ image has. (found, refl, images.kept base image (entries_base base base_is) (of_submitted w.behind.submitted batches base image has)))
+              (w.behind.every_image base base_is)
 
-          found_there : well ≡ true → (changing command).finds context (Some found) (now_after after.opened after.steps)
+          found_there : well ≡ true → (changing command).finds context (Some found) given (now_after after.opened after.steps)
           found_there went =
-              subst (λ (image : Image). (changing command).finds context (Some found) image)
-              (sym (same_image (now_after after.opened after.steps) (with_batches batches (now_after (start before is).opened (start before is).steps)) (w.now went)))
-              (found, refl, images.found (now_after (start before is).opened (start before is).steps) (entries_start before is))
+              subst (λ (image : Image). (changing command).finds context (Some found) given image)
+              (sym (same_image (now_after after.opened after.steps) (with_batches batches (now_after w.zeroed.opened w.zeroed.steps)) (w.behind.now went)))
+              (found, refl, images.found (now_after w.zeroed.opened w.zeroed.steps) entries_zeroed)
 
-        meets_by : (result : Result (Unit {0}) ChangeFault) → MatchResult result (λ _. HasSameFaults done new × (refusal_of state here time ≡ None)) (IsFault state here time done new)
-            → (HasBegun result → KeepsImages state here time) → BetweenTold (Carries batches result) done.told new.told → Meets (changing command) context old (outcome_of result) new
-        meets_by (Ok well) cause images told = record {
-          cause = (refl, refl, same_faults_both old done new faults_since cause.0, judged None cause.1);
-          told = λ before is.
-              let l = told (start before is) (start_told before is) in (
-                l.0,
-                l.1,
-                record {
-                  found = Some found;
-                  scanned = λ t. held_now before is;
-                  opened = look before is;
-                  opening = (opens before is).2;
-                  start = start before is;
-                  repair = written before is;
-                  line = l.2;
-                  keeps = λ begun. kept (images tt) before is l.0 true l.2;
-                  found_after = λ done'. found_there (images tt) before is l.0 true l.2 refl;
-                },
-              );
-          again = again_all;
-        }
-        meets_by (Err fault.NoMemory) cause images told = record {
-          cause = (refl, tt);
-          told = judged_alone answer.NoMemory refl refl told;
-          again = again_all;
-        }
-        meets_by (Err (fault.Refused refusal)) cause images told = record {
-          cause = (refl, same_faults_both old done new faults_since cause.0, judged (Some refusal) cause.1);
-          told = judged_alone (answer.Refused refusal) refl refl told;
-          again = again_all;
-        }
-        meets_by (Err (fault.Failed pv)) cause images told = record {
-          cause = (refl, refl, judged None cause.0, subst (λ (n : ℕ). n < new.faults pv) (faults_since pv) cause.1);
-          told = λ before is.
-              let l = told (start before is) (start_told before is) in (
-                l.0,
-                l.1,
-                record {
-                  found = Some found;
-                  scanned = λ t. held_now before is;
-                  opened = look before is;
-                  opening = (opens before is).2;
-                  start = start before is;
-                  repair = written before is;
-                  line = l.2;
-                  keeps = λ begun. kept (images tt) before is l.0 false l.2;
-                  found_after = λ done'. absurd (cc);
-                },
-              );
-          again = again_all;
-        }
+          -- so the disks were changed, by what it was answered
+          written_behind : (said : Answer) → line_begun (Answered 1 said) ≡ true → is_taken (Answered 1 said) ≡ true → is_done (Answered 1 said) ≡ well → Does given (Answered 1 said) before after
+          written_behind said begun all_taken is_well = record {
+            found = Some found;
+            scanned = λ t. held_now before is;
+            opened = look before is;
+            opening = (opens before is).2;
+            start = start before is;
+            repair = written before is;
+            takes = λ b. takes;
+            zeroed = w.zeroed;
+            ready = true;
+            zeros = subst (λ (b : Bool). WritesInTurn (start before is) (batches_if b zeros) true w.zeroed) (sym begun) w.first;
+            line = subst (λ (b : Bool). WritesInTurn w.zeroed batches b after) (sym is_well) w.behind;
+            begun = λ ready. begun;
+            all = λ done'. refl;
+            keeps = λ ready. kept;
+            found_after = λ done'. found_there (sym is_well ∙ done');
+          }
 
-        meets_carried : (outcome : Outcome) → IsCarriedOut state here time done outcome new → Meets (changing command) context old outcome new
-        meets_carried outcome carried =
-            subst (λ (o : Outcome). Meets (changing command) context old o new) (sym carried.is) (meets_by carried.result carried.cause carried.images carried.told)
+        module _ (shape : HasShape (repaired_of found)) (whole : IsWhole (repaired_of found)) where
+          meets_by : (result : Result (Unit {0}) ChangeFault) → (HasJudged result → Takes (asks_of state here) given)
+              → MatchResult result (λ _. HasSameFaults done new × (refusal_of state here time given ≡ None)) (IsFault state here time given done new) → (HasBegun result → KeepsImages state here time given) → BetweenTold (Carries zeros batches result) done.told new.told → Meets (changing command) context old (outcome_of result) new
+          meets_by (Ok well) takes cause images told = record {
+            given = given;
+            cause = (refl, refl, same_faults_both old done new faults_since cause.0, judged None (takes tt) cause.1);
+            told = λ before is.
+                let l = told (start before is) (start_told before is) in
+                (l.0, l.1, written_behind shape whole (takes tt) cause.1 (images tt) before is l.0 l.1 true l.2 Fine refl refl refl);
+            again = again_all;
+          }
+          meets_by (Err fault.NoMemory) takes cause images told = record {
+            given = given;
+            cause = (refl, tt);
+            told = judged_alone answer.NoMemory refl refl told;
+            again = again_all;
+          }
+          meets_by (Err (fault.Refused refusal)) takes cause images told = record {
+            given = given;
+            cause = (refl, same_faults_both old done new faults_since cause.0, judged (Some refusal) (takes tt) cause.1);
+            told = judged_alone (answer.Refused refusal) refl refl told;
+            again = again_all;
+          }
+          meets_by (Err (fault.Failed pv)) takes cause images told = record {
+            given = given;
+            cause = (refl, refl, judged None (takes tt) cause.0, subst (λ (n : ℕ). n < new.faults pv) (faults_since pv) cause.1);
+            told = λ before is.
+                let l = told (start before is) (start_told before is) in (
+                  l.0,
+                  l.1,
+                  ⊎_elim
+                      (λ first. record {
+                        found = Some found;
+                        scanned = λ t. held_now before is;
+                        opened = look before is;
+                        opening = (opens before is).2;
+                        start = start before is;
+                        repair = written before is;
+                        takes = λ begun. takes tt;
+                        zeroed = l.0;
+                        ready = false;
+                        zeros = first;
+                        line = none_in_turn l.0 false;
+                        begun = λ ready. absurd (cc);
+                        all = λ done'. absurd (cc);
+                        keeps = λ ready. absurd (cc);
+                        found_after = λ done'. absurd (cc);
+                      })
+                      (λ behind. written_behind shape whole (takes tt) cause.0 (images tt) before is l.0 l.1 false behind (PvFailed pv) refl refl refl)
+                      l.2,
+                );
+            again = again_all;
+          }
 
     -- ---- the one or the other
-    meets_on : (result : Result Found RepairFault) (done new : State) → IsIdleAgain mid done → ((told : Told) → done.told ≡ Some told → IsRecord told.steps)
+    meets_on : IsPlanned id command → time < 2 ^ 48 → length names ≡ length found.disks → All (λ name. is_disk_name name ≡ true) names → (result : Result Found RepairFault) (done new : State) → IsWholeAgain result → IsIdleAgain mid done → ((told : Told) → new.told ≡ Some told → IsRecord told.steps)
         → MatchResult result (IsRepaired found mid done) (IsRepairFault found mid done) → BetweenTold (Repairs (repair_batches found) result) mid.told done.told
         → (HasRepairBegun result → StraysAreOthers found → RepairKeepsImages found)
         → (outcome : Outcome) → GoesOn names here time result done outcome new → Meets (changing command) context old outcome new
-    meets_on (Err why) done new again record_is cause told images outcome goes =
+    meets_on planned early count named (Err why) done new whole again record_is cause told images outcome goes =
         subst (λ (o : Outcome). Meets (changing command) context old o new) (sym goes.0)
         (subst (λ (s : State). Meets (changing command) context old (Ended (ending_of why)) s) (sym goes.1) (meets_fault done again why cause told))
-    meets_on (Ok r) done new again record_is cause told images outcome goes =
+    meets_on planned early count named (Ok r) done new whole again record_is cause told images outcome goes =
         let same : r ≡ repaired_of found = cause.now in
         let carried : IsCarriedOut (state_in (repaired_of found) names) here time done outcome new = subst (λ (f : Found). IsCarriedOut (state_in f names) here time done outcome new) same goes in
-        meets_carried done new again (subst (IsRepaired found mid done) same cause) told (images tt) carried.again record_is outcome carried
+        let w = carried.carried in
+        subst (λ (o : Outcome). Meets (changing command) context old o new) (sym carried.is)
+        (meets_by planned early count named done new again (subst (IsRepaired found mid done) same cause) told (images tt) w.given carried.again record_is (subst HasShape same whole.0) (subst IsWhole same whole.1) carried.result w.takes w.cause w.images w.told)
 
-    pub meets_changed : (outcome : Outcome) (begun : ℕ) (new : State) → IsChanged found names here time mid outcome begun new → Meets (changing command) context old outcome new
-    meets_changed outcome begun new changed = meets_on changed.result changed.mid new changed.again changed.follows changed.cause changed.told changed.images outcome changed.goes
+    pub meets_changed : IsPlanned id command → time < 2 ^ 48 → length names ≡ length found.disks → All (λ name. is_disk_name name ≡ true) names → (outcome : Outcome) (begun : ℕ) (new : State) → ((told : Told) → new.told ≡ Some told → IsRecord told.steps) → IsChanged found names here time mid outcome begun new → Meets (changing command) context old outcome new
+    meets_changed planned early count named outcome begun new record_is changed = meets_on planned early count named changed.result changed.mid new changed.whole changed.again record_is changed.cause changed.told changed.images outcome changed.goes

@@ -6,6 +6,7 @@ use Rattle.std.specs.FinSet as set
 use Rattle.std.specs.Ordering.{nat_cmp}
 use Rattle.std.specs.Prelude.{IsTrue}
 use Rattle.sector_base.specs.declared.spans.Span.{Span}
+use Rattle.extent_alloc.specs.declared.part.Part.{Part}
 use Rattle.disk_batch.specs.InTurn.{Put, WritesInTurn}
 use Rattle.disk_model.specs.State.{State}
 use Rattle.disk_model.specs.Faults.{HasSameFaults}
@@ -63,28 +64,34 @@ unpassed sizes old new o = record {
 }
 
 -- the line ended with its look
-pub looks : (spec : CommandSpec) (context : Context) (outcome : Outcome) → repair_begun outcome ≡ false → line_begun outcome ≡ false → is_done outcome ≡ false
+pub looks : (spec : CommandSpec) (context : Context) (given : List Part) (outcome : Outcome) → repair_begun outcome ≡ false → line_begun outcome ≡ false → is_done outcome ≡ false
     → (found : Option Found) (old new : Told) → (IsTrue (is_taken outcome) → spec.scan context (now_after old.opened old.steps) set.empty (Finds found))
-    → OpensDisks context.sizes old (is_taken outcome) new → ChangesDisks spec context outcome old new
-looks spec context outcome unrepaired unlined undone found old new scanned opens = record {
+    → OpensDisks context.sizes old (is_taken outcome) new → ChangesDisks spec context given outcome old new
+looks spec context given outcome unrepaired unlined undone found old new scanned opens = record {
   found = found;
   scanned = scanned;
   opened = new;
   opening = opens;
   start = new;
   repair = none_begun (repair_begun outcome) (is_repaired outcome) (spec.repairs found) new unrepaired;
-  line = none_begun (line_begun outcome) (is_done outcome) (spec.batches context found) new unlined;
-  keeps = λ begun. absurd (untrue (line_begun outcome) unlined begun);
+  takes = λ begun. absurd (untrue (line_begun outcome) unlined begun);
+  zeroed = new;
+  ready = false;
+  zeros = none_begun (line_begun outcome) false (spec.zeros context found given) new unlined;
+  line = none_in_turn new (is_done outcome);
+  begun = λ ready. absurd (cc);
+  all = λ done. absurd (untrue (is_done outcome) undone done);
+  keeps = λ ready. absurd (cc);
   found_after = λ done. absurd (untrue (is_done outcome) undone done);
 }
 
 -- ---- reads alone
 
 -- the line reads, as far as it came
-pub reads_disks : (spec : CommandSpec) (context : Context) → spec.flushes ≡ false → (outcome : Outcome) (old new : Told) (read unread : List Span)
-    → OnlyReads old read new → spec.reads context (now_after old.opened old.steps) (read ++ unread) → DoesToDisks spec context outcome old new
-reads_disks spec context alone outcome old new read unread reads spans =
-    subst (λ (b : Bool). MatchBool b (ChangesDisks spec context outcome old new) (ReadsDisks spec context old new)) (sym alone)
+pub reads_disks : (spec : CommandSpec) (context : Context) (given : List Part) → spec.flushes ≡ false → (outcome : Outcome) (old new : Told) (read unread : List Span)
+    → OnlyReads old read new → spec.reads context (now_after old.opened old.steps) (read ++ unread) → DoesToDisks spec context given outcome old new
+reads_disks spec context given alone outcome old new read unread reads spans =
+    subst (λ (b : Bool). MatchBool b (ChangesDisks spec context given outcome old new) (ReadsDisks spec context old new)) (sym alone)
     (record { read = read; reads = reads; unread = unread; spans = spans })
 
 -- what holds of the sectors of a disk before a call that reads

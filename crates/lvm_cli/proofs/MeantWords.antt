@@ -1,5 +1,5 @@
 -- What words ask for has the values that the tests of single words let through.
-use Rattle.std.proofs.Common.{◌≡◌, ◌≤◌, ◌<◌, ◌∙◌, ◌^◌, ◌%◌, ◌+◌, ◌-◌, ◌&&◌, ◌⊎◌, ℕ, zero, suc, Bool, true, false, if◌then◌else◌, nat_le, List, [], ◌∷◌, length, Option, Some, None, Result, Ok, Err, IfSome, is_none, is_some, find, option_map, option_and_then, unwrap_or, refl, ap, sym, subst, inl, inr, arith}
+use Rattle.std.proofs.Common.{◌≡◌, ◌≤◌, ◌<◌, ◌∙◌, ◌^◌, ◌%◌, ◌+◌, ◌-◌, ◌&&◌, ◌⊎◌, ℕ, zero, suc, Bool, true, false, if◌then◌else◌, nat_le, List, [], ◌∷◌, length, not, Option, Some, None, Result, Ok, Err, IfSome, is_none, is_some, find, option_map, option_and_then, unwrap_or, refl, ap, sym, subst, inl, inr, arith}
 use Rattle.std.proofs.lemmas.Bool.{and_parts, cases_Bool, eqb-true, leb-true, true≢false}
 use Rattle.std.proofs.Math.Nat.{two-pow-succ}
 use Rattle.std.specs.Int.{is_power_of_two}
@@ -7,15 +7,17 @@ use Rattle.std.specs.List.{list_all}
 use Rattle.std.specs.Result.{result_ok}
 use Rattle.lvm_name.specs.Names.{group_name_refusal, volume_name_refusal}
 use Rattle.lvm_script.specs.declared.amount.Amount.{Amount}
+use Rattle.lvm_script.specs.declared.amount.Amount.TheVariants.{Extents, Sectors}
 use Rattle.lvm_script.specs.declared.amount.Growth.{Growth}
+use Rattle.lvm_script.specs.declared.amount.Growth.TheVariants.{By, To}
 use Rattle.lvm_script.specs.declared.command.Command.{Command}
-use Rattle.lvm_script.specs.declared.command.Command.TheVariants.{Pvck, Pvs, Vgcreate, Vgremove, Vgrename, Vgcfgbackup, Vgcfgrestore, Vgck, Vgs, Lvreduce, Lvremove, Lvrename, Lvs}
+use Rattle.lvm_script.specs.declared.command.Command.TheVariants.{Pvck, Pvs, Vgcreate, Vgremove, Vgrename, Vgcfgbackup, Vgcfgrestore, Vgck, Vgs, Lvcreate, Lvextend, Lvreduce, Lvremove, Lvrename, Lvs}
 use Rattle.lvm_script.specs.declared.command.Path.{Path}
 use Rattle.lvm_script.specs.declared.command_name.CommandName.{CommandName}
 use Rattle.lvm_script.specs.declared.command_name.CommandName.TheVariants as name
 use Rattle.lvm_script.specs.declared.fault.Fault.{Fault}
 use Rattle.lvm_script.specs.declared.fault.Fault.TheVariants.{BadCount, BadName}
-use Rattle.lvm_script.specs.declared.kind.Kind.TheVariants.{Number, PowerSize, Size}
+use Rattle.lvm_script.specs.declared.kind.Kind.TheVariants.{Growth as Grows, Number, PowerSize, Size, SizeGrowth, Volume}
 use Rattle.lvm_script.specs.declared.option_key.OptionKey.{OptionKey}
 use Rattle.lvm_script.specs.declared.option_key.OptionKey.TheVariants as key
 use Rattle.lvm_script.specs.declared.refusal.CommandRefusal.{CommandRefusal}
@@ -23,10 +25,10 @@ use Rattle.lvm_script.specs.declared.refusal.CommandRefusal.TheVariants.{Faulty,
 use Rattle.lvm_script.specs.declared.request.Request.{Request}
 use Rattle.lvm_script.specs.declared.request.Request.TheVariants.{One, Session}
 use Rattle.lvm_script.specs.declared.table.OptionRow.{OptionRow}
-use Rattle.lvm_script.specs.Meaning.{Given, alone, amount_of, amount_with, at_place, demo, demo_of, goes_together, growth_of, longer, lvcreate, lvextend, lvreduce, lvrename, meaning_of_words, meaning_with, narrow, new_volume, one_path, one_word, path_in, pvcreate, pvmove, request_by_name, request_named, request_read, session, session_on, shorter, size, value_in, vgcreate, vgextend, vgreduce, vgrename, workers_in}
+use Rattle.lvm_script.specs.Meaning.{Given, alone, amount_of, amount_with, at_place, demo, demo_of, goes_together, growth_by, growth_of, growth_with, longer, lvcreate, lvextend, lvreduce, lvrename, meaning_of_words, meaning_with, narrow, new_volume, one_path, one_word, path_in, pvcreate, pvmove, request_by_name, request_named, request_read, session, session_on, shorter, size, value_in, vgcreate, vgextend, vgreduce, vgrename, workers_in}
 use Rattle.lvm_script.specs.Options.{Word, is_key}
 use Rattle.lvm_script.specs.Table.{command_named, is_for_words, options_of}
-use Rattle.lvm_script.specs.Values.{is_between, is_group_name, number_fault, number_of, size_of, unless}
+use Rattle.lvm_script.specs.Values.{has_plus, is_between, is_group_name, number_fault, number_of, size_of, unless, without_plus}
 use Rattle.lvm_script.specs.Words.{Split, is_complete, nothing_split, numbered_from, read}
 use Rattle.lvm_words.specs.declared.command_line.CommandLine.{CommandLine}
 use Rattle.lvm_words.specs.CommandLines.{command_line_of, of_disks}
@@ -34,8 +36,10 @@ use Rattle.lvm_words.specs.Disks.{Front, disks_front}
 use Rattle.lvm_words.specs.Parser.{arguments_pass, value_passes}
 use Rattle.lvm_words.proofs.FaultFree.{all_pass, fault_free, given_passes, kind_in, split_read}
 use Rattle.lvm_words.proofs.Spellings.{same_key}
-use Rattle.group_ops.specs.Sizes.{IsAmount}
+use Rattle.group_ops.specs.Lvcreate.{IsNewVolume}
+use Rattle.group_ops.specs.Sizes.{IsAmount, IsGrowth}
 use Rattle.vg_check.proofs.OneBit.{power_from_ones}
+use Rattle.volume_rules.specs.Rules.{IsPowerOfTwo}
 
 -- from 8 sectors to 2^31, and a multiple of 8
 abbrev IsExtentSize : ℕ → Type 0
@@ -46,6 +50,8 @@ IsExtentSize n = (8 ≤ n) × (n ≤ 2 ^ 31) × (n % 8 ≡ 0)
 abbrev pub IsMeant : Command → Type 0
 IsMeant (Vgcreate vg extent_size pvs) = (group_name_refusal vg ≡ None) × (8 ≤ extent_size) × (extent_size ≤ 2 ^ 31) × (extent_size % 8 ≡ 0)
 IsMeant (Vgrename vg new) = group_name_refusal new ≡ None
+IsMeant (Lvcreate new) = IsNewVolume new
+IsMeant (Lvextend path growth pvs) = IsGrowth growth
 IsMeant (Lvreduce path amount) = IsAmount amount
 IsMeant (Lvrename vg old new) = volume_name_refusal new ≡ None
 IsMeant _ = Unit {0}
@@ -114,27 +120,90 @@ size_or_usual (Some word) passes = go (size_of 2048 word) passes
 between : (least most n : ℕ) → is_between least most n ≡ true → (least ≤ n) × (n ≤ most)
 between least most n passes = let bounds = and_parts (nat_le least n) (nat_le n most) passes in (leb-true least n bounds.0, leb-true n most bounds.1)
 
+count_fits : (o : Option ℕ) → is_none (number_fault (is_between 1 (2 ^ 64 - 1)) o) ≡ true → IfSome o (λ n. (1 ≤ n) × (n < 2 ^ 64))
+count_fits None none = tt
+count_fits (Some n) none = let fits = between 1 (2 ^ 64 - 1) n (number_passes (is_between 1 (2 ^ 64 - 1)) n none) in (fits.0, omega (arith, fits.1))
+
 extents_fit : (word : Option Word) → IfSome word (λ w. value_passes (Number 1 (2 ^ 64 - 1)) w ≡ true) → IfSome (option_and_then number_of word) (λ n. (1 ≤ n) × (n < 2 ^ 64))
 extents_fit None passes = tt
-extents_fit (Some word) passes = go (number_of word) passes
-  where
-    go : (o : Option ℕ) → is_none (number_fault (is_between 1 (2 ^ 64 - 1)) o) ≡ true → IfSome o (λ n. (1 ≤ n) × (n < 2 ^ 64))
-    go None none = tt
-    go (Some n) none = let fits = between 1 (2 ^ 64 - 1) n (number_passes (is_between 1 (2 ^ 64 - 1)) n none) in (fits.0, omega (arith, fits.1))
+extents_fit (Some word) passes = count_fits (number_of word) passes
+
+length_fits : (o : Option ℕ) → is_none (number_fault (is_between 1 (2 ^ 48 - 1)) o) ≡ true → IfSome o (λ n. (1 ≤ n) × (n < 2 ^ 48))
+length_fits None none = tt
+length_fits (Some n) none = let fits = between 1 (2 ^ 48 - 1) n (number_passes (is_between 1 (2 ^ 48 - 1)) n none) in (fits.0, omega (arith, fits.1))
 
 sectors_fit : (word : Option Word) → IfSome word (λ w. value_passes (Size 2048 1 (2 ^ 48 - 1)) w ≡ true) → IfSome (option_and_then (size_of 2048) word) (λ n. (1 ≤ n) × (n < 2 ^ 48))
 sectors_fit None passes = tt
-sectors_fit (Some word) passes = go (size_of 2048 word) passes
-  where
-    go : (o : Option ℕ) → is_none (number_fault (is_between 1 (2 ^ 48 - 1)) o) ≡ true → IfSome o (λ n. (1 ≤ n) × (n < 2 ^ 48))
-    go None none = tt
-    go (Some n) none = let fits = between 1 (2 ^ 48 - 1) n (number_passes (is_between 1 (2 ^ 48 - 1)) n none) in (fits.0, omega (arith, fits.1))
+sectors_fit (Some word) passes = length_fits (size_of 2048 word) passes
 
 amount_fits : (extents sectors : Option ℕ) → IfSome extents (λ n. (1 ≤ n) × (n < 2 ^ 64)) → IfSome sectors (λ n. (1 ≤ n) × (n < 2 ^ 48)) → IfSome (amount_with extents sectors) IsAmount
 amount_fits None None extents_fit sectors_fit = tt
 amount_fits None (Some n) extents_fit sectors_fit = sectors_fit
 amount_fits (Some n) None extents_fit sectors_fit = extents_fit
 amount_fits (Some n) (Some m) extents_fit sectors_fit = tt
+
+-- to so much, or by so much
+growth_fits : (word : Word) (amount : Amount) → IsAmount amount → IsGrowth (growth_by word amount)
+growth_fits word amount fits = by (has_plus word) where
+  by : (plus : Bool) → IsGrowth (if plus then By amount else To amount)
+  by true = fits
+  by false = fits
+
+growths_fit : (extents sectors : Option Word) → IfSome extents (λ w. value_passes (Grows 1 (2 ^ 64 - 1)) w ≡ true) → IfSome sectors (λ w. value_passes (SizeGrowth 2048 1 (2 ^ 48 - 1)) w ≡ true) → IfSome (growth_with extents sectors) IsGrowth
+growths_fit None None extents_fit sectors_fit = tt
+growths_fit (Some word) None extents_fit sectors_fit = by (number_of (without_plus word)) (count_fits (number_of (without_plus word)) extents_fit) where
+  by : (o : Option ℕ) → IfSome o (λ n. (1 ≤ n) × (n < 2 ^ 64)) → IfSome (option_map (λ n. growth_by word (Extents n)) o) IsGrowth
+  by None fits = tt
+  by (Some n) fits = growth_fits word (Extents n) fits
+growths_fit None (Some word) extents_fit sectors_fit = by (size_of 2048 (without_plus word)) (length_fits (size_of 2048 (without_plus word)) sectors_fit) where
+  by : (o : Option ℕ) → IfSome o (λ n. (1 ≤ n) × (n < 2 ^ 48)) → IfSome (option_map (λ n. growth_by word (Sectors n)) o) IsGrowth
+  by None fits = tt
+  by (Some n) fits = growth_fits word (Sectors n) fits
+growths_fit (Some word) (Some other) extents_fit sectors_fit = tt
+
+-- ---- a new volume
+
+number_fits : (least most : ℕ) (word : Option Word) → IfSome word (λ w. value_passes (Number least most) w ≡ true) → IfSome (option_and_then number_of word) (λ n. (least ≤ n) × (n ≤ most))
+number_fits least most None passes = tt
+number_fits least most (Some word) passes = go (number_of word) passes
+  where
+    go : (o : Option ℕ) → is_none (number_fault (is_between least most) o) ≡ true → IfSome o (λ n. (least ≤ n) × (n ≤ most))
+    go None none = tt
+    go (Some n) none = between least most n (number_passes (is_between least most) n none)
+
+-- the number of stripes, and that of further legs
+stripes_fit : (o : Option ℕ) → IfSome o (λ n. (1 ≤ n) × (n ≤ 8)) → (1 ≤ unwrap_or o 1) × (unwrap_or o 1 ≤ 8)
+stripes_fit None fits = (omega arith, omega arith)
+stripes_fit (Some n) fits = fits
+
+mirrors_fit : (o : Option ℕ) → IfSome o (λ n. (1 ≤ n) × (n ≤ 7)) → unwrap_or o 0 ≤ 7
+mirrors_fit None fits = omega arith
+mirrors_fit (Some n) fits = fits.1
+
+-- a power of two from 8 sectors on
+abbrev IsPieceSize : ℕ → Type 0
+IsPieceSize n = IsPowerOfTwo n × (8 ≤ n) × (n < 2 ^ 48)
+
+piece_fits : (word : Option Word) → IfSome word (λ w. value_passes (PowerSize 2 8 (2 ^ 48 - 1)) w ≡ true) → IsPieceSize (unwrap_or (option_and_then (size_of 2) word) 128)
+piece_fits None passes = ((7, refl), omega arith, omega arith)
+piece_fits (Some word) passes = go (size_of 2 word) passes
+  where
+    one : (n : ℕ) → (is_between 8 (2 ^ 48 - 1) n && is_power_of_two n) ≡ true → IsPieceSize n
+    one n both_pass =
+        let both = and_parts (is_between 8 (2 ^ 48 - 1) n) (is_power_of_two n) both_pass in
+        let bounds = between 8 (2 ^ 48 - 1) n both.0 in
+        (power_from_ones n (eqb-true _ 1 both.1), bounds.0, omega (arith, bounds.1))
+
+    go : (o : Option ℕ) → is_none (number_fault (λ n. is_between 8 (2 ^ 48 - 1) n && is_power_of_two n) o) ≡ true → IsPieceSize (unwrap_or o 128)
+    go None none = absurd (true≢false (sym none))
+    go (Some n) none = one n (number_passes (λ n. is_between 8 (2 ^ 48 - 1) n && is_power_of_two n) n none)
+
+-- further legs are asked for with one stripe alone
+mirrors_alone : (mirrors stripes : Option Word) (rest : Bool) → (not (is_some mirrors && is_some stripes) && rest) ≡ true
+    → 1 ≤ unwrap_or (option_and_then number_of mirrors) 0 → unwrap_or (option_and_then number_of stripes) 1 ≡ 1
+mirrors_alone None stripes rest together some = absurd (omega (arith, some))
+mirrors_alone (Some mirrors) None rest together some = refl
+mirrors_alone (Some mirrors) (Some stripes) rest together some = absurd (true≢false (sym together))
 
 -- the value of an option is what it has to be
 value_fits : (rows : List OptionRow) (given : List (OptionKey × Word)) (k : OptionKey) → list_all (given_passes rows) given ≡ true
@@ -202,27 +271,41 @@ lvrename_meant (vg ∷ old ∷ new ∷ []) pass =
     name_fits (volume_name_refusal new) (and_parts _ (arguments_pass name.Lvrename 3 []) last).0
 lvrename_meant (vg ∷ old ∷ new ∷ other ∷ more) pass = tt
 
-lvcreate_meant : (given : Given) (arguments : List Word) → IfSome (lvcreate given arguments) IsMeant
-lvcreate_meant given [] = tt
-lvcreate_meant given (vg ∷ pvs) = go (goes_together given)
-  where
-    with_size : (lv : Option Word) (amount : Option Amount) → IfSome (new_volume given lv amount vg pvs) IsMeant
-    with_size None amount = tt
-    with_size (Some lv) None = tt
-    with_size (Some lv) (Some amount) = tt
+-- the values of its options are what they have to be
+record NewFits (given : Given) : Type 0 where
+  named : IfSome (given key.Name) (λ word. value_passes Volume word ≡ true)
+  amount : IfSome (amount_of given) IsAmount
+  stripes : IfSome (given key.Stripes) (λ word. value_passes (Number 1 8) word ≡ true)
+  piece : IfSome (given key.StripeSize) (λ word. value_passes (PowerSize 2 8 (2 ^ 48 - 1)) word ≡ true)
+  mirrors : IfSome (given key.Mirrors) (λ word. value_passes (Number 1 7) word ≡ true)
 
-    go : (b : Bool) → IfSome (if b then new_volume given (given key.Name) (amount_of given) vg pvs else None) IsMeant
-    go true = with_size (given key.Name) (amount_of given)
-    go false = tt
-
-lvextend_meant : (given : Given) (arguments : List Word) → IfSome (lvextend given arguments) IsMeant
-lvextend_meant given [] = tt
-lvextend_meant given (path ∷ pvs) = go (growth_of given) (path_in path)
+lvcreate_meant : (given : Given) (arguments : List Word) → NewFits given → IfSome (lvcreate given arguments) IsMeant
+lvcreate_meant given [] fits = tt
+lvcreate_meant given (vg ∷ pvs) fits = go (goes_together given) refl
   where
-    go : (growth : Option Growth) (path : Option Path) → IfSome (longer pvs growth path) IsMeant
-    go None path = tt
-    go (Some growth) None = tt
-    go (Some growth) (Some path) = tt
+    with_size : goes_together given ≡ true → (lv : Option Word) → IfSome lv (λ word. value_passes Volume word ≡ true) → (amount : Option Amount) → IfSome amount IsAmount → IfSome (new_volume given lv amount vg pvs) IsMeant
+    with_size together None named amount sized = tt
+    with_size together (Some lv) named None sized = tt
+    with_size together (Some lv) named (Some amount) sized = record {
+      named = name_fits (volume_name_refusal lv) named;
+      amount = sized;
+      stripes = stripes_fit _ (number_fits 1 8 (given key.Stripes) fits.stripes);
+      mirrors = (mirrors_fit _ (number_fits 1 7 (given key.Mirrors) fits.mirrors), mirrors_alone (given key.Mirrors) (given key.Stripes) _ together);
+      stripe_size = piece_fits (given key.StripeSize) fits.piece;
+    }
+
+    go : (b : Bool) → goes_together given ≡ b → IfSome (if b then new_volume given (given key.Name) (amount_of given) vg pvs else None) IsMeant
+    go true together = with_size together (given key.Name) fits.named (amount_of given) fits.amount
+    go false together = tt
+
+lvextend_meant : (given : Given) (arguments : List Word) → IfSome (growth_of given) IsGrowth → IfSome (lvextend given arguments) IsMeant
+lvextend_meant given [] fits = tt
+lvextend_meant given (path ∷ pvs) fits = go (growth_of given) fits (path_in path)
+  where
+    go : (growth : Option Growth) → IfSome growth IsGrowth → (path : Option Path) → IfSome (longer pvs growth path) IsMeant
+    go None fits path = tt
+    go (Some growth) fits None = tt
+    go (Some growth) fits (Some path) = fits
 
 lvreduce_meant : (given : Given) (arguments : List Word) → IfSome (amount_of given) IsAmount → IfSome (lvreduce given arguments) IsMeant
 lvreduce_meant given arguments fits = go (amount_of given) fits (one_path arguments)
@@ -286,8 +369,24 @@ request_meant name.Vgcfgbackup split here pass = one_meant _ (mapped IsMeant Vgc
 request_meant name.Vgcfgrestore split here pass = one_meant _ (mapped IsMeant (λ vg. Vgcfgrestore vg []) (λ vg. tt) (one_word split.arguments))
 request_meant name.Vgck split here pass = one_meant _ (alone_meant Vgck tt split.arguments)
 request_meant name.Vgs split here pass = one_meant _ (alone_meant Vgs tt split.arguments)
-request_meant name.Lvcreate split here pass = one_meant _ (lvcreate_meant (value_in split.given) split.arguments)
-request_meant name.Lvextend split here pass = one_meant _ (lvextend_meant (value_in split.given) split.arguments)
+request_meant name.Lvcreate split here pass =
+    let all = (and_parts (list_all (given_passes (options_of name.Lvcreate)) split.given) (arguments_pass name.Lvcreate 0 split.arguments) pass).0 in
+    let extents = extents_fit (value_in split.given key.Extents) (value_fits (options_of name.Lvcreate) split.given key.Extents all) in
+    let sectors = sectors_fit (value_in split.given key.Size) (value_fits (options_of name.Lvcreate) split.given key.Size all) in
+    one_meant _
+    (lvcreate_meant (value_in split.given) split.arguments
+    (record {
+      named = value_fits (options_of name.Lvcreate) split.given key.Name all;
+      amount = amount_fits _ _ extents sectors;
+      stripes = value_fits (options_of name.Lvcreate) split.given key.Stripes all;
+      piece = value_fits (options_of name.Lvcreate) split.given key.StripeSize all;
+      mirrors = value_fits (options_of name.Lvcreate) split.given key.Mirrors all;
+    }))
+request_meant name.Lvextend split here pass =
+    let all = (and_parts (list_all (given_passes (options_of name.Lvextend)) split.given) (arguments_pass name.Lvextend 0 split.arguments) pass).0 in
+    let extents = value_fits (options_of name.Lvextend) split.given key.Extents all in
+    let sectors = value_fits (options_of name.Lvextend) split.given key.Size all in
+    one_meant _ (lvextend_meant (value_in split.given) split.arguments (growths_fit (value_in split.given key.Extents) (value_in split.given key.Size) extents sectors))
 request_meant name.Lvreduce split here pass =
     let all = (and_parts (list_all (given_passes (options_of name.Lvreduce)) split.given) (arguments_pass name.Lvreduce 0 split.arguments) pass).0 in
     let extents = extents_fit (value_in split.given key.Extents) (value_fits (options_of name.Lvreduce) split.given key.Extents all) in

@@ -1,5 +1,5 @@
 -- A run keeps the promise, by what it did to the disks.
-use Rattle.std.proofs.Common.{◌≡◌, ◌<◌, ℕ, ◌^◌, Bool, true, false, List, [], ◌∷◌, length, Option, Some, None, refl, sym, ap, subst, ◌∙◌}
+use Rattle.std.proofs.Common.{◌≡◌, ◌<◌, ℕ, ◌^◌, Bool, true, false, List, [], ◌∷◌, length, Option, Some, None, ⊎_elim, refl, sym, ap, subst, ◌∙◌}
 use Rattle.std.proofs.lemmas.Option.{same_Some}
 use Rattle.std.specs.Prelude.{All, IsTrue, MatchResult, Result, Ok, Err}
 use Rattle.disk_batch.specs.InTurn.{WritesInTurn}
@@ -12,22 +12,24 @@ use Rattle.disk_model.specs.Record.{IsRecord}
 use Rattle.disk_model.specs.Since.{BetweenTold}
 use Rattle.disk_model.specs.State.{IsLawful, State}
 use Rattle.disk_model.specs.Steps.{Image, Step, Told, now_after, steps_on}
+use Rattle.extent_alloc.specs.declared.part.Part.{Part}
+use Rattle.group_ops.specs.Allocating.{Takes}
 use Rattle.group_ops.specs.Laws.{state_in}
-use Rattle.group_ops.specs.Planning.{IsPlanned, refusal_of}
+use Rattle.group_ops.specs.Planning.{IsPlanned, asks_of, refusal_of}
 use Rattle.image_scans.specs.Laws.{none_out}
 use Rattle.image_scans.specs.Versions.{FindsVersion, Version}
 use Rattle.line_history.proofs.Looks.{looks}
 use Rattle.line_history.specs.EachSet.{DoneSetsAgree}
 use Rattle.line_history.specs.Histories.{EndsHaveHistories, HasRunHistory, LinesHaveHistories, LooksAlone, journal_of_line}
-use Rattle.line_history.specs.LineRun.{Given, IsGiven, RunsLine, Stage, Opened, Repairing, Repaired, Writing, Done, batches_if, is_done, is_repaired, line_begun, repair_begun}
+use Rattle.line_history.specs.LineRun.{Given, IsGiven, RunsLine, Stage, Opened, Repairing, Repaired, Zeroing, Writing, Done, batches_if, is_done, is_repaired, is_zeroed, repair_begun, zeros_begun}
 use Rattle.lvm_script.specs.Options.{Word}
 use Rattle.lvm_script.specs.Values.{is_disk_name}
 use Rattle.lvm_script.specs.declared.answer.Answer.{Answer}
 use Rattle.lvm_script.specs.declared.answer.Answer.TheVariants as answer
 use Rattle.lvm_script.specs.declared.line.Line.{Line}
 use Rattle.repair_scans.proofs.StraysApart.{strays_apart}
-use Rattle.vg_change.specs.Batches.{batches_of}
-use Rattle.vg_change.specs.CarryingOut.{Carries, HasBegun, IsFault, KeepsImages}
+use Rattle.vg_change.specs.Batches.{batches_of, zeros_of}
+use Rattle.vg_change.specs.CarryingOut.{Carries, HasBegun, HasJudged, IsFault, KeepsImages, WritesBehind, WritesBoth}
 use Rattle.vg_change.specs.declared.fault.ChangeFault.{ChangeFault}
 use Rattle.vg_change.specs.declared.fault.ChangeFault.TheVariants as fault
 use Rattle.vg_found.specs.Shape.{HasShape}
@@ -115,26 +117,11 @@ kept_unopened names now line old new begun ending told opens =
 module _ (lines : LinesHaveHistories) (ends : EndsHaveHistories) (agree : DoneSetsAgree) (names : List Word) (now : ℕ) (line : Line) (old : State) (found : Found) (mid : State) (opened : IsOpened old found mid) (opens : BetweenTold (λ a b. OpensDisks old.sizes a true b) old.told mid.told)
     (count : length names ≡ length found.disks) (named : All (λ name. is_disk_name name ≡ true) names) (planned : IsPlanned line.id line.command) (time : now < 2 ^ 48) (old_told : IsTold old) where
   module _ (handed : Told) (there : old.told ≡ Some handed) (base : Image) (base_is : IsBase handed base) where
-    abbrev given : Given
-    given = record { handed = handed; base = base; sizes = old.sizes; found = found; names = names; line = line; clock = now }
-
     scan_base : IsScanOf base old.sizes found
     scan_base =
         subst (λ (i : Image). IsScanOf i old.sizes found)
         (same_image (now_after handed.opened handed.steps) base (now_base handed base (old_told.record_is handed there) base_is))
         (subst (λ (o : Option Told). HoldsNow o (λ image. IsScanOf image old.sizes found)) there opened.now)
-
-    is_given : IsGiven given
-    is_given = record {
-      base = base_is;
-      scan = scan_base;
-      shape = opened.shape;
-      whole = opened.whole;
-      named = count;
-      names_are = named;
-      planned = planned;
-      time = time;
-    }
 
     others : StraysAreOthers found
     others = strays_apart base old.sizes found scan_base
@@ -145,50 +132,75 @@ module _ (lines : LinesHaveHistories) (ends : EndsHaveHistories) (agree : DoneSe
     look_told : mid.told ≡ Some look
     look_told = (opens handed there).1
 
-    -- as far as it came
-    run_at : (stage : Stage) (start ended : Told) → WritesInTurn look (batches_if (repair_begun stage) (repair_batches found)) (is_repaired stage) start → (IsTrue (repair_begun stage) → (too_large found ≡ None) × RepairKeepsImages found)
-        → (IsTrue (is_repaired stage) → HasShape (repaired_of found) × IsWhole (repaired_of found))
-        → (IsTrue (is_repaired stage) → WritesInTurn start (batches_if (line_begun stage) (batches_of (state_in (repaired_of found) names) line now)) (is_done stage) ended) → (is_repaired stage ≡ false → ended ≡ start)
-        → (IsTrue (line_begun stage) → (refusal_of (state_in (repaired_of found) names) line now ≡ None) × KeepsImages (state_in (repaired_of found) names) line now) → IsRecord ended.steps → RunsLine given stage start ended
-    run_at stage start ended repair repairs repaired written unrepaired carried record_is = record {
-      given = is_given;
-      opened = look;
-      since = (opens handed there).2.since;
-      opening = (opens handed there).2.steps;
-      nothing = (opens handed there).2.nothing;
-      repair = repair;
-      fits = λ begun. (repairs begun).0;
-      repair_keeps = λ begun. (repairs begun).1;
-      repaired_shape = λ e. (repaired e).0;
-      repaired_whole = λ e. (repaired e).1;
-      written = written;
-      unrepaired = unrepaired;
-      passes = λ begun. (carried begun).0;
-      keeps = λ begun. (carried begun).1;
-      record_is = record_is;
-    }
+    -- the line takes these parts
+    module _ (parts : List Part) where
+      abbrev given : Given
+      given = record { handed = handed; base = base; sizes = old.sizes; found = found; names = names; line = line; clock = now; given = parts }
 
-    -- nothing was written at all
-    opened_alone : (ended : Told) → ended ≡ look → IsRecord ended.steps → RunsLine given Opened look ended
-    opened_alone ended same record_is = run_at Opened look ended (none_in_turn look false) (λ begun. cc) (λ repaired. cc) (λ repaired. cc) (λ e. same) (λ begun. cc) record_is
+      is_given : IsGiven given
+      is_given = record {
+        base = base_is;
+        scan = scan_base;
+        shape = opened.shape;
+        whole = opened.whole;
+        named = count;
+        names_are = named;
+        planned = planned;
+        time = time;
+      }
 
-    -- the repair failed
-    repair_failed : (start ended : Told) → WritesInTurn look (repair_batches found) false start → too_large found ≡ None → RepairKeepsImages found → ended ≡ start → IsRecord ended.steps → RunsLine given Repairing start ended
-    repair_failed start ended repaired fits keeps same record_is = run_at Repairing start ended repaired (λ begun. (fits, keeps)) (λ repaired. cc) (λ repaired. cc) (λ e. same) (λ begun. cc) record_is
+      -- as far as it came
+      run_at : (stage : Stage) (start ended : Told) → WritesInTurn look (batches_if (repair_begun stage) (repair_batches found)) (is_repaired stage) start → (IsTrue (repair_begun stage) → (too_large found ≡ None) × RepairKeepsImages found)
+          → (IsTrue (is_repaired stage) → HasShape (repaired_of found) × IsWhole (repaired_of found))
+          → (zeroed : Told) → (IsTrue (is_repaired stage) → WritesInTurn start (batches_if (zeros_begun stage) (zeros_of (state_in (repaired_of found) names) line now parts)) (is_zeroed stage) zeroed) → (is_repaired stage ≡ false → zeroed ≡ start)
+          → (IsTrue (is_zeroed stage) → WritesInTurn zeroed (batches_of (state_in (repaired_of found) names) line now parts) (is_done stage) ended) → (is_zeroed stage ≡ false → ended ≡ zeroed)
+          → (IsTrue (zeros_begun stage) → Takes (asks_of (state_in (repaired_of found) names) line) parts × (refusal_of (state_in (repaired_of found) names) line now parts ≡ None) × KeepsImages (state_in (repaired_of found) names) line now parts) → IsRecord ended.steps → RunsLine given stage start ended
+      run_at stage start ended repair repairs repaired zeroed zeros unrepaired written unzeroed carried record_is = record {
+        given = is_given;
+        opened = look;
+        since = (opens handed there).2.since;
+        opening = (opens handed there).2.steps;
+        nothing = (opens handed there).2.nothing;
+        repair = repair;
+        fits = λ begun. (repairs begun).0;
+        repair_keeps = λ begun. (repairs begun).1;
+        repaired_shape = λ e. (repaired e).0;
+        repaired_whole = λ e. (repaired e).1;
+        zeroed = zeroed;
+        zeros = zeros;
+        unrepaired = unrepaired;
+        written = written;
+        unzeroed = unzeroed;
+        takes = λ begun. (carried begun).0;
+        passes = λ begun. (carried begun).1;
+        keeps = λ begun. (carried begun).2;
+        record_is = record_is;
+      }
 
-    -- all was repaired
-    module _ (start ended : Told) (repaired : WritesInTurn look (repair_batches found) true start) (fits : too_large found ≡ None) (keeps : RepairKeepsImages found)
-        (shape : HasShape (repaired_of found)) (whole : IsWhole (repaired_of found)) (record_is : IsRecord ended.steps) where
-      unwritten : ended ≡ start → RunsLine given Repaired start ended
-      unwritten same =
-          run_at Repaired start ended repaired (λ begun. (fits, keeps)) (λ e. (shape, whole)) (λ e. subst (λ (t : Told). WritesInTurn start [] false t) (sym same) (none_in_turn start false)) (λ e. cc) (λ begun. cc) record_is
+      -- nothing was written at all
+      opened_alone : (ended : Told) → ended ≡ look → IsRecord ended.steps → RunsLine given Opened look ended
+      opened_alone ended same record_is = run_at Opened look ended (none_in_turn look false) (λ begun. cc) (λ repaired. cc) look (λ repaired. cc) (λ e. refl) (λ e. cc) (λ e. same) (λ begun. cc) record_is
 
-      module _ (passes : refusal_of (state_in (repaired_of found) names) line now ≡ None) (images : KeepsImages (state_in (repaired_of found) names) line now) where
-        failed : WritesInTurn start (batches_of (state_in (repaired_of found) names) line now) false ended → RunsLine given Writing start ended
-        failed written = run_at Writing start ended repaired (λ begun. (fits, keeps)) (λ e. (shape, whole)) (λ e. written) (λ e. cc) (λ begun. (passes, images)) record_is
+      -- the repair failed
+      repair_failed : (start ended : Told) → WritesInTurn look (repair_batches found) false start → too_large found ≡ None → RepairKeepsImages found → ended ≡ start → IsRecord ended.steps → RunsLine given Repairing start ended
+      repair_failed start ended repaired fits keeps same record_is = run_at Repairing start ended repaired (λ begun. (fits, keeps)) (λ repaired. cc) start (λ repaired. cc) (λ e. refl) (λ e. cc) (λ e. same) (λ begun. cc) record_is
 
-        done : WritesInTurn start (batches_of (state_in (repaired_of found) names) line now) true ended → RunsLine given Done start ended
-        done written = run_at Done start ended repaired (λ begun. (fits, keeps)) (λ e. (shape, whole)) (λ e. written) (λ e. cc) (λ begun. (passes, images)) record_is
+      -- all was repaired
+      module _ (start ended : Told) (repaired : WritesInTurn look (repair_batches found) true start) (fits : too_large found ≡ None) (keeps : RepairKeepsImages found)
+          (shape : HasShape (repaired_of found)) (whole : IsWhole (repaired_of found)) (record_is : IsRecord ended.steps) where
+        unwritten : ended ≡ start → RunsLine given Repaired start ended
+        unwritten same =
+            run_at Repaired start ended repaired (λ begun. (fits, keeps)) (λ e. (shape, whole)) start (λ e. none_in_turn start false) (λ e. cc) (λ e. cc) (λ e. same) (λ begun. cc) record_is
+
+        module _ (takes : Takes (asks_of (state_in (repaired_of found) names) line) parts) (passes : refusal_of (state_in (repaired_of found) names) line now parts ≡ None) (images : KeepsImages (state_in (repaired_of found) names) line now parts) where
+          zeros_failed : WritesInTurn start (zeros_of (state_in (repaired_of found) names) line now parts) false ended → RunsLine given Zeroing start ended
+          zeros_failed zeros = run_at Zeroing start ended repaired (λ begun. (fits, keeps)) (λ e. (shape, whole)) ended (λ e. zeros) (λ e. cc) (λ e. cc) (λ e. refl) (λ begun. (takes, passes, images)) record_is
+
+          failed : WritesBehind (zeros_of (state_in (repaired_of found) names) line now parts) (batches_of (state_in (repaired_of found) names) line now parts) false start ended → RunsLine given Writing start ended
+          failed w = run_at Writing start ended repaired (λ begun. (fits, keeps)) (λ e. (shape, whole)) w.zeroed (λ e. w.first) (λ e. cc) (λ e. w.behind) (λ e. cc) (λ begun. (takes, passes, images)) record_is
+
+          done : WritesBehind (zeros_of (state_in (repaired_of found) names) line now parts) (batches_of (state_in (repaired_of found) names) line now parts) true start ended → RunsLine given Done start ended
+          done w = run_at Done start ended repaired (λ begun. (fits, keeps)) (λ e. (shape, whole)) w.zeroed (λ e. w.first) (λ e. cc) (λ e. w.behind) (λ e. cc) (λ begun. (takes, passes, images)) record_is
 
   -- ---- by what it came to
   module _ (done_at new : State) (told_done : IsTold done_at) (told_new : IsTold new) where
@@ -201,60 +213,66 @@ module _ (lines : LinesHaveHistories) (ends : EndsHaveHistories) (agree : DoneSe
     ended_by repair.NoMemory cause told keeps same handed there base base_is version finds ended at_end =
         let t = told (look handed there base base_is) (look_told handed there base base_is) in
         let is : ended ≡ t.0 = same_told done_at.told ended t.0 (ap (λ (s : State). s.told) (sym same) ∙ at_end) t.1 in
-        (ends (given handed there base base_is) Opened (look handed there base base_is) ended (opened_alone handed there base base_is ended (is ∙ t.2) (told_new.record_is ended at_end)) tt, tt)
+        (ends (given handed there base base_is []) Opened (look handed there base base_is) ended (opened_alone handed there base base_is [] ended (is ∙ t.2) (told_new.record_is ended at_end)) tt, tt)
     ended_by (repair.TooLarge pv need room) cause told keeps same handed there base base_is version finds ended at_end =
         let t = told (look handed there base base_is) (look_told handed there base base_is) in
         let is : ended ≡ t.0 = same_told done_at.told ended t.0 (ap (λ (s : State). s.told) (sym same) ∙ at_end) t.1 in
-        (ends (given handed there base base_is) Opened (look handed there base base_is) ended (opened_alone handed there base base_is ended (is ∙ t.2) (told_new.record_is ended at_end)) tt, tt)
+        (ends (given handed there base base_is []) Opened (look handed there base base_is) ended (opened_alone handed there base base_is [] ended (is ∙ t.2) (told_new.record_is ended at_end)) tt, tt)
     ended_by (repair.Pv pv) cause told keeps same handed there base base_is version finds ended at_end =
         let t = told (look handed there base base_is) (look_told handed there base base_is) in
         let is : ended ≡ t.0 = same_told done_at.told ended t.0 (ap (λ (s : State). s.told) (sym same) ∙ at_end) t.1 in (
-          ends (given handed there base base_is) Repairing t.0 ended
-              (repair_failed handed there base base_is t.0 ended t.2 cause.0 (keeps tt (others handed there base base_is)) is (told_new.record_is ended at_end)) tt,
+          ends (given handed there base base_is []) Repairing t.0 ended
+              (repair_failed handed there base base_is [] t.0 ended t.2 cause.0 (keeps tt (others handed there base base_is)) is (told_new.record_is ended at_end)) tt,
           tt,
         )
 
     module _ (repaired : IsRepaired found mid done_at (repaired_of found)) (told : BetweenTold (λ a b. WritesInTurn a (repair_batches found) true b) mid.told done_at.told)
         (keeps : StraysAreOthers found → RepairKeepsImages found) (shape : HasShape (repaired_of found)) (whole : IsWhole (repaired_of found)) where
-      line_by : (result : Result (Unit {0}) ChangeFault) → MatchResult result (λ _. HasSameFaults done_at new × (refusal_of (state_in (repaired_of found) names) line now ≡ None)) (IsFault (state_in (repaired_of found) names) line now done_at new)
-          → (HasBegun result → KeepsImages (state_in (repaired_of found) names) line now) → BetweenTold (Carries (batches_of (state_in (repaired_of found) names) line now) result) done_at.told new.told → Keeps (outcome_of result)
-      line_by (Ok well) cause images carried handed there base base_is version finds ended at_end =
+      line_by : (parts : List Part) (result : Result (Unit {0}) ChangeFault) → (HasJudged result → Takes (asks_of (state_in (repaired_of found) names) line) parts)
+          → MatchResult result (λ _. HasSameFaults done_at new × (refusal_of (state_in (repaired_of found) names) line now parts ≡ None)) (IsFault (state_in (repaired_of found) names) line now parts done_at new)
+          → (HasBegun result → KeepsImages (state_in (repaired_of found) names) line now parts) → BetweenTold (Carries (zeros_of (state_in (repaired_of found) names) line now parts) (batches_of (state_in (repaired_of found) names) line now parts) result) done_at.told new.told → Keeps (outcome_of result)
+      line_by parts (Ok well) takes cause images carried handed there base base_is version finds ended at_end =
           let t = told (look handed there base base_is) (look_told handed there base base_is) in
           let e = carried t.0 t.1 in
           let is : e.0 ≡ ended = same_told new.told e.0 ended e.1 at_end in
-          let runs : RunsLine (given handed there base base_is) Done t.0 ended =
-          done handed there base base_is t.0 ended t.2 repaired.fits (keeps (others handed there base base_is)) shape whole (told_new.record_is ended at_end) cause.1 (images tt)
-          (subst (λ (u : Told). WritesInTurn t.0 (batches_of (state_in (repaired_of found) names) line now) true u) is e.2)
+          let runs : RunsLine (given handed there base base_is parts) Done t.0 ended =
+          done handed there base base_is parts t.0 ended t.2 repaired.fits (keeps (others handed there base base_is)) shape whole (told_new.record_is ended at_end) (takes tt) cause.1 (images tt)
+          (subst (λ (u : Told). WritesBehind (zeros_of (state_in (repaired_of found) names) line now parts) (batches_of (state_in (repaired_of found) names) line now parts) true t.0 u) is e.2)
           in (
             counted handed base old.sizes names now ended answer.Fine ((line, Some answer.Fine) ∷ []) (length t.0.steps) (length ended.steps) done_at.steps new.steps (told_done.steps t.0 t.1) (told_new.steps ended at_end)
-                (lines (given handed there base base_is) Done t.0 ended answer.Fine runs tt),
-            agree (given handed there base base_is) t.0 ended runs,
+                (lines (given handed there base base_is parts) Done t.0 ended answer.Fine runs tt),
+            agree (given handed there base base_is parts) t.0 ended runs,
           )
-      line_by (Err fault.NoMemory) cause images carried handed there base base_is version finds ended at_end =
+      line_by parts (Err fault.NoMemory) takes cause images carried handed there base base_is version finds ended at_end =
           let t = told (look handed there base base_is) (look_told handed there base base_is) in
           let e = carried t.0 t.1 in
           let is : e.0 ≡ ended = same_told new.told e.0 ended e.1 at_end in (
-            ends (given handed there base base_is) Repaired t.0 ended
-                (unwritten handed there base base_is t.0 ended t.2 repaired.fits (keeps (others handed there base base_is)) shape whole (told_new.record_is ended at_end) (sym is ∙ e.2)) tt,
+            ends (given handed there base base_is parts) Repaired t.0 ended
+                (unwritten handed there base base_is parts t.0 ended t.2 repaired.fits (keeps (others handed there base base_is)) shape whole (told_new.record_is ended at_end) (sym is ∙ e.2)) tt,
             tt,
           )
-      line_by (Err (fault.Refused refusal)) cause images carried handed there base base_is version finds ended at_end =
+      line_by parts (Err (fault.Refused refusal)) takes cause images carried handed there base base_is version finds ended at_end =
           let t = told (look handed there base base_is) (look_told handed there base base_is) in
           let e = carried t.0 t.1 in
           let is : e.0 ≡ ended = same_told new.told e.0 ended e.1 at_end in (
             counted handed base old.sizes names now ended (answer.Refused refusal) ((line, Some (answer.Refused refusal)) ∷ []) (length t.0.steps) (length ended.steps) done_at.steps new.steps (told_done.steps t.0 t.1) (told_new.steps ended at_end)
-                (lines (given handed there base base_is) Repaired t.0 ended (answer.Refused refusal)
-                (unwritten handed there base base_is t.0 ended t.2 repaired.fits (keeps (others handed there base base_is)) shape whole (told_new.record_is ended at_end) (sym is ∙ e.2)) tt),
+                (lines (given handed there base base_is parts) Repaired t.0 ended (answer.Refused refusal)
+                (unwritten handed there base base_is parts t.0 ended t.2 repaired.fits (keeps (others handed there base base_is)) shape whole (told_new.record_is ended at_end) (sym is ∙ e.2)) tt),
             tt,
           )
-      line_by (Err (fault.Failed pv)) cause images carried handed there base base_is version finds ended at_end =
+      line_by parts (Err (fault.Failed pv)) takes cause images carried handed there base base_is version finds ended at_end =
           let t = told (look handed there base base_is) (look_told handed there base base_is) in
           let e = carried t.0 t.1 in
           let is : e.0 ≡ ended = same_told new.told e.0 ended e.1 at_end in (
             counted handed base old.sizes names now ended (answer.PvFailed pv) ((line, Some (answer.PvFailed pv)) ∷ []) (length t.0.steps) (length ended.steps) done_at.steps new.steps (told_done.steps t.0 t.1) (told_new.steps ended at_end)
-                (lines (given handed there base base_is) Writing t.0 ended (answer.PvFailed pv)
-                (failed handed there base base_is t.0 ended t.2 repaired.fits (keeps (others handed there base base_is)) shape whole (told_new.record_is ended at_end) cause.0 (images tt)
-                (subst (λ (u : Told). WritesInTurn t.0 (batches_of (state_in (repaired_of found) names) line now) false u) is e.2)) tt),
+                (⊎_elim
+                (λ first.
+                lines (given handed there base base_is parts) Zeroing t.0 ended (answer.PvFailed pv)
+                (zeros_failed handed there base base_is parts t.0 ended t.2 repaired.fits (keeps (others handed there base base_is)) shape whole (told_new.record_is ended at_end) (takes tt) cause.0 (images tt) first) tt)
+                (λ behind.
+                lines (given handed there base base_is parts) Writing t.0 ended (answer.PvFailed pv)
+                (failed handed there base base_is parts t.0 ended t.2 repaired.fits (keeps (others handed there base base_is)) shape whole (told_new.record_is ended at_end) (takes tt) cause.0 (images tt) behind) tt)
+                (subst (λ (u : Told). WritesBoth (zeros_of (state_in (repaired_of found) names) line now parts) (batches_of (state_in (repaired_of found) names) line now parts) false t.0 u) is e.2)),
             tt,
           )
 
@@ -265,7 +283,7 @@ module _ (lines : LinesHaveHistories) (ends : EndsHaveHistories) (agree : DoneSe
         let same : r ≡ repaired_of found = cause.now in
         let carried : IsCarriedOut (state_in (repaired_of found) names) line now done_at outcome new = subst (λ (f : Found). IsCarriedOut (state_in f names) line now done_at outcome new) same goes in
         subst Keeps (sym carried.is)
-        (line_by (subst (IsRepaired found mid done_at) same cause) told (keeps tt) (subst HasShape same whole.0) (subst IsWhole same whole.1) carried.result carried.cause carried.images carried.told)
+        (line_by (subst (IsRepaired found mid done_at) same cause) told (keeps tt) (subst HasShape same whole.0) (subst IsWhole same whole.1) carried.carried.given carried.result carried.carried.takes carried.carried.cause carried.carried.images carried.carried.told)
 
   pub kept_changed : (new : State) (outcome : Outcome) (begun : ℕ) → IsTold new → IsChanged found names line now mid outcome begun new → KeepsPromise names now old (journal_by begun new.steps outcome) (lines_by line outcome) new
   kept_changed new outcome begun told_new c =

@@ -7,6 +7,7 @@ use Rattle.disk_model.proofs.StepsSince.{between_weaker}
 use Rattle.disk_model.specs.Since.{BetweenTold}
 use Rattle.disk_model.specs.State.{State}
 use Rattle.disk_model.specs.Steps.{Told}
+use Rattle.extent_alloc.specs.declared.part.Part.{Part}
 use Rattle.line_history.proofs.Looks.{reports}
 use Rattle.line_history.specs.Histories.{IsFineOrBad, journal_of_line}
 use Rattle.lvm_script.specs.Lines.{changes}
@@ -14,7 +15,7 @@ use Rattle.lvm_script.specs.Options.{Word}
 use Rattle.lvm_script.specs.declared.answer.Answer.{Answer}
 use Rattle.lvm_script.specs.declared.answer.Answer.TheVariants as answer
 use Rattle.lvm_script.specs.declared.command.Command.{Command}
-use Rattle.lvm_script.specs.declared.command.Command.TheVariants.{Lvreduce, Lvremove, Lvrename, Lvs, Pvcreate, Pvck, Pvs, Vgcfgbackup, Vgck, Vgcreate, Vgextend, Vgrename, Vgs}
+use Rattle.lvm_script.specs.declared.command.Command.TheVariants.{Lvcreate, Lvextend, Lvreduce, Lvremove, Lvrename, Lvs, Pvcreate, Pvck, Pvs, Vgcfgbackup, Vgck, Vgcreate, Vgextend, Vgrename, Vgs}
 use Rattle.lvm_script.specs.declared.line.Line.{Line}
 use Rattle.volume_history.specs.Commands.{commits}
 use Rattle.volume_history.specs.Quiet.{is_quiet}
@@ -44,21 +45,23 @@ report_is (Pvcreate pv copies) built reads = absurd (true≢false reads)
 report_is (Vgcreate vg extent_size pvs) built reads = absurd (true≢false reads)
 report_is (Vgextend vg pvs) built reads = absurd (true≢false reads)
 report_is (Vgrename vg new) built reads = absurd (true≢false reads)
+report_is (Lvcreate new) built reads = absurd (true≢false reads)
+report_is (Lvextend path growth pvs) built reads = absurd (true≢false reads)
 report_is (Lvreduce path amount) built reads = absurd (true≢false reads)
 report_is (Lvremove path) built reads = absurd (true≢false reads)
 report_is (Lvrename vg old new) built reads = absurd (true≢false reads)
 report_is _ built reads = absurd (cc)
 
-module _ (names : List Word) (now : ℕ) (line : Line) (old new : State) (told_old : IsTold old) (told_new : IsTold new) (report : IsReport line.command) where
+module _ (names : List Word) (now : ℕ) (line : Line) (old new : State) (told_old : IsTold old) (told_new : IsTold new) (report : IsReport line.command) (given : List Part) where
   abbrev context : Context
   context = context_with names line.id now old
 
-  reads_of : (outcome : Outcome) (a b : Told) → DoesToDisks (spec_of line.command) context outcome a b → ReadsDisks (spec_of line.command) context a b
-  reads_of outcome a b does = subst (λ (f : Bool). MatchBool f (ChangesDisks (spec_of line.command) context outcome a b) (ReadsDisks (spec_of line.command) context a b)) report.unflushed does
+  reads_of : (outcome : Outcome) (a b : Told) → DoesToDisks (spec_of line.command) context given outcome a b → ReadsDisks (spec_of line.command) context a b
+  reads_of outcome a b does = subst (λ (f : Bool). MatchBool f (ChangesDisks (spec_of line.command) context given outcome a b) (ReadsDisks (spec_of line.command) context a b)) report.unflushed does
 
-  wrote : (outcome : Outcome) → BetweenTold (DoesToDisks (spec_of line.command) context outcome) old.told new.told → BetweenTold WroteNothing old.told new.told
+  wrote : (outcome : Outcome) → BetweenTold (DoesToDisks (spec_of line.command) context given outcome) old.told new.told → BetweenTold WroteNothing old.told new.told
   wrote outcome told =
-      between_weaker (DoesToDisks (spec_of line.command) context outcome) WroteNothing old.told new.told
+      between_weaker (DoesToDisks (spec_of line.command) context given outcome) WroteNothing old.told new.told
       (λ a b does. let r = (reads_of outcome a b does).reads in (r.since, r.steps, reads_write_nothing r.since r.reads)) told
 
   abbrev Keeps : Outcome → Type 0
@@ -84,7 +87,7 @@ module _ (names : List Word) (now : ℕ) (line : Line) (old new : State) (told_o
     none_older said ended,
   )
 
-  pub kept_report : (outcome : Outcome) → IsCause (spec_of line.command) context old new outcome → BetweenTold (DoesToDisks (spec_of line.command) context outcome) old.told new.told → Keeps outcome
+  pub kept_report : (outcome : Outcome) → IsCause (spec_of line.command) context given old new outcome → BetweenTold (DoesToDisks (spec_of line.command) context given outcome) old.told new.told → Keeps outcome
   kept_report (Ended ending) cause told = kept_unbegun names now old new told_new (wrote (Ended ending) told)
   kept_report (Answered n answer.NoMemory) cause told = kept_unbegun names now old new told_new (wrote (Answered n answer.NoMemory) told)
   kept_report (Answered n answer.Fine) cause told = said_so answer.Fine tt (wrote (Answered n answer.Fine) told)

@@ -3,7 +3,7 @@ use Rattle.std.proofs.Common.{◌≡◌, ℕ, List, [], Option, refl, inr}
 use Rattle.disk_model.specs.State.{State}
 use Rattle.lvm_script.specs.Options.{Word}
 use Rattle.lvm_script.specs.declared.command.Command.{Command}
-use Rattle.lvm_script.specs.declared.command.Command.TheVariants.{Lvreduce, Lvremove, Lvrename, Lvs, Pvcreate, Pvck, Pvs, Vgcfgbackup, Vgck, Vgcreate, Vgextend, Vgrename, Vgs}
+use Rattle.lvm_script.specs.declared.command.Command.TheVariants.{Lvcreate, Lvextend, Lvreduce, Lvremove, Lvrename, Lvs, Pvcreate, Pvck, Pvs, Vgcfgbackup, Vgck, Vgcreate, Vgextend, Vgrename, Vgs}
 use Rattle.lvm_script.specs.declared.request.Request.{Request}
 use Rattle.lvm_script.specs.declared.request.Request.TheVariants.{One}
 use Rattle.lvm_words.proofs.LineNames.{names_of_line}
@@ -31,6 +31,8 @@ undone names (One (Pvcreate pv copies)) ids now state idle = change_undone names
 undone names (One (Vgcreate vg extent_size pvs)) ids now state idle = change_undone names (Vgcreate vg extent_size pvs) _ now state idle
 undone names (One (Vgextend vg pvs)) ids now state idle = change_undone names (Vgextend vg pvs) _ now state idle
 undone names (One (Vgrename vg new)) ids now state idle = change_undone names (Vgrename vg new) _ now state idle
+undone names (One (Lvcreate new)) ids now state idle = change_undone names (Lvcreate new) _ now state idle
+undone names (One (Lvextend path growth pvs)) ids now state idle = change_undone names (Lvextend path growth pvs) _ now state idle
 undone names (One (Lvreduce path amount)) ids now state idle = change_undone names (Lvreduce path amount) _ now state idle
 undone names (One (Lvremove path)) ids now state idle = change_undone names (Lvremove path) _ now state idle
 undone names (One (Lvrename vg old new)) ids now state idle = change_undone names (Lvrename vg old new) _ now state idle

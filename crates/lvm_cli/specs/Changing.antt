@@ -1,23 +1,24 @@
 -- A command that changes something: the disks are flushed and scanned, what is stale or a stray is repaired, the line is judged
--- by what stands there then, and its batches are written.
+-- by what stands there then, and its zeros and then its other batches are written.
 use Rattle.std.specs.Prelude.{◌≡◌, ℕ, true, List, [], length, Option, Some, None, Result, Ok, Err, MatchResult}
 use Rattle.disk_batch.specs.InTurn.{Put}
-use Rattle.disk_model.specs.Faults.{HasSameFaults}
 use Rattle.disk_model.specs.Idle.{IsIdleAgain}
 use Rattle.disk_model.specs.Record.{IsRecord}
 use Rattle.disk_model.specs.Since.{BetweenTold}
 use Rattle.disk_model.specs.State.{State}
 use Rattle.disk_model.specs.Steps.{Told}
+use Rattle.extent_alloc.specs.declared.part.Part.{Part}
+use Rattle.group_ops.specs.Allocating.{Takes}
 use Rattle.group_ops.specs.Laws.{state_in}
-use Rattle.group_ops.specs.Planning.{refusal_of}
+use Rattle.group_ops.specs.Planning.{asks_of, refusal_of}
 use Rattle.group_ops.specs.declared.state.GroupState.{GroupState}
 use Rattle.lvm_script.specs.declared.command.Command.{Command}
 use Rattle.lvm_script.specs.declared.answer.Answer.TheVariants.{Fine, NoMemory, PvFailed, Refused}
 use Rattle.lvm_script.specs.declared.line.Line.{Line}
 use Rattle.lvm_script.specs.Options.{Word}
 use Rattle.lvm_script.specs.declared.op_refusal.OpRefusal.{OpRefusal}
-use Rattle.vg_change.specs.Batches.{batches_of}
-use Rattle.vg_change.specs.CarryingOut.{Carries, HasBegun, IsFault, KeepsImages}
+use Rattle.vg_change.specs.Batches.{batches_of, zeros_of}
+use Rattle.vg_change.specs.CarryingOut.{IsCarried}
 use Rattle.vg_change.specs.declared.fault.ChangeFault.{ChangeFault}
 use Rattle.vg_change.specs.declared.fault.ChangeFault.TheVariants as fault
 use Rattle.vg_change.specs.Laws.{AreasAreKept, IsFoundAfter}
@@ -47,15 +48,25 @@ line_in context command = record { number = 1; id = context.id; command = comman
 abbrev pub state_by : Context → Found → GroupState
 state_by context found = state_in (repaired_of found) context.names
 
--- its first refusal, by what was found
-abbrev pub refusal_by : Context → Command → Option Found → Option OpRefusal
-refusal_by context command None = None
-refusal_by context command (Some found) = refusal_of (state_by context found) (line_in context command) context.now
+-- the extents that it may take, by what was found
+abbrev pub TakesBy : Context → Command → Option Found → List Part → Type 0
+TakesBy context command None given = given ≡ []
+TakesBy context command (Some found) given = Takes (asks_of (state_by context found) (line_in context command)) given
 
--- its batches, by what was found
-abbrev pub batches_by : Context → Command → Option Found → List (List Put)
-batches_by context command None = []
-batches_by context command (Some found) = batches_of (state_by context found) (line_in context command) context.now
+-- its first refusal, by what was found and by those that it takes
+abbrev pub refusal_by : Context → Command → Option Found → List Part → Option OpRefusal
+refusal_by context command None given = None
+refusal_by context command (Some found) given = refusal_of (state_by context found) (line_in context command) context.now given
+
+-- its zeros, by the same
+abbrev pub zeros_by : Context → Command → Option Found → List Part → List (List Put)
+zeros_by context command None given = []
+zeros_by context command (Some found) given = zeros_of (state_by context found) (line_in context command) context.now given
+
+-- its other batches
+abbrev pub batches_by : Context → Command → Option Found → List Part → List (List Put)
+batches_by context command None given = []
+batches_by context command (Some found) given = batches_of (state_by context found) (line_in context command) context.now given
 
 -- the batches that repair what was found
 abbrev pub repairs_by : Option Found → List (List Put)
@@ -73,13 +84,15 @@ changing command = record {
   flushes = true;
   looks = AtDisks;
   scan = λ context image unread scanned. FindsWhole image context.sizes unread scanned;
-  refusal = λ context found. refusal_by context command found;
+  takes = λ context found given. TakesBy context command found given;
+  refusal = λ context found given. refusal_by context command found given;
   repairs = λ found. repairs_by found;
   stuck = λ found. stuck_by found;
-  batches = λ context found. batches_by context command found;
-  keeps = λ context found base image. (f : Found) × (found ≡ Some f) × AreasAreKept (state_by context f) (line_in context command) context.now base image;
+  zeros = λ context found given. zeros_by context command found given;
+  batches = λ context found given. batches_by context command found given;
+  keeps = λ context found given base image. (f : Found) × (found ≡ Some f) × AreasAreKept (state_by context f) (line_in context command) context.now given base image;
   reads = λ context image spans. AreFewReads image context.sizes spans;
-  finds = λ context found image. (f : Found) × (found ≡ Some f) × IsFoundAfter (state_by context f) (line_in context command) context.now image;
+  finds = λ context found given image. (f : Found) × (found ≡ Some f) × IsFoundAfter (state_by context f) (line_in context command) context.now given image;
   reports = λ context found image text. ⊥;
 }
 
@@ -95,9 +108,7 @@ pub record IsCarriedOut (state : GroupState) (line : Line) (now : ℕ) (old : St
   pub result : Result (Unit {0}) ChangeFault
   pub is : outcome ≡ outcome_of result
   pub again : IsIdleAgain old new
-  pub cause : MatchResult result (λ _. HasSameFaults old new × (refusal_of state line now ≡ None)) (IsFault state line now old new)
-  pub images : HasBegun result → KeepsImages state line now
-  pub told : BetweenTold (Carries (batches_of state line now) result) old.told new.told
+  pub carried : IsCarried state line now old result new
 
 -- how a run ends whose disks can't be repaired
 abbrev pub ending_of : RepairFault → Ending

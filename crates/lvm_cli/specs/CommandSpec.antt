@@ -5,6 +5,7 @@ use Rattle.std.specs.Ordering.{nat_cmp}
 use Rattle.sector_base.specs.declared.spans.Span.{Span}
 use Rattle.disk_batch.specs.InTurn.{Put}
 use Rattle.disk_model.specs.Steps.{Image}
+use Rattle.extent_alloc.specs.declared.part.Part.{Part}
 use Rattle.meta_model.specs.declared.group.Group.{Group}
 use Rattle.vg_found.specs.declared.found.Found.{Found}
 use Rattle.lvm_script.specs.Options.{Word, number_named}
@@ -43,20 +44,24 @@ pub record CommandSpec : Type 1 where
   pub looks : Looks
   -- what the look comes to, by what stands on the disks and by which of them are unread
   pub scan : Context → Image → set.FinSet nat_cmp → Scanned → Type 0
-  -- its first refusal, where one holds, by what the scan finds and, where it changes something, once that is repaired
-  pub refusal : Context → Option Found → Option OpRefusal
+  -- the extents that it may take, by what the scan finds once that is repaired: none, where it doesn't ask for any
+  pub takes : Context → Option Found → List Part → Type 0
+  -- its first refusal, where one holds, by what the scan finds and, where it changes something, once that is repaired, and by the
+  -- extents that it takes
+  pub refusal : Context → Option Found → List Part → Option OpRefusal
   -- where it changes something, the batches of writes that repair what the scan finds to be stale or a stray, and of the first
   -- stale area in which the group's text has no room its disk, how many sectors it needs and how many there are
   pub repairs : Option Found → List (List Put)
   pub stuck : Option Found → Option (ℕ × ℕ × ℕ)
-  -- its own batches, behind those, where it isn't refused
-  pub batches : Context → Option Found → List (List Put)
-  -- what every image that a crash may leave from then on keeps of what the disks held at its start
-  pub keeps : Context → Option Found → Image → Image → Type 0
+  -- its zeros, behind those, where it isn't refused, and its other batches
+  pub zeros : Context → Option Found → List Part → List (List Put)
+  pub batches : Context → Option Found → List Part → List (List Put)
+  -- what every image that a crash may leave from these on keeps of what the disks held once the zeros were written
+  pub keeps : Context → Option Found → List Part → Image → Image → Type 0
   -- the spans that it may read, in their order, by what stands on the disks
   pub reads : Context → Image → List Span → Type 0
   -- what a reader finds on the disks once it was answered as done
-  pub finds : Context → Option Found → Image → Type 0
+  pub finds : Context → Option Found → List Part → Image → Type 0
   -- its report, by what the scan finds and by what stands on the disks
   pub reports : Context → Option Found → Image → List ℕ → Type 0
 

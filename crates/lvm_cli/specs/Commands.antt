@@ -5,7 +5,7 @@ pub mod Pvs
 pub mod Vgcfgbackup
 pub mod Vgck
 pub mod Vgs
-use Rattle.std.specs.Prelude.{Bool, true, false, [], None}
+use Rattle.std.specs.Prelude.{◌≡◌, Bool, true, false, [], None}
 use Rattle.lvm_script.specs.declared.command.Command.{Command}
 use Rattle.lvm_script.specs.declared.command.Command.TheVariants as command
 use Rattle.lvm_cli.specs.Changing.{changing}
@@ -24,6 +24,8 @@ is_built (command.Pvck pv) = true
 is_built (command.Vgcreate vg extent_size names) = true
 is_built (command.Vgextend vg names) = true
 is_built (command.Vgrename vg new) = true
+is_built (command.Lvcreate new) = true
+is_built (command.Lvextend path growth names) = true
 is_built (command.Lvreduce path amount) = true
 is_built (command.Lvremove path) = true
 is_built (command.Lvrename vg old new) = true
@@ -40,13 +42,15 @@ unbuilt = record {
   flushes = false;
   looks = AtNothing;
   scan = λ context image unread scanned. ⊥;
-  refusal = λ context found. None;
+  takes = λ context found given. given ≡ [];
+  refusal = λ context found given. None;
   repairs = λ found. [];
   stuck = λ found. None;
-  batches = λ context found. [];
-  keeps = λ context found base image. ⊥;
+  zeros = λ context found given. [];
+  batches = λ context found given. [];
+  keeps = λ context found given base image. ⊥;
   reads = λ context image spans. ⊥;
-  finds = λ context found image. ⊥;
+  finds = λ context found given image. ⊥;
   reports = λ context found image text. ⊥;
 }
 
@@ -57,6 +61,8 @@ spec_of (command.Pvck pv) = pvck pv
 spec_of (command.Vgcreate vg extent_size names) = changing (command.Vgcreate vg extent_size names)
 spec_of (command.Vgextend vg names) = changing (command.Vgextend vg names)
 spec_of (command.Vgrename vg new) = changing (command.Vgrename vg new)
+spec_of (command.Lvcreate new) = changing (command.Lvcreate new)
+spec_of (command.Lvextend path growth names) = changing (command.Lvextend path growth names)
 spec_of (command.Lvreduce path amount) = changing (command.Lvreduce path amount)
 spec_of (command.Lvremove path) = changing (command.Lvremove path)
 spec_of (command.Lvrename vg old new) = changing (command.Lvrename vg old new)

@@ -36,13 +36,15 @@ scan_report report = record {
   flushes = changes (command_of report);
   looks = AtDisks;
   scan = λ context image unread scanned. FindsAnything image context.sizes unread scanned;
-  refusal = λ context found. None;
+  takes = λ context found given. given ≡ [];
+  refusal = λ context found given. None;
   repairs = λ found. [];
   stuck = λ found. None;
-  batches = λ context found. [];
-  keeps = λ context found base image. ⊥;
+  zeros = λ context found given. [];
+  batches = λ context found given. [];
+  keeps = λ context found given base image. ⊥;
   reads = λ context image spans. AreFewReads image context.sizes spans;
-  finds = λ context found image. ⊥;
+  finds = λ context found given image. ⊥;
   reports = λ context scanned image text. (found : Found) × (scanned ≡ Some found) × (text ≡ text_of report found context.names);
 }
 

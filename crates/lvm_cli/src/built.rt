@@ -6,7 +6,7 @@ use lvm_script::Command;
 
 /// Which commands run so far, as it is told to a user.
 pub const BUILT: &str =
-    "So far pvs, vgs, lvs, vgck, pvck, vgcfgbackup, pvcreate, vgcreate, vgextend, vgrename, lvreduce, lvremove and lvrename run.\n";
+    "So far pvs, vgs, lvs, vgck, pvck, vgcfgbackup, pvcreate, vgcreate, vgextend, vgrename, lvcreate, lvextend, lvreduce, lvremove and lvrename run.\n";
 
 /// Whether the command is built. Words that ask for another are refused until it is.
 pub fn is_built(command: &Command) -> bool
@@ -19,6 +19,8 @@ pub fn is_built(command: &Command) -> bool
             | Command::Vgcreate { .. }
             | Command::Vgextend { .. }
             | Command::Vgrename { .. }
+            | Command::Lvcreate(_)
+            | Command::Lvextend { .. }
             | Command::Lvreduce { .. }
             | Command::Lvremove { .. }
             | Command::Lvrename { .. }

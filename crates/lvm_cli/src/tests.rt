@@ -1,5 +1,5 @@
 //! Runs over disks in memory: the worked rows of the command.
-ghost use Rattle.std.specs.Prelude.{◌≡◌, ◌≤◌, ◌^◌, List, Some, length, IfOk, IsTrue};
+ghost use Rattle.std.specs.Prelude.{◌≡◌, ◌≤◌, ◌<◌, ◌^◌, List, Some, length, IfOk, IsTrue};
 ghost use Rattle.lvm_script.specs.Options.{Word, words_of};
 ghost use Rattle.lvm_words.specs.Disks.{disks_named};
 ghost use Rattle.lvm_cli.specs.Disks.{AreDisks};
@@ -95,20 +95,22 @@ fn run<T: Threads + Wait + Sync + Abort>(
 ) -> Result<Ended<MemShelf>, AllocError>
     requires { AreDisks count (⟦<MemShelf as Shelf>⟧.state shelf) }
 {
-    run_drawing(rt, alloc, &[0, 1, 62, 3], words, count, shelf, out)
+    run_drawing(rt, alloc, &[0, 1, 62, 3], 0, words, count, shelf, out)
 }
 
-// The same where these numbers are drawn.
+// The same where these numbers are drawn, at this time.
 fn run_drawing<T: Threads + Wait + Sync + Abort>(
     rt: &T,
     alloc: Global,
     drawn: &[u64],
+    now: u64,
     words: &[&str],
     count: u32,
     shelf: MemShelf,
     out: &mut MemSink,
 ) -> Result<Ended<MemShelf>, AllocError>
-    requires { AreDisks count (⟦<MemShelf as Shelf>⟧.state shelf) }
+    requires disks { AreDisks count (⟦<MemShelf as Shelf>⟧.state shelf) }
+    requires time { now < 2 ^ 48 }
 {
     let mut list = Vec::new(alloc);
     for word in words {
@@ -127,7 +129,7 @@ fn run_drawing<T: Threads + Wait + Sync + Abort>(
         out,
         shelf,
         &mut ids,
-        0,
+        now,
         &OpenGate,
     ))
 }

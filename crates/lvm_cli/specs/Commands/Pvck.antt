@@ -15,13 +15,15 @@ pvck pv = record {
   flushes = changes (command.Pvck pv);
   looks = AtNothing;
   scan = λ context image unread scanned. scanned ≡ Finds None;
-  refusal = λ context found. unknown_pv context pv;
+  takes = λ context found given. given ≡ [];
+  refusal = λ context found given. unknown_pv context pv;
   repairs = λ found. [];
   stuck = λ found. None;
-  batches = λ context found. [];
-  keeps = λ context found base image. ⊥;
+  zeros = λ context found given. [];
+  batches = λ context found given. [];
+  keeps = λ context found given base image. ⊥;
   reads = λ context image spans. (areas : List Extent) × AreAreasOf (image (number_in context pv)) (size_in context pv) areas
       × (spans ≡ label_span (number_in context pv) ∷ area_spans (number_in context pv) areas);
-  finds = λ context found image. ⊥;
+  finds = λ context found given image. ⊥;
   reports = λ context found image text. IsReport (image (number_in context pv)) (size_in context pv) text;
 }

@@ -50,6 +50,9 @@ creation_time = 0
 /// How many sectors its disk has.
 pub(super) const DISK_SECTORS: usize = 131_072;
 
+/// How many bytes the metadata area of a new physical volume has.
+pub(super) const AREA_BYTES: u64 = 1_044_480;
+
 /// Backs the group up.
 const BACKUP: [&str; 4] = ["-d", "a", "vgcfgbackup", "vg0"];
 
@@ -67,22 +70,24 @@ pub(super) fn disk_with<T: Threads + Wait + Sync + Abort>(
     let images = shelf.images_at(shelf.moments(), &Vec::new(alloc))?;
     assert!(rt; images.len() == 1);
     let mut disk = images.get(0).try_copy(alloc)?;
-    commit_text(rt, alloc, &mut disk, text)?;
+    commit_text(rt, alloc, &mut disk, text, AREA_BYTES)?;
     assert!(rt; disk.len() == DISK_SECTORS);
     Ok(disk)
 }
 
-// Commits the text, with a zero byte behind it, to the metadata area of the disk, from the first sector of its ring on.
+// Commits the text, with a zero byte behind it, to the metadata area of so many bytes on the disk, from the first sector of its
+// ring on.
 pub(super) fn commit_text(
     rt: &impl Abort,
     alloc: Global,
     disk: &mut Sectors,
     text: &[u8],
+    bytes: u64,
 ) -> Result<(), Fail> {
     let mut stored = Vec::from_slice(alloc, text)?;
     stored.push(0)?;
     let mut area = Bytes512::zeroed();
-    write_mda(&header_of(&stored), &mut area);
+    write_mda(&header_of(&stored, bytes), &mut area);
     let place = Place {
         offset: 512,
         sectors: (stored.len() as u64).div_ceil(512),
@@ -94,11 +99,11 @@ pub(super) fn commit_text(
     Ok(())
 }
 
-// The header of the area once these bytes are committed.
-fn header_of(stored: &[u8]) -> MdaHeader {
+// The header of the area of so many bytes once this is committed.
+fn header_of(stored: &[u8], bytes: u64) -> MdaHeader {
     MdaHeader {
         start: 4096,
-        size: 1_044_480,
+        size: bytes,
         committed: Some(Locn {
             offset: 512,
             size: stored.len() as u64,

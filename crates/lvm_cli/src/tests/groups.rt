@@ -93,7 +93,7 @@ pub(super) fn run_on_three<T: Threads + Wait + Sync + Abort>(
 {
     let mut all = vec![in alloc; "-d", "a", "-d", "b", "-d", "c"]?;
     all.extend_from_slice(words)?;
-    Ok(run_drawing(rt, alloc, &[id, 0, 0, 0], &all, 3, shelf, out)?)
+    Ok(run_drawing(rt, alloc, &[id, 0, 0, 0], 0, &all, 3, shelf, out)?)
 }
 
 // The same, and checks what it prints and its status.

@@ -2,20 +2,23 @@
 ghost use Rattle.std.specs.Prelude.{IfOk};
 ghost use Rattle.lvm_cli.specs.Disks.{AreDisks};
 
-use super::backups::commit_text;
+use super::backups::{AREA_BYTES, commit_text};
 use super::groups::{
     PVCREATE_A, PVCREATE_B, PVCREATE_C, reopened, run_on_three, run_rows_on, shelf_of,
 };
 use dev_shelf::{MemShelf, Shelf};
 use lvm_script::MemSink;
+use pv_label::seal_label;
 use sector_base::{Bytes512, Sectors};
 use std::alloc::{AllocError, Global};
 use std::process::Abort;
 use std::sync::Wait;
 use std::test::Fail;
 use std::thread::Threads;
-use texts::{backup, changed, committed, data, safe, safe_a, safe_b, with_halves};
+use texts::{backup, changed, committed, data, safe, safe_a, safe_b, usual, with_halves};
 
+mod created;
+mod longer;
 mod refusals;
 mod shorter;
 mod stops;
@@ -23,6 +26,9 @@ mod texts;
 
 /// How many sectors each disk has: 32 extents of 8 sectors behind the first 2,048.
 const DISK_SECTORS: usize = 2_304;
+
+/// With what the id of a new volume begins, unlike those of the group's.
+const DRAWN: u64 = 6;
 
 /// What lvs prints of the group.
 const USUAL: &str = "safe             vg0              mirror           24
@@ -82,22 +88,51 @@ fn in_group<T: Threads + Wait + Sync + Abort>(rt: &T, alloc: Global) -> Result<M
     )
 }
 
-// The disks of the group, in whose areas this text is committed.
+// Commits the text to the only metadata area of the disk, which gets so many bytes.
+fn commit_resized(
+    rt: &impl Abort,
+    alloc: Global,
+    disk: &mut Sectors,
+    text: &str,
+    bytes: u64,
+) -> Result<(), Fail> {
+    assert!(rt; disk.len() == DISK_SECTORS);
+    let mut label = disk.get(1);
+    label.put(112, &bytes.to_le_bytes());
+    seal_label(&mut label, 1);
+    disk.set(1, label);
+    commit_text(rt, alloc, disk, text.as_bytes(), bytes)
+}
+
+// The disks of the group, in whose areas this text of it is committed.
 fn disks_with<T: Threads + Wait + Sync + Abort>(
     rt: &T,
     alloc: Global,
-    text: &str,
+    group: &str,
 ) -> Result<MemShelf, Fail>
     ensures { IfOk result (λ shelf. AreDisks 3 (⟦<MemShelf as Shelf>⟧.state shelf)) }
 {
+    disks_of(rt, alloc, group, AREA_BYTES)
+}
+
+// The same where the metadata areas have so many bytes.
+fn disks_of<T: Threads + Wait + Sync + Abort>(
+    rt: &T,
+    alloc: Global,
+    group: &str,
+    bytes: u64,
+) -> Result<MemShelf, Fail>
+    ensures { IfOk result (λ shelf. AreDisks 3 (⟦<MemShelf as Shelf>⟧.state shelf)) }
+{
+    let text = committed(alloc, group)?;
     let shelf = in_group(rt, alloc)?;
     let images = shelf.images_at(0, &Vec::new(alloc))?;
     assert!(rt; images.len() == 3);
     let mut a = images.get(0).try_copy(alloc)?;
     let mut b = images.get(1).try_copy(alloc)?;
     let c = images.get(2).try_copy(alloc)?;
-    commit_text(rt, alloc, &mut a, text.as_bytes())?;
-    commit_text(rt, alloc, &mut b, text.as_bytes())?;
+    commit_resized(rt, alloc, &mut a, text.as_str(), bytes)?;
+    commit_resized(rt, alloc, &mut b, text.as_str(), bytes)?;
     assert!(rt; a.len() == DISK_SECTORS && b.len() == DISK_SECTORS && c.len() == DISK_SECTORS);
     Ok(shelf_of(alloc, a, b, c, Vec::new(alloc))?)
 }
@@ -106,7 +141,20 @@ fn disks_with<T: Threads + Wait + Sync + Abort>(
 fn disks<T: Threads + Wait + Sync + Abort>(rt: &T, alloc: Global) -> Result<MemShelf, Fail>
     ensures { IfOk result (λ shelf. AreDisks 3 (⟦<MemShelf as Shelf>⟧.state shelf)) }
 {
-    disks_with(rt, alloc, committed(alloc)?.as_str())
+    let group = usual(alloc)?;
+    disks_with(rt, alloc, group.as_str())
+}
+
+// Runs these one after another on the disks of the group with this text, each on what the one before left.
+fn are_done<T: Threads + Wait + Sync + Abort>(
+    rt: &T,
+    alloc: Global,
+    group: &str,
+    rows: &[(&[&str], u64, &str, u8)],
+) -> Result<(), Fail> {
+    let shelf = disks_with(rt, alloc, group)?;
+    run_rows_on(rt, alloc, shelf, rows)?;
+    Ok(())
 }
 
 #[test]
@@ -291,19 +339,35 @@ data             vg0              linear           32
             0,
         ),
     ];
-    let shelf = disks_with(&rt, alloc, with_halves(alloc)?.as_str())?;
+    let group = with_halves(alloc)?;
+    let shelf = disks_with(&rt, alloc, group.as_str())?;
     run_rows_on(&rt, alloc, shelf, &rows)?;
     Ok(())
 }
 
-// Whether the sector stays as it is when a version is committed beside the text of the group: those before the area and behind
-// it, and those of the text, which has fewer than 3,072 bytes.
-fn stays(sector: usize) -> bool {
-    sector < 8 || (9..15).contains(&sector) || sector >= 2_048
+// Whether the sector stays as it is when a version is committed beside a text of so many sectors: those before the area and
+// behind it, and those of the text.
+fn stays(sector: usize, text: usize) -> bool {
+    sector < 8 || (sector >= 9 && sector - 9 < text) || sector >= 2_048
 }
 
-// Of the disks as they were at first and are at last, these sectors are the same, and on the last disk all.
-fn sectors_stay(rt: &impl Abort, alloc: Global, shelf: &MemShelf) -> Result<(), Fail> {
+// Whether it is one of the eight sectors from this one on, which is that of a disk.
+fn is_new_zero(zeroed: Option<(usize, usize)>, disk: usize, sector: usize) -> bool {
+    match zeroed {
+        Some((on, first)) => on == disk && sector >= first && sector - first < 8,
+        None => false,
+    }
+}
+
+// Of the disks as they were at first, with a text of so many sectors, and are at last, these sectors are the same, and on the
+// last disk all; but the eight from the one said here on are zeros, and weren't.
+fn sectors_stay(
+    rt: &impl Abort,
+    alloc: Global,
+    shelf: &MemShelf,
+    text: usize,
+    zeroed: Option<(usize, usize)>,
+) -> Result<(), Fail> {
     let old = shelf.images_at(0, &Vec::new(alloc))?;
     let new = shelf.images_at(shelf.moments(), &Vec::new(alloc))?;
     assert!(rt; old.len() == 3 && new.len() == 3);
@@ -311,7 +375,10 @@ fn sectors_stay(rt: &impl Abort, alloc: Global, shelf: &MemShelf) -> Result<(), 
         let (was, is) = (old.get(disk), new.get(disk));
         assert!(rt; was.len() == DISK_SECTORS && is.len() == DISK_SECTORS);
         for sector in 0..DISK_SECTORS {
-            if disk == 2 || stays(sector) {
+            if is_new_zero(zeroed, disk, sector) {
+                assert!(rt; was.get(sector) != Bytes512::zeroed(), "{disk}, {sector}");
+                assert_eq!(rt; is.get(sector), Bytes512::zeroed(), "{disk}, {sector}");
+            } else if disk == 2 || stays(sector, text) {
                 assert_eq!(rt; was.get(sector), is.get(sector), "{disk}, {sector}");
             }
         }
@@ -319,19 +386,35 @@ fn sectors_stay(rt: &impl Abort, alloc: Global, shelf: &MemShelf) -> Result<(), 
     Ok(())
 }
 
-// The command of these words is done on the disks of the group. A backup has its text, in which this is replaced, and no sector
-// is changed but those where its text is committed.
+// The command of these words is done on the disks of the group with this text. A backup has the text, in which this is replaced,
+// and no sector is changed but those where the next text is committed.
 fn changes_this<T: Threads + Wait + Sync + Abort>(
     rt: &T,
     alloc: Global,
+    group: &str,
     words: &[&str],
     backup_of: &str,
     changes: &[(&str, &str)],
 ) -> Result<(), Fail> {
+    changes_and_zeroes(rt, alloc, group, words, backup_of, changes, None)
+}
+
+// The same, but the eight sectors from the one said here on are zeros then.
+fn changes_and_zeroes<T: Threads + Wait + Sync + Abort>(
+    rt: &T,
+    alloc: Global,
+    group: &str,
+    words: &[&str],
+    backup_of: &str,
+    changes: &[(&str, &str)],
+    zeroed: Option<(usize, usize)>,
+) -> Result<(), Fail> {
+    let shelf = disks_with(rt, alloc, group)?;
     let mut out = MemSink::new(alloc, 100, Vec::new(alloc))?;
-    let ended = run_on_three(rt, alloc, disks(rt, alloc)?, words, 5, &mut out)?;
+    let ended = run_on_three(rt, alloc, shelf, words, DRAWN, &mut out)?;
     assert_eq!(rt; out.bytes(), b"1: ok\n".as_slice());
-    sectors_stay(rt, alloc, &ended.shelf)?;
+    let before = committed(alloc, group)?;
+    sectors_stay(rt, alloc, &ended.shelf, before.len().div_ceil(512), zeroed)?;
     let left = reopened(
         rt,
         alloc,
@@ -342,7 +425,7 @@ fn changes_this<T: Threads + Wait + Sync + Abort>(
     )?;
     let mut text = MemSink::new(alloc, 4_000, Vec::new(alloc))?;
     run_on_three(rt, alloc, left, &["vgcfgbackup", backup_of], 5, &mut text)?;
-    let wanted = changed(alloc, backup(alloc)?, changes)?;
+    let wanted = changed(alloc, backup(alloc, group)?, changes)?;
     assert_eq!(rt; text.bytes(), wanted.as_bytes());
     Ok(())
 }
@@ -351,9 +434,11 @@ fn changes_this<T: Threads + Wait + Sync + Abort>(
 fn nothing_else_is_changed(rt: HostRuntime) -> Result<(), Fail> {
     let alloc = rt.alloc();
     let next = ("seqno = 1\n", "seqno = 2\n");
+    let group = usual(alloc)?;
     changes_this(
         &rt,
         alloc,
+        group.as_str(),
         &["vgrename", "vg0", "vg1"],
         "vg1",
         &[next, ("vg0 {", "vg1 {")],
@@ -361,6 +446,7 @@ fn nothing_else_is_changed(rt: HostRuntime) -> Result<(), Fail> {
     changes_this(
         &rt,
         alloc,
+        group.as_str(),
         &["lvrename", "vg0", "data", "files"],
         "vg0",
         &[next, ("data {", "files {")],
@@ -368,6 +454,7 @@ fn nothing_else_is_changed(rt: HostRuntime) -> Result<(), Fail> {
     changes_this(
         &rt,
         alloc,
+        group.as_str(),
         &["lvremove", "vg0/data"],
         "vg0",
         &[next, (data(), "")],
@@ -375,6 +462,7 @@ fn nothing_else_is_changed(rt: HostRuntime) -> Result<(), Fail> {
     changes_this(
         &rt,
         alloc,
+        group.as_str(),
         &["lvremove", "vg0/safe"],
         "vg0",
         &[next, (safe(), ""), (safe_a(), ""), (safe_b(), "")],

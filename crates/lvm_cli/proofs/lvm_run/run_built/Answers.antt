@@ -20,4 +20,4 @@ returns-clause-promise g c =
     let s1 = g.S.Shelf.state c.run_reading-outcome.new.shelf in
     subst (λ (n : ℕ). KeepsPromise c.args.names.now c.args.now s0 (journal_by n s1.steps c.run_reading-outcome.result) (lines_by c.args.line c.run_reading-outcome.result) s1) (sym c.steps-begun.ensures)
     (kept_report c.args.names.now c.args.now c.args.line s0 s1 (told_of s0 (g.met.S.Shelf.lawful c.args.shelf.now)) (told_of s1 (g.met.S.Shelf.lawful c.run_reading-outcome.new.shelf))
-    (report_is c.args.line.command c.requires.built (sym c.changes.ensures ∙ c.if-changes.false)) c.run_reading-outcome.result c.run_reading-outcome.ensures.cause c.run_reading-outcome.ensures.told)
+    (report_is c.args.line.command c.requires.built (sym c.changes.ensures ∙ c.if-changes.false)) c.run_reading-outcome.ensures.given c.run_reading-outcome.result c.run_reading-outcome.ensures.cause c.run_reading-outcome.ensures.told)

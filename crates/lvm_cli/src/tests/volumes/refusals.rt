@@ -1,9 +1,11 @@
 //! What vgrename, lvrename and lvremove are refused for: each refusal, where also those stand that come after it, as far as they
 //! can. `NoArea` has no row, since a group is found in an area on one of its own disks.
+ghost use Rattle.lvm_cli.specs.Disks.{AreDisks};
+
 use super::super::groups::{run_on_three, run_rows};
-use super::disks_with;
-use super::texts::{changed, committed};
-use dev_shelf::Shelf;
+use super::texts::{changed, usual};
+use super::{DRAWN, disks_with};
+use dev_shelf::{MemShelf, Shelf};
 use lvm_script::MemSink;
 use std::alloc::Global;
 use std::process::Abort;
@@ -35,10 +37,23 @@ pub(super) fn is_refused<T: Threads + Wait + Sync + Abort>(
     words: &[&str],
     answer: &str,
 ) -> Result<(), Fail> {
-    let text = changed(alloc, committed(alloc)?, changes)?;
-    let shelf = disks_with(rt, alloc, text.as_str())?;
+    let group = changed(alloc, usual(alloc)?, changes)?;
+    let shelf = disks_with(rt, alloc, group.as_str())?;
+    is_refused_on(rt, alloc, shelf, words, answer)
+}
+
+// The same on these disks.
+pub(super) fn is_refused_on<T: Threads + Wait + Sync + Abort>(
+    rt: &T,
+    alloc: Global,
+    shelf: MemShelf,
+    words: &[&str],
+    answer: &str,
+) -> Result<(), Fail>
+    requires { AreDisks 3 (⟦<MemShelf as Shelf>⟧.state shelf) }
+{
     let mut out = MemSink::new(alloc, 100, Vec::new(alloc))?;
-    let ended = run_on_three(rt, alloc, shelf, words, 5, &mut out)?;
+    let ended = run_on_three(rt, alloc, shelf, words, DRAWN, &mut out)?;
     assert_eq!(rt; out.bytes(), answer.as_bytes());
     assert_eq!(rt; (ended.status, ended.shelf.steps()), (5, 20), "{answer}");
     Ok(())

@@ -1,7 +1,7 @@
 //! Commands on volumes that a crash stops, or an operation that fails: lvs shows what was before or what the command makes.
 use super::super::groups::stops::is_new;
 use super::super::groups::{reopened, run_on_three};
-use super::{FILES_FOR_DATA, USUAL, WITHOUT_SAFE, disks};
+use super::{DRAWN, FILES_FOR_DATA, USUAL, WITHOUT_SAFE, disks};
 use dev_shelf::{Fail as Failure, MemShelf, Shelf};
 use lvm_script::MemSink;
 use std::alloc::Global;
@@ -11,7 +11,7 @@ use std::test::Fail;
 use std::thread::Threads;
 
 /// Of the sectors that have two values, every second takes the new one: the headers of two areas differ.
-const MIXED: [u64; 2] = [0x5555, 0xaaaa];
+pub(super) const MIXED: [u64; 2] = [0x5555, 0xaaaa];
 
 /// Removes the mirror.
 const LVREMOVE: &[&str] = &["lvremove", "vg0/safe"];
@@ -28,7 +28,7 @@ pub(super) fn is_stopped<T: Threads + Wait + Sync + Abort>(
     lists: [&str; 2],
 ) -> Result<(), Fail> {
     let mut out = MemSink::new(alloc, 100, Vec::new(alloc))?;
-    let ended = run_on_three(rt, alloc, disks(rt, alloc)?, words, 5, &mut out)?;
+    let ended = run_on_three(rt, alloc, disks(rt, alloc)?, words, DRAWN, &mut out)?;
     assert_eq!(rt; (ended.status, ended.journal().len()), (0, 3));
     let begun = ended.journal()[0].moment;
     let took = ended.journal()[1].moment;
@@ -57,7 +57,7 @@ pub(super) fn is_failed<T: Threads + Wait + Sync + Abort>(
     lists: [&str; 2],
 ) -> Result<(), Fail> {
     let mut out = MemSink::new(alloc, 100, Vec::new(alloc))?;
-    let whole = run_on_three(rt, alloc, disks(rt, alloc)?, words, 5, &mut out)?.shelf;
+    let whole = run_on_three(rt, alloc, disks(rt, alloc)?, words, DRAWN, &mut out)?.shelf;
     let mut seen = [false; 2];
     // An operation is two steps.
     for tag in 0..whole.moments() / 2 {
@@ -74,7 +74,7 @@ pub(super) fn is_failed<T: Threads + Wait + Sync + Abort>(
 }
 
 // What the command of these words leaves, from where this run of it began, where one operation fails.
-fn failed_at<T: Threads + Wait + Sync + Abort>(
+pub(super) fn failed_at<T: Threads + Wait + Sync + Abort>(
     rt: &T,
     alloc: Global,
     whole: &MemShelf,
@@ -85,7 +85,7 @@ fn failed_at<T: Threads + Wait + Sync + Abort>(
     fails.push(failure)?;
     let shelf = reopened(rt, alloc, whole, 0, 0, fails)?;
     let mut out = MemSink::new(alloc, 100, Vec::new(alloc))?;
-    let ended = run_on_three(rt, alloc, shelf, words, 5, &mut out)?;
+    let ended = run_on_three(rt, alloc, shelf, words, DRAWN, &mut out)?;
     assert_eq!(rt; ended.status, 6);
     Ok(ended.shelf)
 }

@@ -3,7 +3,19 @@ use super::super::backups::TRAILER;
 use std::alloc::Global;
 use std::test::Fail;
 
-// The text up to its logical volumes.
+/// The group is changed for the first time.
+pub(super) const NEXT: (&str, &str) = ("seqno = 1\n", "seqno = 2\n");
+
+/// No number is left for its next version.
+pub(super) const LAST: (&str, &str) = ("seqno = 1\n", "seqno = 4294967295\n");
+
+/// Of the physical volumes the first isn't ALLOCATABLE any more, where this is done once.
+pub(super) const BARRED: (&str, &str) = (
+    "status = [\"ALLOCATABLE\"]\nflags = []\ndev_size",
+    "status = []\nflags = []\ndev_size",
+);
+
+// The text up to its last physical volume.
 fn head() -> &'static str {
     "vg0 {
 id = \"400000-0000-0000-0000-0000-0000-000000\"
@@ -34,7 +46,12 @@ dev_size = 2304
 pe_start = 2048
 pe_count = 32
 }
-pv2 {
+"
+}
+
+// The physical volume of the last disk.
+fn third() -> &'static str {
+    "pv2 {
 id = \"300000-0000-0000-0000-0000-0000-000000\"
 device = \"c\"
 status = [\"ALLOCATABLE\"]
@@ -43,8 +60,6 @@ dev_size = 2304
 pe_start = 2048
 pe_count = 32
 }
-}
-logical_volumes {
 "
 }
 
@@ -130,7 +145,7 @@ stripes = [\"pv1\", 2]
 }
 
 // A volume of 6 extents, in stripes over the three disks.
-fn wide() -> &'static str {
+pub(super) fn wide() -> &'static str {
     "wide {
 id = \"500000-0000-0000-0000-0000-0000-000004\"
 status = [\"READ\", \"WRITE\", \"VISIBLE\"]
@@ -245,8 +260,106 @@ stripes = [\"pv2\", 2]
 "
 }
 
+// A mirror of 2 extents, whose legs lie on the first two disks themselves.
+fn twin() -> &'static str {
+    "twin {
+id = \"500000-0000-0000-0000-0000-0000-00000b\"
+status = [\"READ\", \"WRITE\", \"VISIBLE\"]
+flags = []
+creation_time = 7
+creation_host = \"h\"
+segment_count = 1
+segment1 {
+start_extent = 0
+extent_count = 2
+type = \"mirror\"
+mirror_count = 2
+region_size = 8
+mirrors = [\"pv0\", 6, \"pv1\", 2]
+}
+}
+"
+}
+
+// A volume of 2 extents, in stripes over the first disk and the last.
+fn both() -> &'static str {
+    "both {
+id = \"500000-0000-0000-0000-0000-0000-00000c\"
+status = [\"READ\", \"WRITE\", \"VISIBLE\"]
+flags = []
+creation_time = 7
+creation_host = \"h\"
+segment_count = 1
+segment1 {
+start_extent = 0
+extent_count = 2
+type = \"striped\"
+stripe_count = 2
+stripe_size = 8
+stripes = [\"pv0\", 4, \"pv2\", 0]
+}
+}
+"
+}
+
+// A volume that leaves beside `data` and `both` the extents 8 and 9, and 12 to 14, of the first disk free, none of the second,
+// and 1 to 4, and 10, of the last.
+fn rest() -> &'static str {
+    "rest {
+id = \"500000-0000-0000-0000-0000-0000-00000d\"
+status = [\"READ\", \"WRITE\", \"VISIBLE\"]
+flags = []
+creation_time = 7
+creation_host = \"h\"
+segment_count = 6
+segment1 {
+start_extent = 0
+extent_count = 3
+type = \"striped\"
+stripe_count = 1
+stripes = [\"pv0\", 5]
+}
+segment2 {
+start_extent = 3
+extent_count = 2
+type = \"striped\"
+stripe_count = 1
+stripes = [\"pv0\", 10]
+}
+segment3 {
+start_extent = 5
+extent_count = 17
+type = \"striped\"
+stripe_count = 1
+stripes = [\"pv0\", 15]
+}
+segment4 {
+start_extent = 22
+extent_count = 32
+type = \"striped\"
+stripe_count = 1
+stripes = [\"pv1\", 0]
+}
+segment5 {
+start_extent = 54
+extent_count = 5
+type = \"striped\"
+stripe_count = 1
+stripes = [\"pv2\", 5]
+}
+segment6 {
+start_extent = 59
+extent_count = 21
+type = \"striped\"
+stripe_count = 1
+stripes = [\"pv2\", 11]
+}
+}
+"
+}
+
 // These parts, one behind the other.
-fn joined(alloc: Global, parts: &[&str]) -> Result<String, Fail> {
+pub(super) fn joined(alloc: Global, parts: &[&str]) -> Result<String, Fail> {
     let mut text = String::new(alloc);
     for part in parts {
         text.push_str(part)?;
@@ -254,39 +367,59 @@ fn joined(alloc: Global, parts: &[&str]) -> Result<String, Fail> {
     Ok(text)
 }
 
-// The text of the group, without what stands beside it.
-fn group(alloc: Global) -> Result<String, Fail> {
-    joined(
-        alloc,
-        &[
-            head(),
-            safe(),
-            safe_a(),
-            data(),
-            safe_b(),
-            wide(),
-            moving(),
-            pvmove0(),
-            "}\n}\n",
-        ],
-    )
+// The text of a group with these logical volumes, without what stands beside it.
+fn with_volumes(alloc: Global, volumes: &[&str]) -> Result<String, Fail> {
+    let mut text = joined(alloc, &[head(), third(), "}\nlogical_volumes {\n"])?;
+    for volume in volumes {
+        text.push_str(volume)?;
+    }
+    text.push_str("}\n}\n")?;
+    Ok(text)
 }
 
-// The text, as it is committed, of a group with the two halves and `data`.
+// The text of the group.
+pub(super) fn usual(alloc: Global) -> Result<String, Fail> {
+    let volumes = [
+        safe(),
+        safe_a(),
+        data(),
+        safe_b(),
+        wide(),
+        moving(),
+        pvmove0(),
+    ];
+    with_volumes(alloc, &volumes)
+}
+
+// The same without the last disk, at the group's end.
+pub(super) fn of_two(alloc: Global) -> Result<String, Fail> {
+    let changes = [BARRED, LAST, (third(), ""), (wide(), "")];
+    changed(alloc, usual(alloc)?, &changes)
+}
+
+// That of a group with the two halves and `data`.
 pub(super) fn with_halves(alloc: Global) -> Result<String, Fail> {
-    joined(alloc, &[head(), halves(), data(), "}\n}\n", TRAILER])
+    with_volumes(alloc, &[halves(), data()])
 }
 
-// The text as it is committed.
-pub(super) fn committed(alloc: Global) -> Result<String, Fail> {
-    let text = group(alloc)?;
-    joined(alloc, &[text.as_str(), TRAILER])
+// That of a group of which nothing is moving, with a volume of each kind.
+pub(super) fn of_each_kind(alloc: Global) -> Result<String, Fail> {
+    with_volumes(alloc, &[data(), wide(), twin()])
 }
 
-// The text of a backup.
-pub(super) fn backup(alloc: Global) -> Result<String, Fail> {
-    let text = group(alloc)?;
-    joined(alloc, &[TRAILER, text.as_str()])
+// That of a group with few free extents, in runs of different lengths.
+pub(super) fn nearly_full(alloc: Global) -> Result<String, Fail> {
+    with_volumes(alloc, &[data(), both(), rest()])
+}
+
+// The text of the group as it is committed.
+pub(super) fn committed(alloc: Global, group: &str) -> Result<String, Fail> {
+    joined(alloc, &[group, TRAILER])
+}
+
+// The text of the group as a backup has it.
+pub(super) fn backup(alloc: Global, group: &str) -> Result<String, Fail> {
+    joined(alloc, &[TRAILER, group])
 }
 
 // The text where the first of each pair is replaced by the second, where it stands first.
