@@ -59,6 +59,14 @@ class Loops:
             file.write("\n".join(settings))
         self.env = dict(os.environ, LVM_SYSTEM_DIR=self.folder, LVM_SUPPRESS_FD_WARNINGS="1", LC_ALL="C")
 
+    def images(self):
+        """What stands in the files, by their names."""
+        found = {}
+        for path in self.paths:
+            with open(path, "rb") as file:
+                found[os.path.basename(path)] = file.read()
+        return found
+
     def words(self, line):
         """The words of a command, in which a file's name behind a `:` stands for its device."""
         given = [self.device[it[1:]] if it.startswith(":") else it for it in line.split()]

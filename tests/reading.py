@@ -1,7 +1,12 @@
 """Reads the label, the metadata areas and their committed texts of an image."""
+import re
 import struct
 
 SECTOR = 512
+# A physical volume in a text.
+LISTED = re.compile(rb'\bpv\d+ *\{\s*id *= *"([^"]*)"')
+# A leg in a list of them.
+LEG = re.compile(r'"([^"]*)", (\d+)')
 
 
 def label_at(image):
@@ -42,3 +47,56 @@ def text(image, area):
 def texts(image):
     """The committed texts of its areas that aren't ignored."""
     return [it for it in (text(image, area) for area in areas(image)) if it is not None]
+
+
+def id_of(image):
+    """The id of the physical volume, b"" where there is none."""
+    at = label_at(image)
+    return b"" if at is None else bytes(image[at + 32:at + 64])
+
+
+def listed(images):
+    """Of these images by their names the names of those that the first text among them lists, in its order."""
+    names = {id_of(it): name for name, it in images.items()}
+    first = next((it for image in images.values() for it in texts(image) if it), b"")
+    return [names[it.replace(b"-", b"")] for it in LISTED.findall(first)]
+
+
+def tree(text):
+    """The sections of a text that has one item on each line, as a dictionary of what stands behind `=` and of sections."""
+    stack = [{}]
+    for line in text.splitlines():
+        name, _, value = line.partition(" = ")
+        if line == "}":
+            stack.pop()
+        elif line.endswith(" {"):
+            stack.append(stack[-1].setdefault(line[:-2], {}))
+        else:
+            stack[-1][name] = value
+    return stack[0]
+
+
+def places(backup, group, images):
+    """Where each volume of this group in a backup lies, by its id: for each of its extents, or of its rows of stripes, the kind of
+    its segment and for each leg the disk among these images and the extent there."""
+    top = tree(backup)[group]
+    names = {id_of(it).decode(): name for name, it in images.items()}
+    disks = {pv: names[it["id"].strip('"').replace("-", "")] for pv, it in top["physical_volumes"].items()}
+    return {it["id"].strip('"'): [row for number in range(int(it["segment_count"])) for row in rows(it[f"segment{number + 1}"], disks)]
+            for it in top.get("logical_volumes", {}).values()}
+
+
+def beginning(backup, group, volume, images):
+    """The disk of the first leg of this volume, and the extent there with which it begins."""
+    uuid = tree(backup)[group]["logical_volumes"][volume]["id"].strip('"')
+    _, legs = places(backup, group, images)[uuid][0]
+    return legs[0]
+
+
+def rows(segment, disks):
+    """The same of one segment, whose legs lie on these disks."""
+    is_mirror = segment["type"] == '"mirror"'
+    legs = LEG.findall(segment["mirrors" if is_mirror else "stripes"])
+    count = int(segment["extent_count"]) // (1 if is_mirror else len(legs))
+    kind = "mirror" if is_mirror else "striped" if len(legs) > 1 else "linear"
+    return [(kind, tuple((disks[pv], int(first) + at) for pv, first in legs)) for at in range(count)]
