@@ -26,23 +26,29 @@ pub fn reserve_all<S: Shelf>(batches: &[Batch], shelf: &mut S) -> Result<(), All
     shelf.reserve(ops, sectors)
 }
 
-/// Makes spare what these batches use up in turn, and more of them behind these.
+/// Makes spare what the batches of three lists use up in turn.
 ///
 /// # Errors
 ///
 /// `AllocError` where memory is wanting; then the shelf is as before.
-pub fn reserve_both<S: Shelf>(
+pub fn reserve_lists<S: Shelf>(
     first: &[Batch],
-    more: &[Batch],
+    second: &[Batch],
+    third: &[Batch],
     shelf: &mut S,
 ) -> Result<(), AllocError>
     ensures err { OnErr result (S.state shelf.new ≡ S.state shelf.old) }
-    ensures room { OnOk result (Reserves (S.state shelf.old) (sum_by ops_of first.now + sum_by ops_of more.now) (sum_by sectors_of first.now + sum_by sectors_of more.now) (S.state shelf.new)) }
+    ensures room { OnOk result (Reserves (S.state shelf.old) (sum_by ops_of first.now + sum_by ops_of second.now + sum_by ops_of third.now) (sum_by sectors_of first.now + sum_by sectors_of second.now + sum_by sectors_of third.now) (S.state shelf.new)) }
 {
     let (first_ops, first_sectors) = needed_by(first);
-    let (more_ops, more_sectors) = needed_by(more);
-    let ops = first_ops.saturating_add(more_ops);
-    let sectors = first_sectors.saturating_add(more_sectors);
+    let (second_ops, second_sectors) = needed_by(second);
+    let (third_ops, third_sectors) = needed_by(third);
+    let ops = first_ops
+        .saturating_add(second_ops)
+        .saturating_add(third_ops);
+    let sectors = first_sectors
+        .saturating_add(second_sectors)
+        .saturating_add(third_sectors);
     if ops == u64::MAX || sectors == u64::MAX {
         return Err(AllocError);
     }

@@ -26,6 +26,6 @@ mod writes;
 pub use alone::write_all;
 pub use batch::{Batch, BatchRefused};
 pub use batching::{BatchStep, Batching};
-pub use in_turn::{reserve_all, reserve_both, write_in_turn};
+pub use in_turn::{reserve_all, reserve_lists, write_in_turn};
 pub use laws::batch_laws;
 pub use writes::Writes;
