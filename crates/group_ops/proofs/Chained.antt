@@ -2,7 +2,7 @@
 use Rattle.std.proofs.Common.{◌≡◌, List, [], ◌∷◌, ◌++◌, Option, Some, None, Result, Ok, Err, refl, ap, ◌∙◌}
 use Rattle.std.specs.Option.{option_or}
 use Rattle.lvm_script.specs.declared.op_refusal.OpRefusal.{OpRefusal}
-use Rattle.group_ops.specs.Judging.{IsRefusedBy, first_refusal}
+use Rattle.group_ops.specs.Judging.{IsRefusedBy, Judges, first_refusal}
 use Rattle.group_ops.specs.Planning.{Plans}
 use Rattle.group_ops.specs.declared.refusal.PlanRefusal.{PlanRefusal}
 use Rattle.group_ops.specs.declared.refusal.PlanRefusal.TheVariants.{NoMemory, Refused}
@@ -40,6 +40,11 @@ none_both front back none none' = refusal-append front back ∙ ap (λ (o : Opti
 pub plans_back : (front back : List (Option OpRefusal)) (wanted : Change) (result : Result Change PlanRefusal) → first_refusal front ≡ None → Plans back wanted result → Plans (front ++ back) wanted result
 plans_back front back wanted (Ok change) none plans = (none_both front back none plans.0, plans.1)
 plans_back front back wanted (Err e) none plans = refused_back front back e none plans
+
+-- the rows of the second part are judged, where the first doesn't refuse
+pub judges_back : {A : Type 0} (front back : List (Option OpRefusal)) (result : Result A PlanRefusal) → first_refusal front ≡ None → Judges result (first_refusal back) → Judges result (first_refusal (front ++ back))
+judges_back front back (Ok x) none judges = none_both front back none judges
+judges_back front back (Err e) none judges = refused_back front back e none judges
 
 -- where none of both refuses, none of the second does
 pub front_passes : (front back : List (Option OpRefusal)) → first_refusal (front ++ back) ≡ None → first_refusal back ≡ None

@@ -41,7 +41,7 @@ abbrev disks : List Disk
 disks = whole 1 ∷ whole 2 ∷ (record { sectors = 65536; contents = Some (NoLabel NoneFound) }) ∷ []
 
 abbrev state : GroupState
-state = record { group = None; disks = disks; names = codes "a" ∷ codes "b" ∷ codes "c" ∷ []; areas = held_areas 0 disks; disk_of = [] }
+state = record { group = None; disks = disks; names = codes "a" ∷ codes "b" ∷ codes "c" ∷ []; areas = held_areas 0 disks; disk_of = []; backup = None }
 
 abbrev line : Command → Line
 line command = record { number = 1; id = Some (9 ∷ []); command = command }

@@ -27,3 +27,11 @@ pub mod Creating
 pub mod ZeroedExtents
 pub mod CreatedVolume
 pub mod SpaceRows
+pub mod Leaving
+pub mod PlacedAgain
+pub mod PlacedChanges
+pub mod NoClears
+pub mod CountedSegments
+pub mod SoundBackup
+pub mod Restoring
+pub mod GroupExamples

@@ -88,6 +88,7 @@ held lvs = record {
   names = codes "a" ∷ codes "c" ∷ codes "b" ∷ [];
   areas = (record { pv = 0; start = 4096; size = 1044480 }, None) ∷ (record { pv = 2; start = 4096; size = 1044480 }, None) ∷ [];
   disk_of = 0 ∷ 2 ∷ [];
+  backup = None;
 }
 
 -- ---- lvreduce: how many extents are kept

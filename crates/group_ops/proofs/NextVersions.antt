@@ -107,7 +107,7 @@ module _ (state : GroupState) (Holds : Change → Type 0) (none : Holds (no_chan
   reduce_holds name amount None = none
   reduce_holds name amount (Some group) = volume_holds (λ v. reduced_group name amount group v.1) (visible_named group name)
 
-  next_holds : (number : ℕ) (id : Option (List ℕ)) (command : Command) (now : ℕ) (given : List Part) → is_next command ≡ true → zeroes command ≡ false → Holds (change_of state (record { number = number; id = id; command = command }) now given)
+  pub next_holds : (number : ℕ) (id : Option (List ℕ)) (command : Command) (now : ℕ) (given : List Part) → is_next command ≡ true → zeroes command ≡ false → Holds (change_of state (record { number = number; id = id; command = command }) now given)
   next_holds number id (Vgrename vg new) now given is other = version_holds (λ g. renamed_group g new) state.group
   next_holds number id (Lvextend path growth pvs) now given is other = version_holds (longer_volume path.lv given) state.group
   next_holds number id (Lvreduce path amount) now given is other = reduce_holds path.lv amount state.group
@@ -308,4 +308,4 @@ extended_none state next = refl
 
 pub version_is : (state : GroupState) (zero : List Span) (next : Group) → record (change_with next state.disk_of (added_of state [])) { zero = zero } ≡ zeroing_change state zero next
 unfolding extended
-version_is state zero next = λ i. record { group = Some next; zero = zero; labels = []; taken = set.empty; disk_of = append_nil state.disk_of i }
+version_is state zero next = λ i. record { group = Some next; zero = zero; labels = []; taken = set.empty; cleared = set.empty; disk_of = append_nil state.disk_of i }

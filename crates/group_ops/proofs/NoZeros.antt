@@ -1,10 +1,11 @@
 -- The lines that zero no sector.
 use Rattle.std.proofs.Common.{◌≡◌, ℕ, false, List, [], Option, Some, None, Result, Ok, Err, refl, sym, subst}
 use Rattle.std.specs.Prelude.{IfOk}
+use Rattle.std.specs.Option.{option_map_or}
 use Rattle.std.proofs.lemmas.Bool.{true≢false}
 use Rattle.extent_alloc.specs.declared.part.Part.{Part}
 use Rattle.lvm_script.specs.declared.command.Command.{Command}
-use Rattle.lvm_script.specs.declared.command.Command.TheVariants.{Lvcreate, Lvextend, Lvreduce, Lvremove, Lvrename, Pvcreate, Vgcreate, Vgextend, Vgrename}
+use Rattle.lvm_script.specs.declared.command.Command.TheVariants.{Lvcreate, Lvextend, Lvreduce, Lvremove, Lvrename, Pvcreate, Vgcfgrestore, Vgcreate, Vgextend, Vgrename, Vgreduce, Vgremove}
 use Rattle.lvm_script.specs.declared.amount.Growth.{Growth}
 use Rattle.lvm_script.specs.declared.command.Path.{Path}
 use Rattle.lvm_script.specs.declared.line.Line.{Line}
@@ -13,8 +14,14 @@ use Rattle.meta_model.specs.declared.group.Group.{Group}
 use Rattle.vg_found.specs.declared.disk.Disk.{Disk}
 use Rattle.group_ops.proofs.NextVersions.{no_zero, zeroes}
 use Rattle.group_ops.specs.Allocating.{Asking}
+use Rattle.group_ops.specs.Committing.{no_change}
 use Rattle.group_ops.specs.Lvextend.{lvextend_asks, lvextend_change, lvextend_rows}
 use Rattle.group_ops.specs.Planning.{IsPlanned, Plans, PlansWith, change_of, extend_by, rows_of}
+use Rattle.group_ops.specs.Committing.{no_change}
+use Rattle.group_ops.proofs.Restoring.{restore_holds}
+use Rattle.group_ops.specs.Vgcfgrestore.{vgcfgrestore_change}
+use Rattle.group_ops.specs.Members.{pv_named}
+use Rattle.group_ops.specs.Vgreduce.{leaving_change, reduce_change}
 use Rattle.group_ops.specs.Zeroing.{AreWithin}
 use Rattle.group_ops.specs.declared.refusal.PlanRefusal.{PlanRefusal}
 use Rattle.group_ops.specs.declared.state.Change.{Change}
@@ -24,12 +31,26 @@ pub extend_none : (state : GroupState) (pvs : List (List ℕ)) (o : Option Group
 extend_none state pvs None = refl
 extend_none state pvs (Some group) = refl
 
+leaving_none : (state : GroupState) (group : Group) (o : Option ℕ) → (option_map_or (leaving_change state group) o (no_change state)).zero ≡ []
+leaving_none state group None = refl
+leaving_none state group (Some number) = refl
+
+pub leave_none : (state : GroupState) (name : List ℕ) (o : Option Group) → (option_map_or (reduce_change state name) o (no_change state)).zero ≡ []
+leave_none state name None = refl
+leave_none state name (Some group) = leaving_none state group (pv_named state name)
+
+pub restore_none : (state : GroupState) → (vgcfgrestore_change state).zero ≡ []
+restore_none state = restore_holds state (λ change. change.zero ≡ []) refl (λ disks next. refl)
+
 -- each command that can be planned, but lvcreate
 pub none_zeroed : (state : GroupState) (number : ℕ) (id : Option (List ℕ)) (command : Command) (now : ℕ) (given : List Part) → IsPlanned id command → zeroes command ≡ false → (change_of state (record { number = number; id = id; command = command }) now given).zero ≡ []
 none_zeroed state number id (Pvcreate pv copies) now given planned other = refl
 none_zeroed state number id (Vgcreate vg extent_size pvs) now given planned other = refl
 none_zeroed state number id (Vgextend vg pvs) now given planned other = extend_none state pvs state.group
+none_zeroed state number id (Vgreduce vg pv) now given planned other = leave_none state pv state.group
+none_zeroed state number id (Vgremove vg) now given planned other = refl
 none_zeroed state number id (Vgrename vg new) now given planned other = no_zero state number id (Vgrename vg new) now given refl refl
+none_zeroed state number id (Vgcfgrestore vg text) now given planned other = restore_none state
 none_zeroed state number id (Lvcreate new) now given planned other = absurd (true≢false other)
 none_zeroed state number id (Lvextend path growth pvs) now given planned other = no_zero state number id (Lvextend path growth pvs) now given refl refl
 none_zeroed state number id (Lvreduce path amount) now given planned other = no_zero state number id (Lvreduce path amount) now given refl refl

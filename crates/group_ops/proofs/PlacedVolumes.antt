@@ -1,7 +1,6 @@
 -- The physical volumes of the group that a line gives lie well on their disks, where those that it had do.
 use Rattle.std.proofs.Common.{◌≡◌, ◌≤◌, ◌<◌, ℕ, suc, ◌+◌, ◌-◌, ◌*◌, ◌/◌, Bool, true, false, ◌||◌, ◌&&◌, cond, ltb, List, [], ◌∷◌, ◌++◌, map, Option, Some, None, inl, inr, refl, sym, ap, subst, ◌∙◌, arith}
 use Rattle.std.specs.Prelude.{find, option_map, slice_get, unwrap_or}
-use Rattle.std.specs.Option.{option_map_or}
 use Rattle.std.specs.List.{AllByRecursion as Each, enumerate_from, list_any}
 use Rattle.std.proofs.Math.Nat.{div-mul-le_self}
 use Rattle.std.proofs.lemmas.Bool.{cases_order, ltb-true}
@@ -9,7 +8,6 @@ use Rattle.std.proofs.lemmas.Bool.Decides.{nat_tests}
 use Rattle.std.proofs.lemmas.List.Elements.{recursion_from_All}
 use Rattle.std.proofs.lemmas.List.Folds.{list_any-append}
 use Rattle.std.proofs.lemmas.Option.{same_Some}
-use Rattle.extent_alloc.specs.declared.part.Part.{Part}
 use Rattle.meta_model.specs.declared.group.Group.{Group}
 use Rattle.meta_model.specs.declared.lv.Lv.{Lv}
 use Rattle.meta_model.specs.declared.pv.Pv.{Pv}
@@ -21,29 +19,12 @@ use Rattle.scan_rules.specs.Decision.{Found as PvOf, Reading, first_misplaced, h
 use Rattle.scan_rules.specs.Found.{is_this_misplaced}
 use Rattle.vg_found.specs.declared.disk.Disk.{Disk}
 use Rattle.vg_found.specs.Disks.{area_shape, disk_shape, header_on, pv_shape, shapes}
-use Rattle.lvm_script.specs.declared.amount.Amount.{Amount}
-use Rattle.lvm_script.specs.declared.command.Command.{Command}
-use Rattle.lvm_script.specs.declared.command.Command.TheVariants.{Pvcreate, Pvmove, Pvck, Pvs, Vgcreate, Vgextend, Vgreduce, Vgremove, Vgrename, Vgcfgbackup, Vgcfgrestore, Vgck, Vgs, Lvcreate, Lvextend, Lvreduce, Lvremove, Lvrename, Lvs, Read, Fill, Write, List as ListVolumes, Wait, Resync}
-use Rattle.lvm_script.specs.declared.command.NewVolume.{NewVolume}
-use Rattle.group_edits.specs.LongerVolume.{longer_volume}
-use Rattle.group_edits.specs.RenamedGroup.{renamed_group}
-use Rattle.group_edits.specs.RenamedVolume.{renamed_volume}
-use Rattle.group_edits.specs.Removing.{without_volume}
-use Rattle.group_edits.specs.Visible.{visible_named}
 use Rattle.group_ops.proofs.AddedFacts.{IsFoundOn, all_found}
 use Rattle.group_ops.proofs.DataApart.{IsBesideData, data_beside}
 use Rattle.group_ops.proofs.Disks.{ids_apart}
 use Rattle.group_ops.specs.Added.{added_of, data_end, data_start, pv_of}
-use Rattle.group_ops.specs.Committing.{no_change, version_change}
-use Rattle.group_ops.specs.Lvcreate.{create_change}
-use Rattle.group_ops.specs.Lvreduce.{reduce_change, reduced_group}
-use Rattle.group_ops.specs.Lvremove.{remove_change}
-use Rattle.group_ops.specs.Laws.{ArePlaced, ChangeIsPlaced}
 use Rattle.group_ops.specs.NewGroup.{extended, free_number, names_in, pv_name, with_added}
-use Rattle.group_ops.specs.Planning.{change_of, extend_by}
 use Rattle.group_ops.specs.State.{IsState}
-use Rattle.group_ops.specs.Vgcreate.{empty_group}
-use Rattle.group_edits.specs.NextVersion.{next_version}
 use Rattle.group_ops.specs.declared.added.Added.{Added}
 use Rattle.group_ops.specs.declared.state.GroupState.{GroupState}
 
@@ -195,7 +176,7 @@ each_placed group number (reading ∷ more) none =
     let parts = split_found group number reading more (has_misplaced group reading) refl none in
     (parts.0, each_placed group (number + 1) more parts.1)
 
-none_misplaced : (group : Group) (number : ℕ) (readings : List Reading) → Each (IsPlacedOn group) readings → option_map (λ (d : ℕ × Reading). d.0) (find (λ (d : ℕ × Reading). has_misplaced group d.1) (enumerate_from number readings)) ≡ None
+pub none_misplaced : (group : Group) (number : ℕ) (readings : List Reading) → Each (IsPlacedOn group) readings → option_map (λ (d : ℕ × Reading). d.0) (find (λ (d : ℕ × Reading). has_misplaced group d.1) (enumerate_from number readings)) ≡ None
 none_misplaced group number [] placed = refl
 none_misplaced group number (reading ∷ more) placed =
     ap (λ (b : Bool). option_map (λ (d : ℕ × Reading). d.0) (cond b (Some (number, reading)) (find (λ (d : ℕ × Reading). has_misplaced group d.1) (enumerate_from (number + 1) more)))) placed.0
@@ -208,80 +189,3 @@ added_placed state is base names placed =
     none_misplaced (extended base all) 0 (shapes state.disks)
     (placed_from state is base all (recursion_from_All (IsFoundOn state) all (all_found state is names)) 0 state.disks
     (λ k disk at. subst (λ (n : ℕ). slice_get state.disks n ≡ Some disk) (omega arith) at) (each_placed base 0 (shapes state.disks) placed))
-
--- ---- the group of a change
-
-empty_on : (id name : List ℕ) (extent_size : ℕ) (pv : Option PvOf) → unwrap_or (option_map (λ (found : PvOf). false) pv) false ≡ false
-empty_on id name extent_size None = refl
-empty_on id name extent_size (Some found) = refl
-
-empty_placed : (id name : List ℕ) (extent_size : ℕ) (readings : List Reading) → Each (IsPlacedOn (empty_group id name extent_size)) readings
-empty_placed id name extent_size [] = tt
-empty_placed id name extent_size (reading ∷ more) = (empty_on id name extent_size reading.pv, empty_placed id name extent_size more)
-
-extend_placed : (state : GroupState) → IsState state → (group : Option Group) (names : List (List ℕ)) → ArePlaced state.disks group → ArePlaced state.disks (extend_by state group names).group
-extend_placed state is None names placed = tt
-extend_placed state is (Some group) names placed = added_placed state is (next_version group) names placed
-
--- a change that leaves the physical volumes as they are
-version_placed : (state : GroupState) (next : Group → Group) → ((g : Group) → ArePlaced state.disks (Some g) → ArePlaced state.disks (Some (next g))) → (group : Option Group) → ArePlaced state.disks group
-    → ArePlaced state.disks (option_map_or (λ (g : Group). version_change state (next g)) group (no_change state)).group
-version_placed state next keeps None placed = tt
-version_placed state next keeps (Some group) placed = keeps group placed
-
-without_placed : (state : GroupState) (group : Group) (volume : Option (ℕ × Lv)) → ArePlaced state.disks (Some group)
-    → ArePlaced state.disks (option_map_or (λ (v : ℕ × Lv). version_change state (without_volume group v.0)) volume (no_change state)).group
-without_placed state group None placed = tt
-without_placed state group (Some volume) placed = placed
-
-remove_placed : (state : GroupState) (name : List ℕ) (group : Option Group) → ArePlaced state.disks group → ArePlaced state.disks (option_map_or (remove_change state name) group (no_change state)).group
-remove_placed state name None placed = tt
-remove_placed state name (Some group) placed = without_placed state group (visible_named group name) placed
-
-shortened_placed : (state : GroupState) (name : List ℕ) (amount : Amount) (group : Group) (volume : Option (ℕ × Lv)) → ArePlaced state.disks (Some group)
-    → ArePlaced state.disks (option_map_or (λ (v : ℕ × Lv). version_change state (reduced_group name amount group v.1)) volume (no_change state)).group
-shortened_placed state name amount group None placed = tt
-shortened_placed state name amount group (Some volume) placed = placed
-
-reduce_placed : (state : GroupState) (name : List ℕ) (amount : Amount) (group : Option Group) → ArePlaced state.disks group → ArePlaced state.disks (option_map_or (reduce_change state name amount) group (no_change state)).group
-reduce_placed state name amount None placed = tt
-reduce_placed state name amount (Some group) placed = shortened_placed state name amount group (visible_named group name) placed
-
-create_placed : (state : GroupState) (id : List ℕ) (new : NewVolume) (now : ℕ) (given : List Part) (group : Option Group) → ArePlaced state.disks group
-    → ArePlaced state.disks (option_map_or (λ (g : Group). create_change state id new now g given) group (no_change state)).group
-create_placed state id new now given None placed = tt
-create_placed state id new now given (Some group) placed = placed
-
-change_by : (state : GroupState) → IsState state → (number : ℕ) (id : Option (List ℕ)) (command : Command) (now : ℕ) (given : List Part) → ArePlaced state.disks state.group
-    → ArePlaced state.disks (change_of state (record { number = number; id = id; command = command }) now given).group
-change_by state is number id (Pvcreate pv copies) now given placed = tt
-change_by state is number id (Vgcreate vg extent_size pvs) now given placed =
-    added_placed state is (empty_group (unwrap_or id []) vg extent_size) pvs
-    (none_misplaced (empty_group (unwrap_or id []) vg extent_size) 0 (shapes state.disks) (empty_placed (unwrap_or id []) vg extent_size (shapes state.disks)))
-change_by state is number id (Vgextend vg pvs) now given placed = extend_placed state is state.group pvs placed
-change_by state is number id (Pvmove a) now given placed = tt
-change_by state is number id (Pvck a) now given placed = tt
-change_by state is number id Pvs now given placed = tt
-change_by state is number id (Vgreduce a b) now given placed = tt
-change_by state is number id (Vgremove a) now given placed = tt
-change_by state is number id (Vgrename vg new) now given placed = version_placed state (λ g. renamed_group g new) (λ g placed. placed) state.group placed
-change_by state is number id (Vgcfgbackup a) now given placed = tt
-change_by state is number id (Vgcfgrestore a b) now given placed = tt
-change_by state is number id Vgck now given placed = tt
-change_by state is number id Vgs now given placed = tt
-change_by state is number id (Lvcreate new) now given placed = create_placed state (unwrap_or id []) new now given state.group placed
-change_by state is number id (Lvextend path growth pvs) now given placed = version_placed state (longer_volume path.lv given) (λ g placed. placed) state.group placed
-change_by state is number id (Lvreduce path amount) now given placed = reduce_placed state path.lv amount state.group placed
-change_by state is number id (Lvremove path) now given placed = remove_placed state path.lv state.group placed
-change_by state is number id (Lvrename vg old new) now given placed = version_placed state (renamed_volume old new) (λ g placed. placed) state.group placed
-change_by state is number id Lvs now given placed = tt
-change_by state is number id (Read a b c) now given placed = tt
-change_by state is number id (Fill a b c d) now given placed = tt
-change_by state is number id (Write a b c) now given placed = tt
-change_by state is number id ListVolumes now given placed = tt
-change_by state is number id Wait now given placed = tt
-change_by state is number id (Resync a) now given placed = tt
-
--- where those of the group lie well, those of the change's group do
-pub change_is_placed : ChangeIsPlaced
-change_is_placed state line now given is placed = change_by state is line.number line.id line.command now given placed

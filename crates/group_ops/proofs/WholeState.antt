@@ -36,7 +36,7 @@ there_by found None listed missing none = tt
 there_by found (Some group) listed missing none = subst (All (λ n. n < length found.disks)) (sym listed) (all_there found.disks group (sym missing ∙ none))
 
 pub whole_is_state : WholeIsState
-whole_is_state found names shape whole count named = record {
+whole_is_state found names backup shape whole count named = record {
   few = shape.few;
   disks = λ pv disk is. (shape.disks pv disk is).0;
   differ = shape.differ;

@@ -32,19 +32,27 @@ no_area_row state = area_row state.areas state.disk_of
 abbrev pub seqno_row : Group → Option OpRefusal
 seqno_row group = refused_if (group.seqno == 4294967295) SeqnoEnd
 
--- the first area on the group's disks that can't take the text of this version
+-- the first area on these disks that can't take the text of this version
+abbrev pub length_row_on : GroupState → List ℕ → Group → ℕ → Option OpRefusal
+length_row_on state disks next now = large_row state.areas disks (stored_size next now)
+
+-- the same on the group's disks
 abbrev pub length_row : GroupState → Group → ℕ → Option OpRefusal
-length_row state next now = large_row state.areas state.disk_of (stored_size next now)
+length_row state next now = length_row_on state state.disk_of next now
 
 -- ---- changes
 
 -- nothing changes
 abbrev pub no_change : GroupState → Change
-no_change state = record { group = None; zero = []; labels = []; taken = set.empty; disk_of = state.disk_of }
+no_change state = record { group = None; zero = []; labels = []; taken = set.empty; cleared = set.empty; disk_of = state.disk_of }
 
--- this version is committed to the disks of the group in force, and no label changes
+-- this version is committed to these disks, and no label changes
+abbrev pub version_change_on : List ℕ → Group → Change
+version_change_on disks next = record { group = Some next; zero = []; labels = []; taken = set.empty; cleared = set.empty; disk_of = disks }
+
+-- the same, to the disks of the group in force
 abbrev pub version_change : GroupState → Group → Change
-version_change state next = record { group = Some next; zero = []; labels = []; taken = set.empty; disk_of = state.disk_of }
+version_change state next = version_change_on state.disk_of next
 
 -- so it is, and these sectors are to hold zeros before
 abbrev pub zeroing_change : GroupState → List Span → Group → Change

@@ -10,25 +10,27 @@ use Rattle.vg_found.specs.Disks.{shapes}
 use Rattle.vg_found.specs.Shape.{HasShape}
 use Rattle.vg_found.specs.Whole.{IsWhole}
 use Rattle.vg_found.specs.declared.found.Found.{Found}
-use Rattle.group_ops.specs.Planning.{change_of}
+use Rattle.group_ops.specs.Planning.{change_of, refusal_of}
 use Rattle.group_ops.specs.State.{IsState}
+use Rattle.group_ops.specs.declared.backup.Backup.{Backup}
 use Rattle.group_ops.specs.declared.state.GroupState.{GroupState}
 
--- what was found, with names for the disks
-abbrev pub state_in : Found → List (List ℕ) → GroupState
-state_in found names = record { group = found.group; disks = found.disks; names = names; areas = found.areas; disk_of = found.disk_of }
+-- what was found, with names for the disks, and what the text of the line gives, if it has one to restore a group from
+abbrev pub state_in : Found → List (List ℕ) → Option Backup → GroupState
+state_in found names backup = record { group = found.group; disks = found.disks; names = names; areas = found.areas; disk_of = found.disk_of; backup = backup }
 
 -- where it is whole, and each disk has a name, lines may be judged against it
 abbrev pub WholeIsState : Type 0
 WholeIsState =
-    (found : Found) (names : List (List ℕ)) → HasShape found → IsWhole found → length names ≡ length found.disks → All (λ name. is_disk_name name ≡ true) names → IsState (state_in found names)
+    (found : Found) (names : List (List ℕ)) (backup : Option Backup) → HasShape found → IsWhole found → length names ≡ length found.disks → All (λ name. is_disk_name name ≡ true) names → IsState (state_in found names backup)
 
 -- the extents of each physical volume of the group, where there is one, lie in its disk, and meet neither sectors 0 to 7 nor
 -- a metadata area
 abbrev pub ArePlaced : List Disk → Option Group → Type 0
 ArePlaced disks group = IfSome group (λ g. first_misplaced g (shapes disks) ≡ None)
 
--- where the physical volumes of the group in force are placed so, those of the group that a line gives are
+-- where the physical volumes of the group in force are placed so, those of the group that a line gives are, where nothing
+-- refuses it
 abbrev pub ChangeIsPlaced : Type 0
 ChangeIsPlaced =
-    (state : GroupState) (line : Line) (now : ℕ) (given : List Part) → IsState state → ArePlaced state.disks state.group → ArePlaced state.disks (change_of state line now given).group
+    (state : GroupState) (line : Line) (now : ℕ) (given : List Part) → IsState state → refusal_of state line now given ≡ None → ArePlaced state.disks state.group → ArePlaced state.disks (change_of state line now given).group

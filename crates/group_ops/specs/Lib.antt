@@ -1,9 +1,12 @@
 pub mod Added
 pub mod Allocating
+pub mod Backup
+pub mod Cleared
 pub mod Committing
 pub mod Ids
 pub mod Judging
 pub mod Laws
+pub mod Limits
 pub mod Lvcreate
 pub mod Lvextend
 pub mod Lvreduce
@@ -15,8 +18,11 @@ pub mod Planning
 pub mod Pvcreate
 pub mod Sizes
 pub mod State
+pub mod Vgcfgrestore
 pub mod Vgcreate
 pub mod Vgextend
+pub mod Vgreduce
+pub mod Vgremove
 pub mod Vgrename
 pub mod Volumes
 pub mod Zeroing

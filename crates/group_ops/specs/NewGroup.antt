@@ -1,6 +1,7 @@
 -- The group that a line gives, and what stands beside it in the change.
 use Rattle.std.specs.Prelude.{ℕ, ◌+◌, Bool, not, List, [], ◌∷◌, ◌++◌, length, map, find, codes, decimal, unwrap_or, Option, Some}
 use Rattle.std.specs.List.{range_with_len}
+use Rattle.std.specs.FinSet as set
 use Rattle.lvm_name.specs.Names.{is_among}
 use Rattle.meta_model.specs.declared.group.Group.{Group}
 use Rattle.meta_model.specs.declared.lv.Lv.{Lv}
@@ -45,4 +46,4 @@ text_row state base listed all now = large_row state.areas (listed ++ disks_adde
 -- the change that makes it one with these: it is committed, their labels say that they are used, and their disks follow
 -- those that were listed
 abbrev pub change_with : Group → List ℕ → List Added → Change
-change_with base listed all = record { group = Some (extended base all); zero = []; labels = map label_of all; taken = set_of (disks_added all); disk_of = listed ++ disks_added all }
+change_with base listed all = record { group = Some (extended base all); zero = []; labels = map label_of all; taken = set_of (disks_added all); cleared = set.empty; disk_of = listed ++ disks_added all }

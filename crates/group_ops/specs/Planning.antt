@@ -4,11 +4,12 @@ use Rattle.extent_alloc.specs.declared.part.Part.{Part}
 use Rattle.lvm_id.specs.LvmId.{IsId}
 use Rattle.lvm_name.specs.Names.{group_name_refusal, volume_name_refusal}
 use Rattle.lvm_script.specs.declared.command.Command.{Command}
-use Rattle.lvm_script.specs.declared.command.Command.TheVariants.{Lvcreate, Lvextend, Lvreduce, Lvremove, Lvrename, Pvcreate, Vgcreate, Vgextend, Vgrename}
+use Rattle.lvm_script.specs.declared.command.Command.TheVariants.{Lvcreate, Lvextend, Lvreduce, Lvremove, Lvrename, Pvcreate, Vgcfgrestore, Vgcreate, Vgextend, Vgrename, Vgreduce, Vgremove}
 use Rattle.lvm_script.specs.declared.line.Line.{Line}
 use Rattle.lvm_script.specs.declared.op_refusal.OpRefusal.{OpRefusal}
 use Rattle.meta_model.specs.declared.group.Group.{Group}
 use Rattle.group_ops.specs.Allocating.{Asking, Takes}
+use Rattle.group_ops.specs.Backup.{IsBackup}
 use Rattle.group_ops.specs.Committing.{no_change}
 use Rattle.group_ops.specs.Judging.{IsRefusedBy, first_refusal}
 use Rattle.group_ops.specs.Lvcreate.{IsNewVolume, lvcreate_asks, lvcreate_change, lvcreate_rows}
@@ -18,9 +19,13 @@ use Rattle.group_ops.specs.Lvremove.{lvremove_change, lvremove_rows}
 use Rattle.group_ops.specs.Lvrename.{lvrename_change, lvrename_rows}
 use Rattle.group_ops.specs.Pvcreate.{pvcreate_change, pvcreate_rows}
 use Rattle.group_ops.specs.Sizes.{IsAmount, IsGrowth}
+use Rattle.group_ops.specs.Vgcfgrestore.{vgcfgrestore_change, vgcfgrestore_rows}
 use Rattle.group_ops.specs.Vgcreate.{empty_group, vgcreate_change, vgcreate_rows}
 use Rattle.group_ops.specs.Vgextend.{vgextend_change, vgextend_rows}
+use Rattle.group_ops.specs.Vgreduce.{vgreduce_change, vgreduce_rows}
+use Rattle.group_ops.specs.Vgremove.{vgremove_change, vgremove_rows}
 use Rattle.group_ops.specs.Vgrename.{vgrename_change, vgrename_rows}
+use Rattle.group_ops.specs.declared.backup.Backup.{Backup}
 use Rattle.group_ops.specs.declared.refusal.PlanRefusal.{PlanRefusal}
 use Rattle.group_ops.specs.declared.refusal.PlanRefusal.TheVariants.{NoMemory}
 use Rattle.group_ops.specs.declared.state.Change.{Change}
@@ -37,13 +42,21 @@ IsPlanned id (Pvcreate pv copies) = IsSomeAnd id IsId
 IsPlanned id (Vgcreate vg extent_size pvs) =
     IsSomeAnd id IsId × (group_name_refusal vg ≡ None) × (8 ≤ extent_size) × (extent_size ≤ 2 ^ 31) × (extent_size % 8 ≡ 0)
 IsPlanned id (Vgextend vg pvs) = Unit {0}
+IsPlanned id (Vgreduce vg pv) = Unit {0}
+IsPlanned id (Vgremove vg) = Unit {0}
 IsPlanned id (Vgrename vg new) = group_name_refusal new ≡ None
+IsPlanned id (Vgcfgrestore vg text) = Unit {0}
 IsPlanned id (Lvcreate new) = IsSomeAnd id IsId × IsNewVolume new
 IsPlanned id (Lvextend path growth pvs) = IsGrowth growth
 IsPlanned id (Lvreduce path amount) = IsAmount amount
 IsPlanned id (Lvremove path) = Unit {0}
 IsPlanned id (Lvrename vg old new) = volume_name_refusal new ≡ None
 IsPlanned id _ = ⊥
+
+-- what is known of the text of a line, where a group is restored from it, is what that gives
+abbrev pub IsBackupOf : Command → Option Backup → Type 0
+IsBackupOf (Vgcfgrestore vg text) backup = IsSomeAnd backup (IsBackup text)
+IsBackupOf _ backup = Unit {0}
 
 -- what a line asks of the allocator, where it takes extents
 abbrev pub asks_of : GroupState → Line → Option Asking
@@ -62,7 +75,10 @@ rows_of state line now given = by line.command
     by (Pvcreate pv copies) = pvcreate_rows state (drawn line) pv
     by (Vgcreate vg extent_size pvs) = vgcreate_rows state (empty_group (drawn line) vg extent_size) pvs now
     by (Vgextend vg pvs) = vgextend_rows state vg pvs now
+    by (Vgreduce vg pv) = vgreduce_rows state vg pv now
+    by (Vgremove vg) = vgremove_rows state vg
     by (Vgrename vg new) = vgrename_rows state vg new now
+    by (Vgcfgrestore vg text) = vgcfgrestore_rows state vg now
     by (Lvcreate new) = lvcreate_rows state (drawn line) new now given
     by (Lvextend path growth pvs) = lvextend_rows state path growth pvs now given
     by (Lvreduce path amount) = lvreduce_rows state path amount now
@@ -87,7 +103,10 @@ change_of state line now given = by line.command
     by (Pvcreate pv copies) = pvcreate_change state (drawn line) pv copies
     by (Vgcreate vg extent_size pvs) = vgcreate_change state (empty_group (drawn line) vg extent_size) pvs
     by (Vgextend vg pvs) = extend_by state state.group pvs
+    by (Vgreduce vg pv) = vgreduce_change state pv
+    by (Vgremove vg) = vgremove_change state
     by (Vgrename vg new) = vgrename_change state new
+    by (Vgcfgrestore vg text) = vgcfgrestore_change state
     by (Lvcreate new) = lvcreate_change state (drawn line) new now given
     by (Lvextend path growth pvs) = lvextend_change state path.lv given
     by (Lvreduce path amount) = lvreduce_change state path.lv amount

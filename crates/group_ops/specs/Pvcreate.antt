@@ -85,4 +85,4 @@ new_labels state id name copies =
 
 -- the group stays, and one label is written
 abbrev pub pvcreate_change : GroupState → List ℕ → List ℕ → ℕ → Change
-pvcreate_change state id name copies = record { group = None; zero = []; labels = new_labels state id name copies; taken = set.empty; disk_of = state.disk_of }
+pvcreate_change state id name copies = record { group = None; zero = []; labels = new_labels state id name copies; taken = set.empty; cleared = set.empty; disk_of = state.disk_of }

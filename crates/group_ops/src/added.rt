@@ -1,5 +1,5 @@
 //! The physical volumes that a line adds to a group.
-ghost use Rattle.std.specs.Prelude.{◌≡◌, ◌≤◌, ◌^◌, IfOk, MatchResult, None};
+ghost use Rattle.std.specs.Prelude.{◌≡◌, ◌≤◌, ◌^◌, [], ◌∷◌, IfOk, MatchResult, None};
 ghost use Rattle.group_ops.specs.Added.{IsAdded, added_named, added_of, added_on, data_end, data_start, pv_of};
 ghost use Rattle.group_ops.specs.Judging.{IsRefusedBy, Judges, is_small, need_of, unknown_row};
 ghost use Rattle.group_ops.specs.State.{IsState};
@@ -123,6 +123,27 @@ pub(crate) fn judge_known(
     ensures { Judges result (unknown_row state.now names.now) }
 {
     let _all = find_all_added(alloc, state, names)?;
+    Ok(())
+}
+
+/// This name is that of a disk that holds a physical volume.
+///
+/// # Errors
+///
+/// Else `UnknownPv`; `NoMemory` where memory is wanting.
+#[tactic(auto, unfolding(crate::specs::Judging::unknown_row))]
+pub(crate) fn judge_one_known(
+    alloc: Global,
+    state: &GroupState,
+    name: &Text,
+) -> Result<(), PlanRefusal>
+    requires { IsState state.now }
+    ensures { Judges result (unknown_row state.now (name.now ∷ [])) }
+{
+    if find_added(alloc, state, name)?.is_none() {
+        let name = copied_text(alloc, name)?;
+        return Err(PlanRefusal::Refused(OpRefusal::UnknownPv(name)));
+    }
     Ok(())
 }
 

@@ -4,7 +4,7 @@ ghost use Rattle.lvm_script.specs.declared.op_refusal.OpRefusal.TheVariants.{Not
 ghost use Rattle.mda_ring.specs.Areas.{CanTake};
 ghost use Rattle.scan_rules.specs.Decision.{same_bytes};
 ghost use Rattle.group_ops.specs.Judging.{IsRefusedBy, Judges, first_refusal, refused_if};
-ghost use Rattle.group_ops.specs.Committing.{length_row, named_rows, seqno_row, version_change, zeroing_change};
+ghost use Rattle.group_ops.specs.Committing.{length_row, length_row_on, named_rows, seqno_row, version_change, version_change_on, zeroing_change};
 ghost use Rattle.group_ops.specs.Planning.{Plans};
 
 use crate::copied::{copied_disks, copied_text};
@@ -13,12 +13,12 @@ use crate::new_group::text_size;
 use crate::{Change, GroupState, Labels, PlanRefusal, Spans};
 use lvm_script::OpRefusal;
 use meta_model::Group;
-use sector_base::{PvSet, Text};
+use sector_base::{PvDisks, PvSet, Text};
 use std::alloc::Global;
 use vg_check::Checked;
 
-// The last number of a version.
-const LAST_SEQNO: u64 = 4_294_967_295;
+/// The last number of a version.
+pub(crate) const LAST_SEQNO: u64 = 4_294_967_295;
 
 /// No group was found that has this name: `UnknownGroup`, or `NoMemory`.
 pub(crate) fn unknown_group(alloc: Global, vg: &Text) -> PlanRefusal
@@ -121,7 +121,8 @@ pub(crate) fn commit_version(
     requires areas { All CanTake state.now.areas }
     ensures { Plans (length_row state.now next now ∷ []) (version_change state.now next) result }
 {
-    commit_zeroed(alloc, state, next, Spans::from_vec(Vec::new(alloc)), now)
+    let disk_of = copied_disks(alloc, &state.disk_of)?;
+    commit_version_on(alloc, state, disk_of, next, now)
 }
 
 /// The same where these sectors are to hold zeros before.
@@ -140,13 +141,35 @@ pub(crate) fn commit_zeroed(
     requires areas { All CanTake state.now.areas }
     ensures { Plans (length_row state.now next now ∷ []) (zeroing_change state.now zero next) result }
 {
+    let mut change = commit_version(alloc, state, next, now)?;
+    change.zero = zero;
+    Ok(change)
+}
+
+/// The change that commits this version of the group at this time, to these disks.
+///
+/// # Errors
+///
+/// `TooLarge` for the first area on them that can't take its text.
+pub(crate) fn commit_version_on(
+    alloc: Global,
+    state: &GroupState,
+    disk_of: PvDisks,
+    next: Checked,
+    now: u64,
+) -> Result<Change, PlanRefusal>
+    requires disks { All (λ number. number < 64) disk_of }
+    requires areas { All CanTake state.now.areas }
+    ensures { Plans (length_row_on state.now disk_of next now ∷ []) (version_change_on disk_of next) result }
+{
     let size = text_size(&next, now);
-    judge_text(state.areas.as_slice(), state.disk_of.as_slice(), size)?;
+    judge_text(state.areas.as_slice(), disk_of.as_slice(), size)?;
     Ok(Change {
         group: Some(next),
-        zero,
+        zero: Spans::from_vec(Vec::new(alloc)),
         labels: Labels::from_vec(Vec::new(alloc)),
         taken: PvSet::new(),
-        disk_of: copied_disks(alloc, &state.disk_of)?,
+        cleared: PvSet::new(),
+        disk_of,
     })
 }

@@ -40,8 +40,8 @@ fn has_lv_id(group: &Group, id: &LvmId) -> bool
     false
 }
 
-// Whether a physical volume of the group has it.
-fn has_pv_id(group: &Group, id: &LvmId) -> bool
+/// Whether a physical volume of the group has it.
+pub(crate) fn has_pv_id(group: &Group, id: &LvmId) -> bool
     ensures { result ≡ has_pv_id group.now id.now }
 {
     for number in 0..group.pvs.len() {

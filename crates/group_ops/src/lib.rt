@@ -7,11 +7,13 @@
 
 mod added;
 mod allocating;
+mod backup;
 mod committing;
 mod copied;
 mod ids;
 mod judging;
 mod laws;
+mod limits;
 mod lvcreate;
 mod lvextend;
 mod lvreduce;
@@ -20,21 +22,29 @@ mod lvrename;
 mod members;
 mod naming;
 mod new_group;
+mod other_group;
 mod planning;
 mod pvcreate;
 mod refusal;
+mod shape;
 mod sizes;
 mod state;
+mod vgcfgrestore;
 mod vgcreate;
 mod vgextend;
+mod vgreduce;
+mod vgremove;
 mod vgrename;
 mod volumes;
 
 pub use added::{Added, copied_header};
+pub use backup::{Backup, read_backup};
 pub use laws::{change_is_placed, whole_is_state};
 pub use planning::plan;
 pub use refusal::PlanRefusal;
 pub use state::{Change, GroupState, Labels, NewLabel, Spans};
+pub use vgreduce::plan_vgreduce;
+pub use vgremove::plan_vgremove;
 
 #[cfg(test)]
 mod tests;

@@ -50,13 +50,13 @@ pub(crate) fn pvs_named(state: &GroupState, names: &[Text]) -> PvSet
     all
 }
 
-// The number of the one on the disk with this name, where the group lists one there.
+/// The number of the one on the disk with this name, where the group lists one there.
 #[tactic(auto, unfolding(crate::specs::Members::pv_named))]
-fn pv_named(state: &GroupState, name: &Text) -> Option<u32>
+pub(crate) fn pv_named(state: &GroupState, name: &Text) -> Option<u32>
     requires state { IsState state.now }
     requires few { length state.now.disk_of ≤ 64 }
     ensures number { result ≡ specs.pv_named state.now name.now }
-    ensures below { IfSome result (λ number. number < 64) }
+    ensures within { IfSome result (λ number. number < length state.now.disk_of) }
 {
     match state.names.number_of(name.as_bytes()) {
         Some(disk) => number_on(state.disk_of.as_slice(), disk),
@@ -68,7 +68,7 @@ fn pv_named(state: &GroupState, name: &Text) -> Option<u32>
 fn number_on(disk_of: &[u32], disk: u32) -> Option<u32>
     requires { length disk_of.now ≤ 64 }
     ensures number { result ≡ specs.number_on disk_of.now disk }
-    ensures below { IfSome result (λ number. number < 64) }
+    ensures within { IfSome result (λ number. number < length disk_of.now) }
 {
     let number = place_of(disk_of, disk)?;
     Some(number as u32)

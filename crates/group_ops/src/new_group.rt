@@ -14,7 +14,7 @@ use crate::{Added, Change, GroupState, Labels, NewLabel, PlanRefusal, Spans};
 use meta_model::{Group, LvTable, PushRefusal, PvTable};
 use meta_print::printed_len;
 use pv_header::PvHeader;
-use sector_base::{ItemList, PvDisks};
+use sector_base::{ItemList, PvDisks, PvSet};
 use std::alloc::{AllocError, Global};
 use vg_check::{Checked, check};
 
@@ -50,6 +50,7 @@ pub(crate) fn commit(
         zero: Spans::from_vec(Vec::new(alloc)),
         labels: labels_of(alloc, all)?,
         taken: set_of(taken.as_slice()),
+        cleared: PvSet::new(),
         disk_of,
     })
 }

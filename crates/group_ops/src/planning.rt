@@ -1,7 +1,7 @@
 //! Judging a line.
 ghost use Rattle.std.specs.Prelude.{◌≡◌, ◌<◌, ◌^◌, [], IfOk, IsSomeAnd, unwrap_or};
 ghost use Rattle.lvm_id.specs.LvmId.{IsId};
-ghost use Rattle.group_ops.specs.Planning.{IsPlanned, PlansWith, asks_of, change_of, rows_of};
+ghost use Rattle.group_ops.specs.Planning.{IsBackupOf, IsPlanned, PlansWith, asks_of, change_of, rows_of};
 ghost use Rattle.group_ops.specs.State.{IsState};
 ghost use Rattle.group_ops.specs.Zeroing.{AreWithin};
 
@@ -11,8 +11,11 @@ use crate::lvreduce::plan_lvreduce;
 use crate::lvremove::plan_lvremove;
 use crate::lvrename::plan_lvrename;
 use crate::pvcreate::plan_pvcreate;
+use crate::vgcfgrestore::plan_vgcfgrestore;
 use crate::vgcreate::plan_vgcreate;
 use crate::vgextend::plan_vgextend;
+use crate::vgreduce::plan_vgreduce;
+use crate::vgremove::plan_vgremove;
 use crate::vgrename::plan_vgrename;
 use crate::{Change, GroupState, PlanRefusal};
 use lvm_id::LvmId;
@@ -28,6 +31,7 @@ use std::alloc::Global;
 pub fn plan(alloc: Global, state: &GroupState, line: &Line, now: u64) -> Result<Change, PlanRefusal>
     requires state { IsState state.now }
     requires planned { IsPlanned line.now.id line.now.command }
+    requires backup { IsBackupOf line.now.command state.now.backup }
     requires time { now < 2 ^ 48 }
     ensures plans { PlansWith (asks_of state.now line.now) (rows_of state.now line.now now) (change_of state.now line.now now) result }
     ensures zeros { IfOk result (λ change. AreWithin state.now.disks change.zero) }
@@ -51,7 +55,10 @@ pub fn plan(alloc: Global, state: &GroupState, line: &Line, now: u64) -> Result<
             now,
         ),
         Command::Vgextend { vg, pvs } => plan_vgextend(alloc, state, vg, pvs.as_slice(), now),
+        Command::Vgreduce { vg, pv } => plan_vgreduce(alloc, state, vg, pv, now),
+        Command::Vgremove { vg } => plan_vgremove(alloc, state, vg),
         Command::Vgrename { vg, new } => plan_vgrename(alloc, state, vg, new, now),
+        Command::Vgcfgrestore { vg, .. } => plan_vgcfgrestore(alloc, state, vg, now),
         Command::Lvcreate(new) => plan_lvcreate(alloc, state, &drawn(line.id), new, now),
         Command::Lvextend { path, growth, pvs } => {
             plan_lvextend(alloc, state, path, *growth, pvs.as_slice(), now)

@@ -53,6 +53,7 @@ pub(crate) fn plan_pvcreate(
         zero: Spans::from_vec(Vec::new(alloc)),
         labels: new_labels(alloc, id, copies, number, disk)?,
         taken: PvSet::new(),
+        cleared: PvSet::new(),
         disk_of: copied_disks(alloc, &state.disk_of)?,
     })
 }

@@ -1,4 +1,5 @@
 //! What a line is judged against, and what it changes.
+use crate::Backup;
 use lvm_script::DiskNames;
 use mda_ring::Areas;
 use pv_header::PvHeader;
@@ -19,6 +20,8 @@ pub struct GroupState {
     pub areas: Areas,
     /// The disk of each physical volume of the group.
     pub disk_of: PvDisks,
+    /// What the text of the line gives, where a group is to be restored from it.
+    pub backup: Option<Backup>,
 }
 
 /// A label sector that is to be written: its disk, its number there, and the header that follows the label in it.
@@ -46,6 +49,9 @@ pub struct Change {
     pub labels: Labels,
     /// The disks that join the group.
     pub taken: PvSet,
+    /// The disks that leave it: once the group is committed, where one is, their labels lose the mark that the physical volume
+    /// is in use, and then their metadata areas are emptied.
+    pub cleared: PvSet,
     /// The disk of each physical volume of the group after it.
     pub disk_of: PvDisks,
 }

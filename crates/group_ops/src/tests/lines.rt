@@ -1,5 +1,6 @@
 //! Lines, and how they are answered.
-ghost use Rattle.std.specs.Prelude.{◌≡◌, ◌≤◌, ◌%◌, ◌^◌, IfOk};
+ghost use Rattle.std.specs.Prelude.{◌≡◌, ◌≤◌, ◌%◌, ◌^◌, IfOk, IsSomeAnd};
+ghost use Rattle.group_ops.specs.Backup.{IsBackup};
 ghost use Rattle.group_ops.specs.State.{IsState};
 
 use super::disks::id;
@@ -67,6 +68,23 @@ pub(super) fn vgcreate(
             extent_size,
             pvs,
         },
+    };
+    plan(alloc, state, &line, 0)
+}
+
+pub(super) fn vgcfgrestore(
+    alloc: Global,
+    state: &GroupState,
+    vg: Text,
+    text: Text,
+) -> Result<Change, PlanRefusal>
+    requires state { IsState state.now }
+    requires backup { IsSomeAnd state.now.backup (IsBackup text) }
+{
+    let line = Line {
+        number: 1,
+        id: None,
+        command: Command::Vgcfgrestore { vg, text },
     };
     plan(alloc, state, &line, 0)
 }

@@ -9,7 +9,7 @@ use std::test::Fail;
 #[test]
 fn pvcreate_writes_one_label(rt: HostRuntime) -> Result<(), Fail> {
     let alloc = rt.alloc();
-    let state = without_group(&rt, alloc, Entry::Nothing, 2_056)?;
+    let state = without_group(&rt, alloc, Entry::Nothing, 2_056, None)?;
     let change = pvcreate(&rt, alloc, &state, "c", NEW)
         .ok()
         .expect(&rt, "a change");
@@ -33,7 +33,7 @@ fn pvcreate_writes_one_label(rt: HostRuntime) -> Result<(), Fail> {
 #[test]
 fn pvcreate_refuses(rt: HostRuntime) -> Result<(), Fail> {
     let alloc = rt.alloc();
-    let bare = without_group(&rt, alloc, Entry::Nothing, 2_055)?;
+    let bare = without_group(&rt, alloc, Entry::Nothing, 2_055, None)?;
     match refusal(&rt, pvcreate(&rt, alloc, &bare, "d", NEW)) {
         OpRefusal::UnknownPv(name) => assert_eq!(rt; name.as_bytes(), b"d".as_slice()),
         _ => panic!(rt; "another refusal"),

@@ -1,10 +1,10 @@
 //! States of the three disks without a group.
-ghost use Rattle.std.specs.Prelude.{◌≤◌, ◌^◌, IfOk};
+ghost use Rattle.std.specs.Prelude.{◌≡◌, ◌≤◌, ◌^◌, IfOk};
 ghost use Rattle.disk_contents.specs.Standing.{LiesInside};
 ghost use Rattle.group_ops.specs.State.{IsState};
 
 use super::disks::{FIRST, SECOND, disk_names, id, whole_disk};
-use crate::GroupState;
+use crate::{Backup, GroupState};
 use disk_contents::PvFound;
 use mda_header::Entry;
 use pv_header::PvRefusal;
@@ -13,16 +13,19 @@ use std::alloc::{AllocError, Global};
 use std::process::Abort;
 use vg_found::{Disk, DiskTable, held_areas};
 
-// The state of two whole disks, with this in their areas, and one of so many sectors with a label in sector 3 alone.
+// The state of two whole disks, with this in their areas, and one of so many sectors with a label in sector 3 alone; and this of a
+// text.
 pub(super) fn without_group(
     rt: &impl Abort,
     alloc: Global,
     entry: Entry,
     sectors: u64,
+    backup: Option<Backup>,
 ) -> Result<GroupState, AllocError>
     requires inside { LiesInside 1044480 entry }
     requires sectors { (8 ≤ sectors) × (sectors ≤ 2 ^ 40) }
-    ensures { IfOk result IsState }
+    ensures state { IfOk result IsState }
+    ensures backup { IfOk result (λ state. state.backup ≡ backup) }
 {
     let first = id(rt, FIRST);
     let second = id(rt, SECOND);
@@ -44,5 +47,6 @@ pub(super) fn without_group(
         names,
         areas,
         disk_of: PvDisks::from_vec(Vec::new(alloc)),
+        backup,
     })
 }

@@ -9,7 +9,7 @@ use std::test::Fail;
 #[test]
 fn vgcreate_makes_a_group(rt: HostRuntime) -> Result<(), Fail> {
     let alloc = rt.alloc();
-    let state = without_group(&rt, alloc, Entry::Nothing, 2_056)?;
+    let state = without_group(&rt, alloc, Entry::Nothing, 2_056, None)?;
     let change = vgcreate(&rt, alloc, &state, NEW, 8_192, &["b", "a"])
         .ok()
         .expect(&rt, "a change");
@@ -39,7 +39,7 @@ fn vgcreate_makes_a_group(rt: HostRuntime) -> Result<(), Fail> {
 #[test]
 fn vgcreate_refuses(rt: HostRuntime) -> Result<(), Fail> {
     let alloc = rt.alloc();
-    let state = without_group(&rt, alloc, Entry::Nothing, 2_056)?;
+    let state = without_group(&rt, alloc, Entry::Nothing, 2_056, None)?;
     match refusal(
         &rt,
         vgcreate(&rt, alloc, &state, NEW, 8_192, &["a", "a", "c"]),
@@ -65,12 +65,12 @@ fn vgcreate_refuses(rt: HostRuntime) -> Result<(), Fail> {
 #[test]
 fn vgcreate_wants_room(rt: HostRuntime) -> Result<(), Fail> {
     let alloc = rt.alloc();
-    let full = without_group(&rt, alloc, LONG, 2_056)?;
+    let full = without_group(&rt, alloc, LONG, 2_056, None)?;
     match refusal(&rt, vgcreate(&rt, alloc, &full, NEW, 8_192, &["a", "b"])) {
         OpRefusal::TooLarge(2, 1) => {}
         _ => panic!(rt; "another refusal"),
     }
-    let ignored = without_group(&rt, alloc, Entry::Ignored, 2_056)?;
+    let ignored = without_group(&rt, alloc, Entry::Ignored, 2_056, None)?;
     match refusal(&rt, vgcreate(&rt, alloc, &ignored, NEW, 65_536, &["a"])) {
         OpRefusal::NoArea => {}
         _ => panic!(rt; "another refusal"),

@@ -1,9 +1,9 @@
 use Rattle.std.proofs.Common.{ℕ, List, [], None, refl, sym, subst}
 use Rattle.lvm_script.specs.declared.command.Command.{Command}
-use Rattle.lvm_script.specs.declared.command.Command.TheVariants.{Lvreduce, Lvremove, Lvrename, Vgextend, Vgrename}
+use Rattle.lvm_script.specs.declared.command.Command.TheVariants.{Lvreduce, Lvremove, Lvrename, Vgcfgrestore, Vgextend, Vgrename, Vgreduce}
 use Rattle.lvm_script.specs.declared.line.Line.{Line}
 use Rattle.group_ops.proofs.NextVersions.{no_zero}
-use Rattle.group_ops.proofs.NoZeros.{extend_none, extends_without_zeros, without_zeros}
+use Rattle.group_ops.proofs.NoZeros.{extend_none, extends_without_zeros, restore_none, without_zeros, leave_none}
 use Rattle.group_ops.specs.Lvcreate.{lvcreate_asks, lvcreate_change, lvcreate_rows}
 use Rattle.group_ops.specs.Lvextend.{lvextend_asks, lvextend_change, lvextend_rows}
 use Rattle.group_ops.specs.Planning.{PlansWith, asks_of, change_of, rows_of}
@@ -33,6 +33,10 @@ pub returns-in-Vgrename-clause-zeros : goal.returns-in-Vgrename-clause-zeros
 returns-in-Vgrename-clause-zeros c =
     without_zeros c.args.state.now (Vgrename c.in-Vgrename.vg c.in-Vgrename.new) c.args.now c.plan_vgrename.result (no_zero c.args.state.now 0 None (Vgrename c.in-Vgrename.vg c.in-Vgrename.new) c.args.now [] refl refl) c.plan_vgrename.ensures
 
+pub returns-in-Vgcfgrestore-clause-zeros : goal.returns-in-Vgcfgrestore-clause-zeros
+returns-in-Vgcfgrestore-clause-zeros c =
+    without_zeros c.args.state.now (Vgcfgrestore c.in-Vgcfgrestore.vg []) c.args.now c.plan_vgcfgrestore.result (restore_none c.args.state.now) c.plan_vgcfgrestore.ensures
+
 pub returns-in-Lvreduce-clause-zeros : goal.returns-in-Lvreduce-clause-zeros
 returns-in-Lvreduce-clause-zeros c =
     without_zeros c.args.state.now (Lvreduce c.in-Lvreduce.path c.in-Lvreduce.amount) c.args.now c.plan_lvreduce.result (no_zero c.args.state.now 0 None (Lvreduce c.in-Lvreduce.path c.in-Lvreduce.amount) c.args.now [] refl refl) c.plan_lvreduce.ensures
@@ -48,6 +52,10 @@ returns-in-Lvrename-clause-zeros c =
 pub returns-in-Vgextend-clause-zeros : goal.returns-in-Vgextend-clause-zeros
 returns-in-Vgextend-clause-zeros c =
     without_zeros c.args.state.now (Vgextend c.in-Vgextend.vg c.as_slice-in-Vgextend.result.now) c.args.now c.plan_vgextend.result (extend_none c.args.state.now c.as_slice-in-Vgextend.result.now c.args.state.now.group) c.plan_vgextend.ensures
+
+pub returns-in-Vgreduce-clause-zeros : goal.returns-in-Vgreduce-clause-zeros
+returns-in-Vgreduce-clause-zeros c =
+    without_zeros c.args.state.now (Vgreduce c.in-Vgreduce.vg c.in-Vgreduce.pv) c.args.now c.plan_vgreduce.result (leave_none c.args.state.now c.in-Vgreduce.pv c.args.state.now.group) c.plan_vgreduce.ensures
 
 pub returns-in-Lvextend-clause-zeros : goal.returns-in-Lvextend-clause-zeros
 returns-in-Lvextend-clause-zeros c =
