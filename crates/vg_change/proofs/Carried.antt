@@ -1,16 +1,17 @@
 -- Each exit of a line that is carried out.
-use Rattle.std.proofs.Common.{◌≡◌, ◌<◌, ℕ, Bool, true, false, List, [], Option, Some, None, refl, sym, ap, subst, ◌∙◌}
-use Rattle.std.specs.Prelude.{Result, Ok, Err}
-use Rattle.disk_batch.specs.InTurn.{Put}
+use Rattle.std.proofs.Common.{◌≡◌, ◌<◌, ℕ, Bool, true, false, List, [], Option, Some, None, inl, inr, refl, sym, ap, subst, ◌∙◌}
+use Rattle.std.specs.Prelude.{All, MatchResult, Result, Ok, Err, is_ok, is_some}
+use Rattle.disk_batch.specs.InTurn.{Put, WritesInTurn}
 use Rattle.disk_model.specs.Calls.{Reserves}
 use Rattle.disk_model.specs.Faults.{HasSameFaults}
 use Rattle.disk_model.specs.Since.{BetweenTold}
-use Rattle.disk_model.specs.State.{State}
+use Rattle.disk_model.specs.State.{IsLawful, State}
 use Rattle.disk_model.specs.Steps.{Told}
 use Rattle.extent_alloc.specs.declared.part.Part.{Part}
 use Rattle.lvm_script.specs.declared.line.Line.{Line}
 use Rattle.lvm_script.specs.declared.op_refusal.OpRefusal.{OpRefusal}
 use Rattle.group_ops.specs.Allocating.{Asking, Takes}
+use Rattle.group_ops.specs.Cleared.{unused_labels}
 use Rattle.group_ops.specs.Judging.{first_refusal}
 use Rattle.group_ops.specs.Planning.{IsPlanned, PlansWith, asks_of, change_of, refusal_of, rows_of}
 use Rattle.group_ops.specs.State.{IsState}
@@ -18,9 +19,10 @@ use Rattle.group_ops.specs.declared.refusal.PlanRefusal.{PlanRefusal}
 use Rattle.group_ops.specs.declared.refusal.PlanRefusal.TheVariants as plan
 use Rattle.group_ops.specs.declared.state.Change.{Change}
 use Rattle.group_ops.specs.declared.state.GroupState.{GroupState}
-use Rattle.vg_change.specs.Batches.{batches_of, change_batches, zero_batches, zeros_of}
-use Rattle.vg_change.specs.CarryingOut.{IsCarried, WritesBoth, fault_of, sizes_of}
-use Rattle.vg_change.specs.Sound.{CanMake, IsReadAgain, LiesOn}
+use Rattle.vg_change.specs.Batches.{batches_of, change_batches, clear_batches, clears_of, zero_batches, zeros_of}
+use Rattle.vg_change.specs.CarryingOut.{ClearsBehind, IsCarried, IsMade, IsUnclearedBy, KeepsImages, WritesBoth, clear_fault, fault_of, made_at, sizes_of}
+use Rattle.vg_change.specs.Sound.{CanMake, FitsFields, IsReadAgain, LiesOn}
+use Rattle.vg_change.specs.declared.fault.ChangeFault.{ChangeFault}
 use Rattle.vg_change.specs.declared.fault.ChangeFault.TheVariants.{NoMemory, Failed}
 use Rattle.vg_change.proofs.LineImages.{keeps_images}
 use Rattle.vg_change.proofs.Sound.{can_make, lies_on}
@@ -77,37 +79,86 @@ module _ (state : GroupState) (line : Line) (now : ℕ) where
     pub lies : LiesOn (sizes_of state.disks) state.areas change
     lies = subst (λ (c : Change). LiesOn (sizes_of state.disks) state.areas c) (sym passed.3) (lies_on state line now passed.0 is planned passed.1 passed.2)
 
-    module _ (again : IsReadAgain state.areas change now) (old mid new : State) (ops sectors : ℕ) (reserves : Reserves old ops sectors mid)
-        (zeros : List (List Put)) (zeros_are : zeros ≡ zero_batches change) (puts : List (List Put)) (writes : puts ≡ change_batches change state.areas now) where
+    module _ (again : IsReadAgain state.areas change now) (fields : All FitsFields (unused_labels change.cleared state.disks)) (old mid made_state new : State) (ops sectors : ℕ) (reserves : Reserves old ops sectors mid)
+        (zeros : List (List Put)) (zeros_are : zeros ≡ zero_batches change) (puts : List (List Put)) (writes : puts ≡ change_batches change state.areas now)
+        (clears : List (List Put)) (clears_are : clears ≡ clear_batches change.cleared state.disks state.areas) where
       same_zeros : zeros ≡ zeros_of state line now passed.0
       same_zeros = zeros_are ∙ ap zero_batches passed.3
 
       same_puts : puts ≡ batches_of state line now passed.0
       same_puts = writes ∙ ap (λ (c : Change). change_batches c state.areas now) passed.3
 
-      written : (well : Bool) → BetweenTold (WritesBoth zeros puts well) mid.told new.told → BetweenTold (WritesBoth (zeros_of state line now passed.0) (batches_of state line now passed.0) well) old.told new.told
-      written well told =
-          subst (λ (o : Option Told). BetweenTold (WritesBoth (zeros_of state line now passed.0) (batches_of state line now passed.0) well) o new.told) (ap (λ (s : State). s.told) reserves.same)
-          (subst (λ (l : List (List Put)). BetweenTold (WritesBoth l (batches_of state line now passed.0) well) mid.told new.told) same_zeros
-          (subst (λ (l : List (List Put)). BetweenTold (WritesBoth zeros l well) mid.told new.told) same_puts told))
+      same_clears : clears ≡ clears_of state line now passed.0
+      same_clears = clears_are ∙ ap (λ (c : Change). clear_batches c.cleared state.disks state.areas) passed.3
+
+      written : (well : Bool) (after : Option Told) → BetweenTold (WritesBoth zeros puts well) mid.told after → BetweenTold (WritesBoth (zeros_of state line now passed.0) (batches_of state line now passed.0) well) old.told after
+      written well after told =
+          subst (λ (o : Option Told). BetweenTold (WritesBoth (zeros_of state line now passed.0) (batches_of state line now passed.0) well) o after) (ap (λ (s : State). s.told) reserves.same)
+          (subst (λ (l : List (List Put)). BetweenTold (WritesBoth l (batches_of state line now passed.0) well) mid.told after) same_zeros
+          (subst (λ (l : List (List Put)). BetweenTold (WritesBoth zeros l well) mid.told after) same_puts told))
 
       faults_kept : HasSameFaults old mid
       faults_kept pv = ap (λ (s : State). s.faults pv) reserves.same
 
-      pub done : HasSameFaults mid new → BetweenTold (WritesBoth zeros puts true) mid.told new.told → IsCarried state line now old (Ok tt) new
-      done faults told = record {
-        given = passed.0;
-        takes = λ judged. passed.1;
-        cause = (λ pv. faults pv ∙ faults_kept pv, passed.2);
-        images = λ begun. keeps_images state line now passed.0 is planned passed.1 passed.2 change passed.3 again;
-        told = written true told;
-      }
+      images_kept : KeepsImages state line now passed.0
+      images_kept = keeps_images state line now passed.0 is planned passed.1 passed.2 change passed.3 again fields
 
+      -- an operation of its zeros or batches failed
       pub failed : (pv : ℕ) → mid.faults pv < new.faults pv → BetweenTold (WritesBoth zeros puts false) mid.told new.told → IsCarried state line now old (Err (Failed pv)) new
       failed pv risen told = record {
         given = passed.0;
         takes = λ judged. passed.1;
         cause = (passed.2, subst (λ (n : ℕ). n < new.faults pv) (faults_kept pv) risen);
-        images = λ begun. keeps_images state line now passed.0 is planned passed.1 passed.2 change passed.3 again;
-        told = written false told;
+        images = λ begun. images_kept;
+        told = inl (written false new.told told);
       }
+
+      -- all of these were carried out, and the disks cleared, as far as that came
+      module _ (lawful : IsLawful made_state) (faults : HasSameFaults mid made_state) (first : BetweenTold (WritesBoth zeros puts true) mid.told made_state.told) where
+        abbrev behind : (well : Bool) → BetweenTold (λ before after. WritesInTurn before clears well after) made_state.told new.told
+            → ClearsBehind (zeros_of state line now passed.0) (batches_of state line now passed.0) (clears_of state line now passed.0) well old new
+        behind well told = record {
+          made = made_state;
+          lawful = lawful;
+          first = written true made_state.told first;
+          behind = subst (λ (l : List (List Put)). BetweenTold (λ before after. WritesInTurn before l well after) made_state.told new.told) same_clears told;
+        }
+
+        commits_is : (commits : Bool) → commits ≡ is_some change.group → is_some (change_of state line now passed.0).group ≡ commits
+        commits_is commits same = sym (same ∙ ap (λ (c : Change). is_some c.group) passed.3)
+
+        faults_until : HasSameFaults old made_state
+        faults_until pv = faults pv ∙ faults_kept pv
+
+        done : (commits : Bool) → is_some (change_of state line now passed.0).group ≡ commits → (moment : ℕ) → IsMade commits made_state new moment → BetweenTold (λ before after. WritesInTurn before clears true after) made_state.told new.told
+            → IsCarried state line now old (Ok moment) new
+        done commits same moment made_then told = record {
+          given = passed.0;
+          takes = λ judged. passed.1;
+          cause = (λ pv. made_then.0 pv ∙ faults_until pv, passed.2);
+          images = λ begun. images_kept;
+          told = (behind true told, made_then.1 ∙ ap (λ (b : Bool). made_at b made_state.steps new.steps) (sym same));
+        }
+
+        uncleared : (commits : Bool) → is_some (change_of state line now passed.0).group ≡ commits → (pv : ℕ) → made_state.faults pv < new.faults pv → BetweenTold (λ before after. WritesInTurn before clears false after) made_state.told new.told
+            → IsCarried state line now old (Err (clear_fault commits pv made_state.steps)) new
+        uncleared true same pv risen told = record {
+          given = passed.0;
+          takes = λ judged. passed.1;
+          cause = (passed.2, subst (λ (n : ℕ). n < new.faults pv) (faults_until pv) risen);
+          images = λ begun. images_kept;
+          told = (behind false told, refl, same);
+        }
+        uncleared false same pv risen told = record {
+          given = passed.0;
+          takes = λ judged. passed.1;
+          cause = (passed.2, subst (λ (n : ℕ). n < new.faults pv) (faults_until pv) risen);
+          images = λ begun. images_kept;
+          told = inr (same, behind false told);
+        }
+
+        pub cleared : (commits : Bool) → commits ≡ is_some change.group → (result : Result ℕ ChangeFault) → MatchResult result (IsMade commits made_state new) (IsUnclearedBy commits made_state new)
+            → BetweenTold (λ before after. WritesInTurn before clears (is_ok result) after) made_state.told new.told → IsCarried state line now old result new
+        cleared commits same (Ok moment) made_then told = done commits (commits_is commits same) moment made_then told
+        cleared commits same (Err fault) why told =
+            subst (λ (f : ChangeFault). IsCarried state line now old (Err f) new) (sym why.2) (uncleared commits (commits_is commits same) why.0 why.1 told)

@@ -9,19 +9,18 @@ use Rattle.mda_header.specs.declared.entry.Entry.TheVariants.{Ignored, Nothing, 
 use Rattle.mda_header.specs.declared.header.Locn.{Locn}
 use Rattle.mda_ring.specs.declared.area.Area.{Area}
 use Rattle.disk_model.specs.Calls.{Reserves}
-use Rattle.disk_model.specs.Operations.{IsWithin}
 use Rattle.disk_model.specs.State.{State}
 use Rattle.disk_contents.specs.declared.contents.AreaFound.{AreaFound}
 use Rattle.disk_contents.specs.declared.contents.PvFound.{PvFound}
 use Rattle.disk_contents.specs.declared.contents.PvFound.TheVariants.{NoLabel, NoHeader, Whole}
 use Rattle.disk_contents.specs.Standing.{IsUsable, area_on}
-use Rattle.vg_commit.specs.Written.{area_span}
 use Rattle.vg_found.proofs.KeptLists.{all_kept}
 use Rattle.vg_found.specs.declared.disk.Disk.{Disk}
 use Rattle.vg_found.specs.Disks.{areas_on, held_area, held_areas, held_by}
 use Rattle.vg_found.specs.Shape.{ContentsCanStand, IsDisk}
 use Rattle.group_ops.specs.State.{IsState}
 use Rattle.group_ops.specs.declared.state.GroupState.{GroupState}
+use Rattle.vg_change.specs.Building.{LiesIn}
 use Rattle.vg_change.specs.CarryingOut.{sizes_of}
 
 -- ---- sizes
@@ -68,10 +67,6 @@ on_one pv sectors (Some (Whole label header areas)) stands =
     (λ found kept usable is. kept_ends pv sectors (area_on pv found.area) found.entry kept is (usable_ends pv sectors found usable)) areas stands.3
 
 -- ---- those of all disks
-
--- the area lies in its disk
-abbrev pub LiesIn : List ℕ → Area × Option Locn → Type 0
-LiesIn sizes area = IsWithin sizes (area_span area.0)
 
 lies_in : (sizes : List ℕ) (pv sectors : ℕ) (area : Area × Option Locn) → HasSize sizes pv sectors → EndsOn pv sectors area.0 → LiesIn sizes area
 lies_in sizes pv sectors area has ends =

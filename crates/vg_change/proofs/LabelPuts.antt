@@ -77,7 +77,7 @@ labels_there labels base differ k d within =
 -- ---- what the batch keeps
 
 -- some label, where a list has none
-no_label : NewLabel
+pub no_label : NewLabel
 no_label = record { disk = 0; sector = 0; header = record { id = []; device_bytes = 0; data_areas = []; areas = []; version = 0; flags = 0 } }
 
 -- sectors behind the first four

@@ -22,3 +22,9 @@ pub mod SoundPvcreate
 pub mod TextRoom
 pub mod ZeroBatch
 pub mod WrittenBoth
+pub mod ClearBatch
+pub mod UnusedLabels
+pub mod ClearedAreas
+pub mod ClearedImages
+pub mod ClearsAdded
+pub mod Filtered

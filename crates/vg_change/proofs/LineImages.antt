@@ -1,5 +1,6 @@
 -- What every image on the way of a line keeps, and what is found once it is done.
 use Rattle.std.proofs.Common.{◌≡◌, ◌<◌, ℕ, List, [], ◌++◌, length, map, take, get_or, Option, None, Some, refl, sym, subst}
+use Rattle.std.specs.Prelude.{All}
 use Rattle.disk_model.specs.Steps.{Image}
 use Rattle.disk_batch.specs.InTurn.{HasFirstBatches, Put, with_batches}
 use Rattle.extent_alloc.specs.declared.part.Part.{Part}
@@ -9,6 +10,7 @@ use Rattle.pv_label.specs.Label.{IsLabel}
 use Rattle.lvm_script.specs.declared.line.Line.{Line}
 use Rattle.group_ops.proofs.StateFacts.{areas_take}
 use Rattle.group_ops.specs.Allocating.{Takes}
+use Rattle.group_ops.specs.Cleared.{unused_labels}
 use Rattle.group_ops.specs.Planning.{IsPlanned, asks_of, change_of, refusal_of}
 use Rattle.group_ops.specs.State.{IsState}
 use Rattle.group_ops.specs.declared.state.Change.{Change}
@@ -17,7 +19,9 @@ use Rattle.group_ops.specs.declared.state.NewLabel.{NewLabel}
 use Rattle.vg_change.specs.Batches.{areas_of, batch_if, batches_of, commit_batches, label_put, new_area_puts}
 use Rattle.vg_change.specs.CarryingOut.{KeepsImages, sizes_of}
 use Rattle.vg_change.specs.Laws.{AreasAreKept, HasLabel, HoldsAfter, IsFoundAfter, ShowsEntries}
-use Rattle.vg_change.specs.Sound.{CanMake, IsReadAgain, LiesOn}
+use Rattle.vg_change.specs.Sound.{CanMake, FitsFields, IsReadAgain, LiesOn}
+use Rattle.vg_change.proofs.ClearedAreas.{state_scanned}
+use Rattle.vg_change.proofs.ClearedImages.{clears_images}
 use Rattle.vg_change.proofs.FarAreas.{areas_far}
 use Rattle.vg_change.proofs.KeptImages.{areas_shown, areas_unpublished, change_kept, labels_stand}
 use Rattle.vg_change.proofs.LabelsRead.{header_found, label_read}
@@ -70,8 +74,8 @@ batches_with state line now given g =
 
 -- all of it, of a line that no row refuses, whose change is written so that it is read again as it is
 pub keeps_images : (state : GroupState) (line : Line) (now : ℕ) (given : List Part) → IsState state → IsPlanned line.id line.command → Takes (asks_of state line) given → refusal_of state line now given ≡ None
-    → (made : Change) → made ≡ change_of state line now given → IsReadAgain state.areas made now → KeepsImages state line now given
-keeps_images state line now given is planned takes none made same again =
+    → (made : Change) → made ≡ change_of state line now given → IsReadAgain state.areas made now → All FitsFields (unused_labels made.cleared state.disks) → KeepsImages state line now given
+keeps_images state line now given is planned takes none made same again fields =
     let can : CanMake state.areas (change_of state line now given) now = can_make state line now given is planned takes none in
     let lies : LiesOn (sizes_of state.disks) state.areas (change_of state line now given) = lies_on state line now given is planned takes none in
     let read : IsReadAgain state.areas (change_of state line now given) now = subst (λ (c : Change). IsReadAgain state.areas c now) same again in
@@ -81,4 +85,7 @@ keeps_images state line now given is planned takes none made same again =
           areas_unpublished state.areas (areas_take state is) (areas_far state is) (change_of state line now given) can.labels lies.differ base names now (λ none'. new_near (change_of state line now given).labels (new_labels_are state line now given none')) can.commit read.commit group made'
           image n (subst (λ (g : Option Group). n < length (batches_with state line now given g)) made' less) (subst (λ (g : Option Group). HasFirstBatches (take n (batches_with state line now given g)) base image) made' h);
       found = λ base names. found_after state line now given (sizes_of state.disks) is planned can lies read base names;
+      clears =
+          clears_images state.disks state.areas (state_scanned state is) (change_of state line now given).cleared
+          (subst (λ (c : Change). All FitsFields (unused_labels c.cleared state.disks)) same fields);
     }

@@ -9,7 +9,7 @@ use Rattle.extent_alloc.specs.declared.part.Part.{Part}
 use Rattle.lvm_id.specs.LvmId.{IsId}
 use Rattle.lvm_script.specs.Options.{number_named}
 use Rattle.lvm_script.specs.declared.command.Command.{Command}
-use Rattle.lvm_script.specs.declared.command.Command.TheVariants.{Lvcreate, Lvextend, Lvreduce, Lvremove, Lvrename, Pvcreate, Vgcreate, Vgextend, Vgrename}
+use Rattle.lvm_script.specs.declared.command.Command.TheVariants.{Lvcreate, Lvextend, Lvreduce, Lvremove, Lvrename, Pvcreate, Vgcfgrestore, Vgcreate, Vgextend, Vgreduce, Vgremove, Vgrename}
 use Rattle.lvm_script.specs.declared.line.Line.{Line}
 use Rattle.disk_model.specs.Steps.{Image}
 use Rattle.disk_batch.specs.InTurn.{Put, with_batches, with_writes}
@@ -31,10 +31,15 @@ use Rattle.vg_found.specs.Disks.{header_on}
 use Rattle.vg_found.specs.Shape.{ContentsCanStand, IsDisk}
 use Rattle.group_ops.proofs.AddedFacts.{IsFoundOn, all_found}
 use Rattle.group_ops.proofs.NextVersions.{is_next, next_labels}
+use Rattle.group_ops.proofs.Restoring.{restore_holds}
+use Rattle.group_ops.specs.Vgcfgrestore.{vgcfgrestore_change}
 use Rattle.group_ops.specs.Added.{added_of, label_of}
+use Rattle.group_ops.specs.Committing.{no_change}
+use Rattle.group_ops.specs.Members.{pv_named}
 use Rattle.group_ops.specs.Planning.{IsPlanned, change_of, extend_by}
 use Rattle.group_ops.specs.Pvcreate.{label_sector, new_label}
 use Rattle.group_ops.specs.State.{IsState}
+use Rattle.group_ops.specs.Vgreduce.{leaving_change, reduce_change}
 use Rattle.group_ops.specs.declared.added.Added.{Added}
 use Rattle.group_ops.specs.declared.state.GroupState.{GroupState}
 use Rattle.group_ops.specs.declared.state.NewLabel.{NewLabel}
@@ -62,11 +67,24 @@ extend_new : (state : GroupState) (o : Option Group) (pvs : List (List ℕ)) →
 extend_new state None pvs none = inl refl
 extend_new state (Some group) pvs none = absurd cc
 
+leaving_labels : (state : GroupState) (group : Group) (o : Option ℕ) → (option_map_or (leaving_change state group) o (no_change state)).labels ≡ []
+leaving_labels state group None = refl
+leaving_labels state group (Some number) = refl
+
+leave_labels : (state : GroupState) (name : List ℕ) (o : Option Group) → (option_map_or (reduce_change state name) o (no_change state)).labels ≡ []
+leave_labels state name None = refl
+leave_labels state name (Some group) = leaving_labels state group (pv_named state name)
+
+restore_labels : (state : GroupState) → (vgcfgrestore_change state).labels ≡ []
+restore_labels state = restore_holds state (λ change. change.labels ≡ []) refl (λ disks next. refl)
+
 new_of : (state : GroupState) (number : ℕ) (id : Option (List ℕ)) (command : Command) (now : ℕ) (given : List Part) → (change_of state (record { number = number; id = id; command = command }) now given).group ≡ None
     → AreNew (change_of state (record { number = number; id = id; command = command }) now given).labels
 new_of state number id (Pvcreate pv copies) now given none = new_by state.disks (unwrap_or id []) copies (number_named state.names pv)
 new_of state number id (Vgcreate vg extent_size pvs) now given none = absurd cc
 new_of state number id (Vgextend vg pvs) now given none = extend_new state state.group pvs none
+new_of state number id (Vgreduce vg pv) now given none = inl (leave_labels state pv state.group)
+new_of state number id (Vgcfgrestore vg text) now given none = inl (restore_labels state)
 new_of state number id (Vgrename vg new) now given none = inl (next_labels state number id (Vgrename vg new) now given refl)
 new_of state number id (Lvcreate new) now given none = inl (next_labels state number id (Lvcreate new) now given refl)
 new_of state number id (Lvextend path growth pvs) now given none = inl (next_labels state number id (Lvextend path growth pvs) now given refl)
@@ -240,6 +258,9 @@ found_of : (state : GroupState) → IsState state → (number : ℕ) (id : Optio
 found_of state is number id (Pvcreate pv copies) now given planned = new_found state.disks (unwrap_or id []) copies (number_named state.names pv) (drawn_id id planned)
 found_of state is number id (Vgcreate vg extent_size pvs) now given planned = found_all state is pvs
 found_of state is number id (Vgextend vg pvs) now given planned = found_extend state is state.group pvs
+found_of state is number id (Vgreduce vg pv) now given planned = subst (All HeaderIsFound) (sym (leave_labels state pv state.group)) (All-nil HeaderIsFound)
+found_of state is number id (Vgremove vg) now given planned = All-nil HeaderIsFound
+found_of state is number id (Vgcfgrestore vg text) now given planned = subst (All HeaderIsFound) (sym (restore_labels state)) (All-nil HeaderIsFound)
 found_of state is number id (Vgrename vg new) now given planned = none_found state number id (Vgrename vg new) now given refl
 found_of state is number id (Lvcreate new) now given planned = none_found state number id (Lvcreate new) now given refl
 found_of state is number id (Lvextend path growth pvs) now given planned = none_found state number id (Lvextend path growth pvs) now given refl

@@ -1,35 +1,48 @@
 -- The change of a line that no row refuses can be made, and lies on the disks.
-use Rattle.std.proofs.Common.{◌≡◌, ◌<◌, ℕ, List, [], ◌∷◌, ◌++◌, length, Option, Some, None, refl, sym, ap, subst, ◌∙◌}
-use Rattle.std.specs.Prelude.{All, IfSome, unwrap_or}
+use Rattle.std.proofs.Common.{◌≡◌, ◌<◌, ℕ, List, [], ◌∷◌, ◌++◌, length, Option, Some, None, refl, sym, ap, subst, ◌∙◌, arith}
+use Rattle.std.specs.Prelude.{All, IfSome, is_some, slice_index, unwrap_or}
+use Rattle.std.specs.List.{remove}
+use Rattle.std.specs.Ordering.{nat_cmp}
+use Rattle.std.specs.FinSet as set
+use Rattle.std.specs.FinSet.{FinSet}
 use Rattle.std.specs.Option.{option_map_or}
 use Rattle.std.proofs.lemmas.List.Elements.{All-nil}
 use Rattle.extent_alloc.specs.declared.part.Part.{Part}
 use Rattle.lvm_script.specs.declared.command.Command.{Command}
-use Rattle.lvm_script.specs.declared.command.Command.TheVariants.{Lvcreate, Lvextend, Lvreduce, Lvremove, Lvrename, Pvcreate, Vgcreate, Vgextend, Vgrename}
+use Rattle.lvm_script.specs.declared.command.Command.TheVariants.{Lvcreate, Lvextend, Lvreduce, Lvremove, Lvrename, Pvcreate, Vgcfgrestore, Vgcreate, Vgextend, Vgreduce, Vgremove, Vgrename}
 use Rattle.lvm_script.specs.declared.line.Line.{Line}
 use Rattle.lvm_script.specs.declared.op_refusal.OpRefusal.TheVariants.{GroupStands, UnknownGroup}
 use Rattle.conf_text.specs.Printed.{printed}
 use Rattle.meta_print.specs.Layout.{tree_of}
 use Rattle.sector_base.specs.declared.spans.Span.{Span}
 use Rattle.meta_model.specs.declared.group.Group.{Group}
-use Rattle.group_ops.proofs.NextVersions.{CommitsNext, append_nil, commits_next, extended_none, version_is}
+use Rattle.group_ops.proofs.NextVersions.{CommitsNext, append_nil, commits_next, extended_none}
+use Rattle.group_edits.proofs.ReducedRules.{all_without}
+use Rattle.group_edits.specs.ReducedGroup.{reduced_group}
+use Rattle.group_ops.proofs.Leaving.{LeavesNext, leaves_next}
 use Rattle.group_ops.specs.Added.{added_of}
 use Rattle.group_ops.specs.Allocating.{Takes}
-use Rattle.group_ops.specs.Committing.{length_row, no_area_row, version_change}
-use Rattle.group_ops.specs.Judging.{area_row, first_refusal, large_row, stored_size, used_row}
-use Rattle.group_ops.specs.NewGroup.{extended}
+use Rattle.group_ops.specs.Committing.{change_where_found, length_row, length_row_on, no_area_row, no_change, version_change, version_change_on}
+use Rattle.group_ops.specs.Judging.{area_row, first_refusal, large_row, set_of, stored_size, used_row}
+use Rattle.group_ops.specs.NewGroup.{change_with, extended}
 use Rattle.group_ops.specs.Planning.{IsPlanned, asks_of, change_of, extend_by, refusal_of}
 use Rattle.group_ops.specs.State.{IsState}
 use Rattle.group_ops.specs.Vgcreate.{empty_group, new_rows, vgcreate_change}
 use Rattle.group_edits.specs.NextVersion.{next_version}
 use Rattle.group_ops.specs.Vgextend.{found_rows, vgextend_change}
+use Rattle.group_ops.specs.Vgreduce.{vgreduce_change}
+use Rattle.vg_found.specs.Disks.{disks_of}
+use Rattle.group_edits.specs.RestoredGroup.{restored_group}
+use Rattle.group_ops.proofs.Restoring.{Restores, restores}
+use Rattle.group_ops.specs.Vgcfgrestore.{backup_change, vgcfgrestore_change, vgcfgrestore_rows}
+use Rattle.group_ops.specs.declared.backup.Backup.{Backup}
 use Rattle.group_ops.specs.declared.state.Change.{Change}
 use Rattle.group_ops.specs.declared.state.GroupState.{GroupState}
 use Rattle.group_ops.proofs.Rows.{none_holds}
 use Rattle.vg_change.proofs.SoundCommit.{commit_can_make, commit_lies_on}
 use Rattle.vg_change.proofs.SoundPvcreate.{pvcreate_can_make, pvcreate_lies_on}
 use Rattle.vg_change.specs.CarryingOut.{sizes_of}
-use Rattle.vg_change.specs.Sound.{CanMake, CanTakeText, LiesOn}
+use Rattle.vg_change.specs.Sound.{AreasLie, CanLabel, CanMake, CanTakeText, LabelLies, LiesOn}
 
 -- the change can be made at this time, and lies on the disks
 abbrev IsSound : GroupState → Change → ℕ → Type 0
@@ -79,22 +92,76 @@ with_zeros state change zero now sound = (
   record { labels = sound.1.labels; differ = sound.1.differ; new_areas = sound.1.new_areas; commit = sound.1.commit },
 )
 
-version_sound : (state : GroupState) → IsState state → (next : Group) (now : ℕ) → All (λ n. n < length state.disks) state.disk_of → no_area_row state ≡ None → length_row state next now ≡ None → IsSound state (version_change state next) now
+-- and whatever disks are cleared behind
+with_cleared : (state : GroupState) (change : Change) (cleared : FinSet nat_cmp) (now : ℕ) → IsSound state change now → IsSound state (record change { cleared = cleared }) now
+with_cleared state change cleared now sound = (
+  record {
+    labels = sound.0.labels;
+    commit = λ group is. let t : CanTakeText change state.areas (printed (tree_of group now)) = sound.0.commit group is in record { listed = t.listed; committed = t.committed; room = t.room };
+  },
+  record { labels = sound.1.labels; differ = sound.1.differ; new_areas = sound.1.new_areas; commit = sound.1.commit },
+)
+
+-- as the change of a group to which no physical volume is added
+pub version_on : (state : GroupState) (disks : List ℕ) (next : Group) → change_with next disks (added_of state []) ≡ version_change_on disks next
+unfolding extended
+version_on state disks next = λ i. record { group = Some next; zero = []; labels = []; taken = set.empty; cleared = set.empty; disk_of = append_nil disks i }
+
+version_sound_on : (state : GroupState) → IsState state → (disks : List ℕ) (next : Group) (now : ℕ) → All (λ n. n < length state.disks) disks → area_row state.areas disks ≡ None → length_row_on state disks next now ≡ None → IsSound state (version_change_on disks next) now
 unfolding used_row
-version_sound state is next now listed has_area fits =
-    let same : state.disk_of ++ [] ≡ state.disk_of = append_nil state.disk_of in
-    subst (λ (c : Change). IsSound state c now) (version_is state [] next) (
-      commit_can_make state is next state.disk_of [] listed refl now
+version_sound_on state is disks next now listed has_area fits =
+    let same : disks ++ [] ≡ disks = append_nil disks in
+    subst (λ (c : Change). IsSound state c now) (version_on state disks next) (
+      commit_can_make state is next disks [] listed refl now
           (ap (area_row state.areas) same ∙ has_area)
-          (ap (λ (disks : List ℕ). large_row state.areas disks (stored_size (extended next (added_of state [])) now)) same
-          ∙ ap (λ (g : Group). large_row state.areas state.disk_of (stored_size g now)) (extended_none state next) ∙ fits),
-      commit_lies_on state is next state.disk_of [] listed refl,
+          (ap (λ (l : List ℕ). large_row state.areas l (stored_size (extended next (added_of state [])) now)) same
+          ∙ ap (λ (g : Group). large_row state.areas disks (stored_size g now)) (extended_none state next) ∙ fits),
+      commit_lies_on state is next disks [] listed refl,
     )
+
+version_sound : (state : GroupState) → IsState state → (next : Group) (now : ℕ) → All (λ n. n < length state.disks) state.disk_of → no_area_row state ≡ None → length_row state next now ≡ None → IsSound state (version_change state next) now
+version_sound state is next now listed has_area fits = version_sound_on state is state.disk_of next now listed has_area fits
 
 next_sound : (state : GroupState) → IsState state → (change : Change) (now : ℕ) → CommitsNext state change now → IsSound state change now
 next_sound state is change now made =
     subst (λ (c : Change). IsSound state c now) (sym made.change_xl)
     (with_zeros state (version_change state made.next) made.zero now (version_sound state is made.next now (listed_there state made.old is made.there) made.has_area made.fits))
+
+-- ---- vgreduce and vgremove
+
+leaves_sound : (state : GroupState) → IsState state → (change : Change) (now : ℕ) → LeavesNext state change now → IsSound state change now
+leaves_sound state is change now left =
+    let rest : List ℕ = remove state.disk_of left.number in
+    let next : Group = reduced_group left.old left.number in
+    subst (λ (c : Change). IsSound state c now) (sym left.change_xl)
+    (with_cleared state (version_change_on rest next) (set_of (slice_index state.disk_of left.number ∷ [])) now
+    (version_sound_on state is rest next now (all_without (λ (n : ℕ). n < length state.disks) state.disk_of left.number (listed_there state left.old is left.there)) left.has_area left.fits))
+
+-- nothing is committed, and no label is written, whatever disks are cleared
+none_sound : (state : GroupState) (cleared : FinSet nat_cmp) (disks : List ℕ) (now : ℕ) → IsSound state (record (no_change state) { cleared = cleared; disk_of = disks }) now
+none_sound state cleared disks now = (
+  record { labels = All-nil CanLabel; commit = λ group same. cc },
+  record {
+    labels = All-nil (LabelLies (sizes_of state.disks));
+    differ = λ i j d before within. absurd (omega (arith, before, within));
+    new_areas = λ none. All-nil (AreasLie (sizes_of state.disks));
+    commit = λ group same. cc;
+  },
+)
+
+-- ---- vgcfgrestore
+
+restores_sound : (state : GroupState) → IsState state → (change : Change) (now : ℕ) → Restores state change now → IsSound state change now
+restores_sound state is change now made =
+    subst (λ (c : Change). IsSound state c now) (sym made.change_xl)
+    (version_sound_on state is (disks_of made.said state.disks) (restored_group made.old made.said) now (made.listed is) (made.has_area is) made.fits)
+
+-- nothing changes where nothing is known of a text
+restore_sound : (state : GroupState) → IsState state → (vg : List ℕ) (now : ℕ) → first_refusal (vgcfgrestore_rows state vg now) ≡ None → IsSound state (vgcfgrestore_change state) now
+restore_sound state is vg now none = by state.backup refl where
+  by : (backup : Option Backup) → state.backup ≡ backup → IsSound state (vgcfgrestore_change state) now
+  by None gives = subst (λ (o : Option Backup). IsSound state (option_map_or (λ (b : Backup). change_where_found state (backup_change state b)) o (no_change state)) now) (sym gives) (none_sound state set.empty state.disk_of now)
+  by (Some backup) gives = restores_sound state is (vgcfgrestore_change state) now (restores state vg now (ap is_some gives) none)
 
 -- ---- all commands
 
@@ -104,6 +171,9 @@ sound_by state is number id (Pvcreate pv copies) now given planned takes none =
     (pvcreate_can_make state is (unwrap_or id []) pv copies now, pvcreate_lies_on state is (unwrap_or id []) pv copies none)
 sound_by state is number id (Vgcreate vg extent_size pvs) now given planned takes none = vgcreate_sound state is (empty_group (unwrap_or id []) vg extent_size) pvs now state.group none
 sound_by state is number id (Vgextend vg pvs) now given planned takes none = vgextend_sound state is vg pvs now state.group refl none
+sound_by state is number id (Vgreduce vg pv) now given planned takes none = leaves_sound state is (vgreduce_change state pv) now (leaves_next state vg pv now none)
+sound_by state is number id (Vgremove vg) now given planned takes none = none_sound state (set_of state.disk_of) [] now
+sound_by state is number id (Vgcfgrestore vg text) now given planned takes none = restore_sound state is vg now none
 sound_by state is number id (Vgrename vg new) now given planned takes none =
     next_sound state is (change_of state (record { number = number; id = id; command = Vgrename vg new }) now given) now (commits_next state number id (Vgrename vg new) now given planned refl takes none)
 sound_by state is number id (Lvcreate new) now given planned takes none =

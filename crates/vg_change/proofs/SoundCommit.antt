@@ -23,8 +23,9 @@ use Rattle.group_ops.specs.State.{IsState}
 use Rattle.group_ops.specs.declared.state.GroupState.{GroupState}
 use Rattle.vg_change.proofs.AddedLabels.{added_there, all_stand, can_label, labels_differ, labels_lie}
 use Rattle.vg_change.proofs.DiskSets.{of_disks}
-use Rattle.vg_change.proofs.HeldInDisks.{LiesIn, areas_lie, sizes_below}
+use Rattle.vg_change.proofs.HeldInDisks.{areas_lie, sizes_below}
 use Rattle.vg_change.proofs.TextRoom.{some_area, text_has_room}
+use Rattle.vg_change.specs.Building.{LiesIn}
 use Rattle.vg_change.specs.CarryingOut.{sizes_of}
 use Rattle.vg_change.specs.Sound.{CanMake, CanTakeText, LiesOn}
 

@@ -1,4 +1,6 @@
 -- What a change writes, as batches of writes, each lasting before the next begins.
+use Rattle.std.specs.Ordering.{nat_cmp}
+use Rattle.std.specs.FinSet as set
 use Rattle.std.specs.Prelude.{ℕ, ◌/◌, false, List, [], ◌∷◌, ◌++◌, map, filter, flat_map, replicate, Option, Some, None}
 use Rattle.sector_base.specs.declared.spans.Span.{Span}
 use Rattle.conf_text.specs.Printed.{printed}
@@ -14,7 +16,9 @@ use Rattle.meta_print.specs.Layout.{tree_of}
 use Rattle.pv_header.specs.declared.extent_list.Extent.{Extent}
 use Rattle.pv_header.specs.PvHeader.{header_bytes as pv_bytes}
 use Rattle.pv_label.specs.LabelBytes.{with_label}
-use Rattle.vg_commit.specs.Written.{AreaWrites, area_writes, headers_of, publish_of, texts_of}
+use Rattle.vg_commit.specs.Written.{AreaWrites, area_writes, header_of, header_span, headers_of, publish_of, texts_of}
+use Rattle.vg_found.specs.declared.disk.Disk.{Disk}
+use Rattle.group_ops.specs.Cleared.{cleared_areas, unused_labels}
 use Rattle.group_ops.specs.Judging.{lies_on, set_of}
 use Rattle.group_ops.specs.Planning.{change_of}
 use Rattle.group_ops.specs.declared.state.GroupState.{GroupState}
@@ -82,6 +86,16 @@ commit_batches None now areas = []
 commit_batches (Some group) now areas =
     texts_of (commit_writes group now areas) ∷ headers_of (commit_writes group now areas) ∷ publish_of (commit_writes group now areas) ∷ []
 
+-- ---- disks that a group lets go
+
+-- the write of the header of an area in which no text stands
+abbrev pub clear_put : Area × Option Locn → Put
+clear_put area = (header_span area.0, mda_bytes (header_of area.0 None None) ∷ [])
+
+-- those of the disks that are cleared: their label sectors, and then the headers of their areas
+abbrev pub clear_batches : set.FinSet nat_cmp → List Disk → List (Area × Option Locn) → List (List Put)
+clear_batches cleared disks areas = batch_if (map label_put (unused_labels cleared disks)) ++ batch_if (map clear_put (cleared_areas cleared areas))
+
 -- ---- all of it
 
 -- all batches of a change behind its zeros, at this time, on disks with these areas
@@ -98,3 +112,7 @@ zeros_of state line now given = zero_batches (change_of state line now given)
 -- the batches of the line's change at this time behind them
 abbrev pub batches_of : GroupState → Line → ℕ → List Part → List (List Put)
 batches_of state line now given = change_batches (change_of state line now given) state.areas now
+
+-- and behind these, the batches that clear the disks which the group lets go
+abbrev pub clears_of : GroupState → Line → ℕ → List Part → List (List Put)
+clears_of state line now given = clear_batches (change_of state line now given).cleared state.disks state.areas

@@ -1,20 +1,29 @@
 -- Batches while they are put together.
-use Rattle.std.specs.Prelude.{◌≡◌, ◌<◌, ℕ, List, [], ◌∷◌, ◌++◌, map, filter, All, Option, Some}
+use Rattle.std.specs.Prelude.{◌≡◌, ◌≤◌, ◌<◌, ℕ, List, [], ◌∷◌, ◌++◌, length, map, filter, slice_get, All, AllPairs, Option, Some}
 use Rattle.std.specs.Ordering.{nat_cmp}
 use Rattle.std.specs.FinSet as set
 use Rattle.conf_text.specs.Printed.{printed}
 use Rattle.disk_batch.specs.Batches.{disks_of, writes_of}
-use Rattle.disk_batch.specs.InTurn.{Put}
+use Rattle.disk_batch.specs.InTurn.{CanRun, Put}
 use Rattle.disk_batch.specs.Writes.{disks_in}
 use Rattle.disk_batch.specs.declared.batch.Batch.{Batch}
+use Rattle.disk_model.specs.Operations.{IsWithin}
 use Rattle.mda_header.specs.declared.header.Locn.{Locn}
+use Rattle.mda_ring.specs.Areas.{CanTake, LieApart}
 use Rattle.mda_ring.specs.declared.area.Area.{Area}
 use Rattle.meta_model.specs.declared.group.Group.{Group}
 use Rattle.meta_print.specs.Layout.{tree_of}
 use Rattle.vg_commit.specs.Plans.{HeadersRead}
 use Rattle.vg_commit.specs.Preparing.{area_disks}
+use Rattle.vg_commit.specs.Written.{area_span}
+use Rattle.vg_found.specs.Disks.{held_areas}
+use Rattle.vg_found.specs.Shape.{IsDisk}
+use Rattle.vg_found.specs.declared.disk.Disk.{Disk}
+use Rattle.group_ops.specs.Cleared.{unused_labels}
 use Rattle.group_ops.specs.Judging.{lies_on, set_of}
-use Rattle.vg_change.specs.Batches.{commit_batches}
+use Rattle.vg_change.specs.Batches.{clear_batches, commit_batches}
+use Rattle.vg_change.specs.CarryingOut.{sizes_of}
+use Rattle.vg_change.specs.Sound.{FitsFields}
 
 -- the disks of the writes
 abbrev pub disks_written : List Put → List ℕ
@@ -49,3 +58,25 @@ pub record IsCommitAdded (areas : List (Area × Option Locn)) (flush : set.FinSe
   pub header_disks : disks_of headers ≡ disks_in (area_disks areas)
   pub publish_disks : disks_of publish ≡ disks_in (area_disks areas)
   pub read : All (HeadersRead (printed (tree_of group now))) areas
+
+-- the next text can be placed in each of the areas, no two share a sector, and each is on one of 64 disks
+pub record AreHeld (areas : List (Area × Option Locn)) : Type 0 where
+  pub take : All CanTake areas
+  pub apart : AllPairs LieApart areas
+  pub few : All (λ (area : Area × Option Locn). area.0.pv < 64) areas
+
+-- the area lies in its disk, where the disks have these sizes
+abbrev pub LiesIn : List ℕ → Area × Option Locn → Type 0
+LiesIn sizes area = IsWithin sizes (area_span area.0)
+
+-- at most 64 disks with what can stand on them, and the areas there that aren't ignored
+pub record AreScanned (disks : List Disk) (areas : List (Area × Option Locn)) : Type 0 where
+  pub few : length disks ≤ 64
+  pub each : (pv : ℕ) (disk : Disk) → slice_get disks pv ≡ Some disk → IsDisk pv disk
+  pub held : areas ≡ held_areas 0 disks
+
+-- the batches that clear these disks stand behind the others, and can run on the disks; what is written of labels fits its fields
+pub record AreClearsAdded (cleared : set.FinSet nat_cmp) (disks : List Disk) (areas : List (Area × Option Locn)) (old new : List Batch) : Type 0 where
+  pub writes : map writes_of new ≡ map writes_of old ++ clear_batches cleared disks areas
+  pub run : All (CanRun (sizes_of disks)) old → All (CanRun (sizes_of disks)) new
+  pub fields : All FitsFields (unused_labels cleared disks)

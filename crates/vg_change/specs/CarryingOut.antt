@@ -1,9 +1,9 @@
 -- What is promised of a line that is carried out.
-use Rattle.std.specs.Prelude.{◌≡◌, ◌<◌, ◌⊎◌, ℕ, Bool, true, false, List, length, map, take, All, None, Some, Result, Ok, Err, MatchResult}
+use Rattle.std.specs.Prelude.{◌≡◌, ◌<◌, ◌⊎◌, ℕ, Bool, true, false, is_some, List, length, map, take, All, None, Some, Result, Ok, Err, MatchResult}
 use Rattle.disk_batch.specs.InTurn.{HasFirstBatches, Put, WritesInTurn, with_batches}
 use Rattle.disk_model.specs.Faults.{HasSameFaults}
 use Rattle.disk_model.specs.Since.{BetweenTold}
-use Rattle.disk_model.specs.State.{State}
+use Rattle.disk_model.specs.State.{IsLawful, State}
 use Rattle.disk_model.specs.Steps.{Image, Told}
 use Rattle.extent_alloc.specs.declared.part.Part.{Part}
 use Rattle.lvm_script.specs.declared.line.Line.{Line}
@@ -16,9 +16,9 @@ use Rattle.group_ops.specs.declared.refusal.PlanRefusal.{PlanRefusal}
 use Rattle.group_ops.specs.declared.refusal.PlanRefusal.TheVariants as plan
 use Rattle.group_ops.specs.declared.state.GroupState.{GroupState}
 use Rattle.vg_change.specs.declared.fault.ChangeFault.{ChangeFault}
-use Rattle.vg_change.specs.declared.fault.ChangeFault.TheVariants.{NoMemory, Refused, Failed}
-use Rattle.vg_change.specs.Batches.{batches_of, zeros_of}
-use Rattle.vg_change.specs.Laws.{AreasAreKept, IsFoundAfter, ShowsEntries, text_in}
+use Rattle.vg_change.specs.declared.fault.ChangeFault.TheVariants.{NoMemory, Refused, Failed, Uncleared}
+use Rattle.vg_change.specs.Batches.{batches_of, clears_of, zeros_of}
+use Rattle.vg_change.specs.Laws.{AreasAreKept, ClearsImages, IsFoundAfter, ShowsEntries, text_in}
 
 -- how many sectors these disks have
 abbrev pub sizes_of : List Disk → List ℕ
@@ -34,19 +34,23 @@ abbrev pub IsFault : GroupState → Line → ℕ → List Part → State → Sta
 IsFault state line now given old new NoMemory = HasSameFaults old new
 IsFault state line now given old new (Refused refusal) = HasSameFaults old new × (refusal_of state line now given ≡ Some refusal)
 IsFault state line now given old new (Failed pv) = (refusal_of state line now given ≡ None) × (old.faults pv < new.faults pv)
+IsFault state line now given old new (Uncleared pv made) = (refusal_of state line now given ≡ None) × (old.faults pv < new.faults pv)
 
 -- In every image on the way areas and labels keep what the base holds, and until the last batch of a commit is begun each
--- area shows what it showed. Once all is written what the line makes is found. The base shows the entries of the areas.
+-- area shows what it showed. Once all is written what the line makes is found. The base shows the entries of the areas. While
+-- disks are cleared behind that, in every image their labels and areas are the old ones or cleared, and all else stays.
 pub record KeepsImages (state : GroupState) (line : Line) (now : ℕ) (given : List Part) : Type 0 where
   pub kept : (base image : Image) → ShowsEntries state.areas base → HasFirstBatches (batches_of state line now given) base image → AreasAreKept state line now given base image
   pub unpublished : (base image : Image) (n : ℕ) (group : Group) → ShowsEntries state.areas base → (change_of state line now given).group ≡ Some group → n < length (batches_of state line now given)
       → HasFirstBatches (take n (batches_of state line now given)) base image → All (ShowsBy (old_reading (text_in base)) image) state.areas
   pub found : (base : Image) → ShowsEntries state.areas base → IsFoundAfter state line now given (with_batches (batches_of state line now given) base)
+  pub clears : ClearsImages (change_of state line now given).cleared state.disks state.areas
 
 -- its writes were begun
-abbrev pub HasBegun : Result (Unit {0}) ChangeFault → Type 0
-HasBegun (Ok done) = Unit {0}
+abbrev pub HasBegun : Result ℕ ChangeFault → Type 0
+HasBegun (Ok made) = Unit {0}
 HasBegun (Err (Failed pv)) = Unit {0}
+HasBegun (Err (Uncleared pv made)) = Unit {0}
 HasBegun (Err _) = ⊥
 
 -- all zeros were written, and then the batches, as far as these came
@@ -60,22 +64,48 @@ abbrev pub WritesBoth : List (List Put) → List (List Put) → Bool → Told �
 WritesBoth zeros batches true old new = WritesBehind zeros batches true old new
 WritesBoth zeros batches false old new = WritesInTurn old zeros false new ⊎ WritesBehind zeros batches false old new
 
--- both were carried out, as far as they came; where the line is refused or memory was wanting none was, and no operation was
--- submitted
-abbrev pub Carries : List (List Put) → List (List Put) → Result (Unit {0}) ChangeFault → Told → Told → Type 0
-Carries zeros batches (Ok done) old new = WritesBoth zeros batches true old new
-Carries zeros batches (Err (Failed pv)) old new = WritesBoth zeros batches false old new
-Carries zeros batches (Err _) old new = new ≡ old
+-- zeros and batches were carried out, until the shelf was in this state; and then disks were cleared, as far as that came
+pub record ClearsBehind (zeros batches clears : List (List Put)) (well : Bool) (old new : State) : Type 0 where
+  pub made : State
+  pub lawful : IsLawful made
+  pub first : BetweenTold (WritesBoth zeros batches true) old.told made.told
+  pub behind : BetweenTold (λ before after. WritesInTurn before clears well after) made.told new.told
+
+-- the moment at which the change was made: where a group is committed that at which it was, and else once disks are cleared
+abbrev pub made_at : Bool → ℕ → ℕ → ℕ
+made_at true committed ended = committed
+made_at false committed ended = ended
+
+-- why disks weren't cleared: where a group is committed, the change was made by then
+abbrev pub clear_fault : Bool → ℕ → ℕ → ChangeFault
+clear_fault true pv committed = Uncleared pv committed
+clear_fault false pv committed = Failed pv
+
+-- they were cleared, and the change was made at this moment
+abbrev pub IsMade : Bool → State → State → ℕ → Type 0
+IsMade commits old new moment = HasSameFaults old new × (moment ≡ made_at commits old.steps new.steps)
+
+-- they weren't, since an operation failed on a disk
+abbrev pub IsUnclearedBy : Bool → State → State → ChangeFault → Type 0
+IsUnclearedBy commits old new fault = (pv : ℕ) × (old.faults pv < new.faults pv) × (fault ≡ clear_fault commits pv old.steps)
+
+-- all were carried out, as far as they came, and this is when the change was made; where the line is refused or memory was wanting
+-- none was, and no operation was submitted
+abbrev pub Carries : Bool → List (List Put) → List (List Put) → List (List Put) → Result ℕ ChangeFault → State → State → Type 0
+Carries commits zeros batches clears (Ok moment) old new = (w : ClearsBehind zeros batches clears true old new) × (moment ≡ made_at commits w.made.steps new.steps)
+Carries commits zeros batches clears (Err (Failed pv)) old new = BetweenTold (WritesBoth zeros batches false) old.told new.told ⊎ ((commits ≡ false) × ClearsBehind zeros batches clears false old new)
+Carries commits zeros batches clears (Err (Uncleared pv moment)) old new = (w : ClearsBehind zeros batches clears false old new) × (moment ≡ w.made.steps) × (commits ≡ true)
+Carries commits zeros batches clears (Err _) old new = BetweenTold (λ before after. after ≡ before) old.told new.told
 
 -- memory sufficed to judge the line
-abbrev pub HasJudged : Result (Unit {0}) ChangeFault → Type 0
+abbrev pub HasJudged : Result ℕ ChangeFault → Type 0
 HasJudged (Err NoMemory) = ⊥
 HasJudged _ = Unit {0}
 
 -- the line was carried out with some parts that it takes, as far as it came, and this is its result
-pub record IsCarried (state : GroupState) (line : Line) (now : ℕ) (old : State) (result : Result (Unit {0}) ChangeFault) (new : State) : Type 0 where
+pub record IsCarried (state : GroupState) (line : Line) (now : ℕ) (old : State) (result : Result ℕ ChangeFault) (new : State) : Type 0 where
   pub given : List Part
   pub takes : HasJudged result → Takes (asks_of state line) given
   pub cause : MatchResult result (λ _. HasSameFaults old new × (refusal_of state line now given ≡ None)) (IsFault state line now given old new)
   pub images : HasBegun result → KeepsImages state line now given
-  pub told : BetweenTold (Carries (zeros_of state line now given) (batches_of state line now given) result) old.told new.told
+  pub told : Carries (is_some (change_of state line now given).group) (zeros_of state line now given) (batches_of state line now given) (clears_of state line now given) result old new

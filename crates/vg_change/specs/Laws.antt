@@ -1,10 +1,15 @@
 -- What follows of labels and metadata areas for a line that is carried out in turn.
-use Rattle.std.specs.Prelude.{◌≡◌, ◌≢◌, ◌⊎◌, ℕ, [], List, All, Option, Some, None}
+use Rattle.std.specs.Prelude.{◌≡◌, ◌≢◌, ◌<◌, ◌⊎◌, ℕ, false, [], List, length, take, All, Option, Some, None}
+use Rattle.std.specs.Ordering.{nat_cmp}
+use Rattle.std.specs.FinSet as set
+use Rattle.sector_base.specs.Spans.{covers}
 use Rattle.conf_text.specs.Printed.{printed}
+use Rattle.disk_batch.specs.InTurn.{HasFirstBatches, with_batches}
 use Rattle.disk_model.specs.Steps.{Image}
 use Rattle.extent_alloc.specs.declared.part.Part.{Part}
 use Rattle.lvm_script.specs.declared.line.Line.{Line}
 use Rattle.mda_header.specs.Header.{IsHeader}
+use Rattle.mda_header.specs.HeaderBytes.{header_bytes}
 use Rattle.mda_header.specs.declared.header.Locn.{Locn}
 use Rattle.mda_ring.specs.declared.area.Area.{Area}
 use Rattle.mda_ring.specs.Texts.{text_at}
@@ -15,11 +20,14 @@ use Rattle.pv_header.specs.declared.extent_list.Extent.{Extent}
 use Rattle.pv_label.specs.Label.{IsLabel}
 use Rattle.vg_commit.specs.SectorReading.{ShowsBy, new_reading, old_reading}
 use Rattle.vg_commit.specs.Showing.{Names, sectors_of}
+use Rattle.vg_commit.specs.Written.{header_of, header_span}
+use Rattle.vg_found.specs.declared.disk.Disk.{Disk}
+use Rattle.group_ops.specs.Cleared.{cleared_areas, unused_labels}
 use Rattle.group_ops.specs.Planning.{change_of}
 use Rattle.group_ops.specs.declared.state.Change.{Change}
 use Rattle.group_ops.specs.declared.state.GroupState.{GroupState}
 use Rattle.group_ops.specs.declared.state.NewLabel.{NewLabel}
-use Rattle.vg_change.specs.Batches.{areas_of, empty_area, label_bytes}
+use Rattle.vg_change.specs.Batches.{areas_of, clear_batches, empty_area, label_bytes}
 
 -- in the image the header of each area names the entry that the list has
 abbrev pub ShowsEntries : List (Area × Option Locn) → Image → Type 0
@@ -70,3 +78,40 @@ HoldsAfter (Some group) now change areas image = All (ShowsBy (new_reading (prin
 pub record IsFoundAfter (state : GroupState) (line : Line) (now : ℕ) (given : List Part) (image : Image) : Type 0 where
   pub labels : All (HasLabel image) (change_of state line now given).labels
   pub areas : HoldsAfter (change_of state line now given).group now (change_of state line now given) state.areas image
+
+-- ---- disks that are cleared
+
+-- the header of the area is as in the base, or empty
+abbrev pub IsKeptOrEmpty : Image → Image → Area × Option Locn → Type 0
+IsKeptOrEmpty base image area = (sectors_of area.0 image 0 ≡ sectors_of area.0 base 0) ⊎ (sectors_of area.0 image 0 ≡ header_bytes (header_of area.0 None None))
+
+-- the header of the area says that no text stands in it
+abbrev pub IsEmpty : Image → Area × Option Locn → Type 0
+IsEmpty image area = IsHeader (sectors_of area.0 image 0) (header_of area.0 None None)
+
+-- the sector is no label of these disks that is cleared, and no header of an area there
+pub record IsUncleared (cleared : set.FinSet nat_cmp) (disks : List Disk) (areas : List (Area × Option Locn)) (pv sector : ℕ) : Type 0 where
+  pub labels : All (λ (label : NewLabel). (label.disk ≢ pv) ⊎ (label.sector ≢ sector)) (unused_labels cleared disks)
+  pub headers : All (λ (area : Area × Option Locn). covers (header_span area.0) pv sector ≡ false) (cleared_areas cleared areas)
+
+-- what an image keeps of the base while these disks are cleared: each label sector is the old or the new one, each header of an
+-- area the old one or empty, and no other sector is written
+pub record ClearsKeep (cleared : set.FinSet nat_cmp) (disks : List Disk) (areas : List (Area × Option Locn)) (base image : Image) : Type 0 where
+  pub labels : LabelsKept (unused_labels cleared disks) base image
+  pub headers : All (IsKeptOrEmpty base image) (cleared_areas cleared areas)
+  pub others : (pv sector : ℕ) → IsUncleared cleared disks areas pv sector → image pv sector ≡ base pv sector
+
+-- they are cleared: lvm2's readers find their labels, of physical volumes that no group uses, and no text in their areas
+pub record AreCleared (cleared : set.FinSet nat_cmp) (disks : List Disk) (areas : List (Area × Option Locn)) (image : Image) : Type 0 where
+  pub labels : All (HasLabel image) (unused_labels cleared disks)
+  pub headers : All (IsEmpty image) (cleared_areas cleared areas)
+
+-- over any base every image on the way keeps what the base holds, each header until the last batch is begun; and once all is
+-- written the disks are cleared
+pub record ClearsImages (cleared : set.FinSet nat_cmp) (disks : List Disk) (areas : List (Area × Option Locn)) : Type 0 where
+  pub kept : (base image : Image) → HasFirstBatches (clear_batches cleared disks areas) base image → ClearsKeep cleared disks areas base image
+  pub uncleared : (base image : Image) (n : ℕ) → n < length (clear_batches cleared disks areas) → HasFirstBatches (take n (clear_batches cleared disks areas)) base image
+      → All (λ (area : Area × Option Locn). sectors_of area.0 image 0 ≡ sectors_of area.0 base 0) (cleared_areas cleared areas)
+  pub done : (base : Image) → AreCleared cleared disks areas (with_batches (clear_batches cleared disks areas) base)
+  -- lvm2's reader finds the header in each label sector that is written
+  pub read : All (λ (label : NewLabel). IsPvHeader (label_bytes label) label.header []) (unused_labels cleared disks)

@@ -16,6 +16,9 @@ pub enum ChangeFault {
     Refused(OpRefusal),
     /// An operation failed on this disk.
     Failed(u32),
+    /// An operation failed on this disk while disks were cleared that the group lets go. At this moment, counted in submissions and
+    /// completions, the change was made.
+    Uncleared { pv: u32, made: u64 },
 }
 
 impl From<PlanRefusal> for ChangeFault {

@@ -17,10 +17,10 @@ use Rattle.vg_commit.proofs.CommitImages.{commit_keeps, commit_shows, commit_sho
 use Rattle.vg_change.specs.Laws.{ShowsEntries, text_in}
 use Rattle.vg_change.proofs.BaseShows.{base_shows, base_sized, shows_alike}
 use Rattle.vg_repair.specs.Batches.{text_batches}
-use Rattle.vg_repair.specs.Building.{AreHeld}
 use Rattle.vg_repair.specs.Stale.{too_large_among}
 use Rattle.vg_repair.proofs.RepairedShape.{rooms}
 use Rattle.vg_repair.proofs.TextBatches.{all_fit, held_committed}
+use Rattle.vg_change.specs.Building.{AreHeld}
 
 -- each area is outside of the sector
 abbrev pub AreOutside : ℕ → ℕ → List (Area × Option Locn) → Type 0

@@ -3,7 +3,6 @@ pub mod AreaDisks
 pub mod HeldAreas
 pub mod TextBatches
 pub mod StrayLabels
-pub mod ClearBatch
 pub mod RepairBatches
 pub mod Numbered
 pub mod RepairedShape

@@ -18,11 +18,12 @@ use Rattle.vg_found.specs.declared.found.Found.{Found}
 use Rattle.group_ops.specs.Added.{pv_in}
 use Rattle.group_ops.specs.Judging.{lies_on}
 use Rattle.group_ops.specs.declared.state.NewLabel.{NewLabel}
-use Rattle.vg_change.specs.Batches.{batch_if, label_put}
-use Rattle.vg_repair.specs.Batches.{clear_put, repair_batches, stray_areas, stray_labels, text_batches, unused, unused_label, unused_labels}
+use Rattle.vg_change.specs.Batches.{batch_if, clear_batches, clear_put, label_put}
+use Rattle.vg_repair.specs.Batches.{repair_batches, stray_areas, stray_labels, text_batches}
 use Rattle.vg_repair.specs.Laws.{LeavesAll}
 use Rattle.vg_repair.specs.Repaired.{repaired_area, repaired_areas, repaired_contents, repaired_disk, repaired_disks, repaired_held, repaired_of, with_entry}
 use Rattle.vg_repair.specs.Stale.{stale_areas, stale_by, stale_in, stale_on, text_of}
+use Rattle.group_ops.specs.Cleared.{unused, unused_label, unused_labels}
 
 no_stray : (pv : ℕ) → set.contains (set.empty {R = nat_cmp}) pv ≡ false
 no_stray pv = set.contains-empty nat_cmp pv
@@ -91,7 +92,7 @@ module _ (found : Found) (shape : HasShape found) (stale : found.stale ≡ []) (
 
   nothing : repair_batches found ≡ []
   nothing =
-      ap (λ (l : List (Area × Option Locn)). text_batches (text_of found) l ++ batch_if (map label_put (stray_labels found)) ++ batch_if (map clear_put (stray_areas found))) stale_none
+      ap (λ (l : List (Area × Option Locn)). text_batches (text_of found) l ++ clear_batches found.strays found.disks found.areas) stale_none
       ∙ ap (λ (l : List NewLabel). batch_if (map label_put l) ++ batch_if (map clear_put (stray_areas found))) labels_none
       ∙ ap (λ (l : List (Area × Option Locn)). batch_if (map clear_put l)) areas_none
 

@@ -1,6 +1,6 @@
 -- Once a repair is done, the header of each area names the entry that is found then.
-use Rattle.std.proofs.Common.{◌≡◌, ◌≢◌, ◌≤◌, ◌⊎◌, ℕ, ◌+◌, ◌/◌, ◌%◌, Bool, true, false, cond, List, [], ◌∷◌, ◌++◌, length, map, get_or, Option, Some, None, inl, inr, ⊎_elim, refl, sym, ap, subst, ◌∙◌, arith}
-use Rattle.std.specs.Prelude.{All, AllPairs, option_map, take}
+use Rattle.std.proofs.Common.{◌≡◌, ◌≤◌, ℕ, ◌+◌, ◌/◌, ◌%◌, Bool, true, false, cond, List, [], ◌∷◌, ◌++◌, length, map, get_or, Option, Some, None, inl, inr, ⊎_elim, refl, sym, ap, subst, ◌∙◌, arith}
+use Rattle.std.specs.Prelude.{All, AllPairs, option_map}
 use Rattle.std.specs.List.{cons_option, enumerate_from, filter_map, flat_map}
 use Rattle.std.specs.Option.{option_map_or}
 use Rattle.std.specs.Ordering.{nat_cmp}
@@ -27,13 +27,14 @@ use Rattle.vg_found.specs.Shape.{HasShape}
 use Rattle.vg_found.specs.declared.disk.Disk.{Disk}
 use Rattle.vg_found.specs.declared.found.Found.{Found}
 use Rattle.group_ops.specs.Judging.{lies_on}
-use Rattle.vg_change.specs.Laws.{ShowsEntries}
+use Rattle.vg_change.specs.Laws.{IsEmpty, ShowsEntries}
 use Rattle.vg_change.proofs.FarAreas.{IsFar}
 use Rattle.vg_repair.specs.Batches.{repair_batches, stray_areas}
-use Rattle.vg_repair.specs.Laws.{IsEmpty, IsRight, KeepsImages}
+use Rattle.vg_repair.specs.Laws.{IsRight, KeepsImages}
 use Rattle.vg_repair.specs.Repaired.{repaired_area, repaired_contents, repaired_disk, repaired_held, repaired_of, with_entry}
 use Rattle.vg_repair.specs.Stale.{is_among, stale_areas, stale_in, stale_on, text_of}
-use Rattle.vg_repair.proofs.Flagged.{Either, WithMarked, each_of_all, each_of_filtered, each_of_marked, if_marked, marked, unmarked, unmarked_with}
+use Rattle.vg_repair.proofs.Flagged.{Either, WithMarked, each_of_all, each_of_marked, if_marked, marked, unmarked, unmarked_with}
+use Rattle.vg_change.proofs.Filtered.{each_of_filtered}
 use Rattle.vg_repair.proofs.HeldAreas.{each_far, stale_held}
 use Rattle.vg_repair.proofs.RepairedShape.{held_on}
 use Rattle.vg_repair.proofs.StrayLabels.{labels_can}

@@ -41,12 +41,14 @@ use Rattle.vg_change.specs.Sound.{FitsFields}
 use Rattle.vg_change.proofs.LabelsRead.{header_found}
 use Rattle.vg_commit.specs.Written.{new_entry}
 use Rattle.vg_commit.proofs.AreaPuts.{entry_inside, is_placed}
-use Rattle.vg_repair.specs.Batches.{stray_labels, unused, unused_label}
+use Rattle.vg_repair.specs.Batches.{stray_labels}
 use Rattle.vg_repair.specs.Repaired.{repaired_area, repaired_areas, repaired_contents, repaired_disk, repaired_disks, repaired_held, repaired_of, with_entry}
 use Rattle.vg_repair.specs.Stale.{is_among, stale_areas, stale_in, stale_on, text_of, too_large, too_large_among}
 use Rattle.vg_repair.proofs.HeldAreas.{stale_held}
 use Rattle.vg_repair.proofs.Numbered.{all_at, all_in, mapped_all, mapped_at, mapped_length, mapped_same}
-use Rattle.vg_repair.proofs.StrayLabels.{IsLabelOf, label_is}
+use Rattle.vg_repair.proofs.StrayLabels.{label_is}
+use Rattle.group_ops.specs.Cleared.{unused, unused_label}
+use Rattle.vg_change.proofs.UnusedLabels.{IsLabelOf}
 
 -- ---- room
 

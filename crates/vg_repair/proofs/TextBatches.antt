@@ -16,9 +16,10 @@ use Rattle.vg_commit.specs.Written.{area_writes, headers_of, publish_of, texts_o
 use Rattle.vg_commit.specs.declared.prepared.Prepared.{Prepared}
 use Rattle.vg_commit.proofs.CommitCanRun.{headers_can_run, publish_can_run, texts_can_run}
 use Rattle.vg_repair.specs.Batches.{text_batches}
-use Rattle.vg_repair.specs.Building.{AreHeld, IsTextAdded, LiesIn}
+use Rattle.vg_repair.specs.Building.{IsTextAdded}
 use Rattle.vg_repair.specs.Stale.{too_large_among}
 use Rattle.vg_repair.proofs.AreaDisks.{disks_hold, disks_within}
+use Rattle.vg_change.specs.Building.{AreHeld, LiesIn}
 
 -- ---- room
 

@@ -1,29 +1,17 @@
 -- The batches of a repair while they are put together.
-use Rattle.std.specs.Prelude.{◌≡◌, ◌<◌, ◌++◌, ℕ, List, map, All, AllPairs, Option, None}
+use Rattle.std.specs.Prelude.{◌≡◌, ◌++◌, ℕ, List, map, All, Option, None}
 use Rattle.disk_batch.specs.Batches.{writes_of}
 use Rattle.disk_batch.specs.InTurn.{CanRun}
 use Rattle.disk_batch.specs.declared.batch.Batch.{Batch}
-use Rattle.disk_model.specs.Operations.{IsWithin}
 use Rattle.mda_header.specs.declared.header.Locn.{Locn}
-use Rattle.mda_ring.specs.Areas.{CanTake, LieApart}
 use Rattle.mda_ring.specs.declared.area.Area.{Area}
+use Rattle.vg_change.specs.Building.{LiesIn}
 use Rattle.vg_change.specs.CarryingOut.{sizes_of}
 use Rattle.vg_change.specs.Sound.{FitsFields}
 use Rattle.vg_commit.specs.Plans.{HeadersRead}
-use Rattle.vg_commit.specs.Written.{area_span}
 use Rattle.vg_found.specs.declared.found.Found.{Found}
 use Rattle.vg_repair.specs.Batches.{repair_batches, stray_labels, text_batches}
 use Rattle.vg_repair.specs.Stale.{stale_areas, text_of, too_large, too_large_among}
-
--- the next text can be placed in each of the areas, no two share a sector, and each is on one of 64 disks
-pub record AreHeld (areas : List (Area × Option Locn)) : Type 0 where
-  pub take : All CanTake areas
-  pub apart : AllPairs LieApart areas
-  pub few : All (λ (area : Area × Option Locn). area.0.pv < 64) areas
-
--- the area lies in its disk, where the disks have these sizes
-abbrev pub LiesIn : List ℕ → Area × Option Locn → Type 0
-LiesIn sizes area = IsWithin sizes (area_span area.0)
 
 -- the three batches of a commit of the text to these areas, if there are any, stand behind the others; each area has room, and
 -- its headers are read again as they are; and where the areas lie in their disks all can run

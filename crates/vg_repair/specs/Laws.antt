@@ -1,20 +1,17 @@
 -- What a repair keeps of what the disks hold, in every image on its way, and what they hold once it is done.
-use Rattle.std.specs.Prelude.{◌≡◌, ◌≢◌, ◌⊎◌, ℕ, false, [], All, Option, None}
+use Rattle.std.specs.Prelude.{◌≡◌, ◌≢◌, ◌⊎◌, ℕ, false, [], All, Option}
 use Rattle.std.specs.FinSet as set
 use Rattle.sector_base.specs.Spans.{covers}
 use Rattle.disk_batch.specs.InTurn.{HasFirstBatches, with_batches}
 use Rattle.disk_model.specs.Steps.{Image}
-use Rattle.mda_header.specs.Header.{IsHeader}
-use Rattle.mda_header.specs.HeaderBytes.{header_bytes}
 use Rattle.mda_header.specs.declared.header.Locn.{Locn}
 use Rattle.mda_ring.specs.declared.area.Area.{Area}
 use Rattle.vg_commit.specs.SectorReading.{AllShow, new_reading}
-use Rattle.vg_commit.specs.Showing.{sectors_of}
-use Rattle.vg_commit.specs.Written.{area_span, header_of, header_span}
+use Rattle.vg_commit.specs.Written.{area_span, header_span}
 use Rattle.vg_found.specs.Shape.{HasShape}
 use Rattle.vg_found.specs.declared.found.Found.{Found}
 use Rattle.group_ops.specs.declared.state.NewLabel.{NewLabel}
-use Rattle.vg_change.specs.Laws.{HasLabel, IsKeptOrNew, LabelsKept, ShowsEntries}
+use Rattle.vg_change.specs.Laws.{HasLabel, IsEmpty, IsKeptOrEmpty, IsKeptOrNew, LabelsKept, ShowsEntries}
 use Rattle.vg_repair.specs.Batches.{repair_batches, stray_areas, stray_labels}
 use Rattle.vg_repair.specs.Repaired.{repaired_of}
 use Rattle.vg_repair.specs.Stale.{stale_areas, text_of}
@@ -29,10 +26,6 @@ pub record IsOther (found : Found) (pv sector : ℕ) : Type 0 where
   pub labels : All (λ (label : NewLabel). (label.disk ≢ pv) ⊎ (label.sector ≢ sector)) (stray_labels found)
   pub headers : All (λ (area : Area × Option Locn). covers (header_span area.0) pv sector ≡ false) (stray_areas found)
 
--- the header of the area is as in the base, or empty
-abbrev pub IsKeptOrEmpty : Image → Image → Area × Option Locn → Type 0
-IsKeptOrEmpty base image area = (sectors_of area.0 image 0 ≡ sectors_of area.0 base 0) ⊎ (sectors_of area.0 image 0 ≡ header_bytes (header_of area.0 None None))
-
 -- what an image on the way keeps of the base
 pub record IsKept (found : Found) (base image : Image) : Type 0 where
   -- each stale area shows, whole, what it shows in the base, or the text
@@ -42,10 +35,6 @@ pub record IsKept (found : Found) (base image : Image) : Type 0 where
   pub headers : All (IsKeptOrEmpty base image) (stray_areas found)
   -- no other sector is written
   pub others : (pv sector : ℕ) → IsOther found pv sector → image pv sector ≡ base pv sector
-
--- the header of the area says that no text stands in it
-abbrev pub IsEmpty : Image → Area × Option Locn → Type 0
-IsEmpty image area = IsHeader (sectors_of area.0 image 0) (header_of area.0 None None)
 
 -- what stands there once the repair is done
 pub record IsRight (found : Found) (image : Image) : Type 0 where

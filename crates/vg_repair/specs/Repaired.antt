@@ -15,7 +15,7 @@ use Rattle.vg_commit.specs.Written.{new_entry}
 use Rattle.vg_found.specs.Disks.{held_area, held_areas}
 use Rattle.vg_found.specs.declared.disk.Disk.{Disk}
 use Rattle.vg_found.specs.declared.found.Found.{Found}
-use Rattle.vg_repair.specs.Batches.{unused}
+use Rattle.group_ops.specs.Cleared.{unused}
 use Rattle.vg_repair.specs.Stale.{is_among, text_of}
 
 -- what a header says in which this text is committed, or none

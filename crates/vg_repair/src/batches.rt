@@ -2,17 +2,17 @@
 ghost use Rattle.std.specs.Prelude.{◌≡◌, ◌<◌, All, MatchResult, unwrap_or};
 ghost use Rattle.vg_commit.specs.Preparing.{area_disks};
 ghost use Rattle.vg_found.specs.Shape.{HasShape};
-ghost use Rattle.vg_repair.specs.Building.{AreHeld, IsMade, IsTextAdded};
+ghost use Rattle.vg_change.specs.Building.{AreHeld};
+ghost use Rattle.vg_repair.specs.Building.{IsMade, IsTextAdded};
 ghost use Rattle.vg_repair.specs.Stale.{IsCause, stale_areas, text_of};
 
 use crate::RepairFault;
 use crate::areas::{have_room, stale_areas};
-use crate::strays::{clear_writes, unused_labels};
 use disk_batch::Batch;
 use mda_ring::Areas;
 use sector_base::{PvSet, Text};
 use std::alloc::Global;
-use vg_change::{label_writes, prepared, push_batch};
+use vg_change::{prepared, push_clears};
 use vg_found::Found;
 
 // The batches of the repair of what was found. The error is `TooLarge` exactly where a stale area can't take the text; else
@@ -25,11 +25,13 @@ pub(crate) fn batches_of(alloc: Global, found: &Found) -> Result<Vec<Batch>, Rep
     let stale = stale_areas(alloc, found.disks.as_slice(), found.stale.as_slice())?;
     let none = Text::from_vec(Vec::new(alloc));
     push_text(alloc, &stale, text_or(&found.text, &none), &mut batches)?;
-    let labels = unused_labels(alloc, found.disks.as_slice(), found.strays)?;
-    let flags = label_writes(alloc, &labels)?;
-    let clears = clear_writes(alloc, found.areas.as_slice(), found.strays)?;
-    push_batch(alloc, flags, &mut batches)?;
-    push_batch(alloc, clears, &mut batches)?;
+    push_clears(
+        alloc,
+        found.disks.as_slice(),
+        found.areas.as_slice(),
+        found.strays,
+        &mut batches,
+    )?;
     Ok(batches)
 }
 

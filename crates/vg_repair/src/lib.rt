@@ -15,7 +15,6 @@ mod fault;
 mod laws;
 mod repaired;
 mod repairing;
-mod strays;
 #[cfg(test)]
 mod tests;
 

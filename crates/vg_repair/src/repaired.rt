@@ -17,12 +17,12 @@ ghost use Rattle.vg_repair.specs.Repaired.{repaired_area, repaired_areas, repair
 ghost use Rattle.vg_repair.specs.Stale.{too_large};
 
 use crate::areas::{held_area, is_among};
-use crate::strays::unused;
 use disk_contents::{AreaFound, AreasFound, PvFound};
 use mda_header::{Entry, Locn, MdaHeader};
 use mda_ring::{Area, plan_next};
 use sector_base::{ItemList, LVM_CRC_START, PvSet, Text, crc};
 use std::alloc::{AllocError, Global};
+use vg_change::unused;
 use vg_found::{AreaSet, Disk, DiskTable, Found, Whole, held_areas};
 
 // What is put right: the stale areas, which get the text that was found, and the strays. The checksum is that of the text

@@ -4,36 +4,11 @@ ghost use Rattle.mda_ring.specs.Areas.{CanTake};
 
 use crate::RepairFault;
 use crate::areas::have_room;
-use crate::strays::unused;
-use lvm_id::{LvmId, parse_plain};
 use mda_header::Locn;
 use mda_ring::Area;
-use pv_header::{Extents, PvHeader};
 use sector_base::Text;
 use std::alloc::{AllocError, Global};
-use std::process::Abort;
 use std::test::Fail;
-
-fn id(rt: &impl Abort) -> LvmId {
-    parse_plain(b"00000000100000000100000030000000").expect(rt, "an id")
-}
-
-#[test]
-fn of_a_header_the_lowest_flag_goes(rt: HostRuntime) -> Result<(), Fail> {
-    for (flags, left) in [(0, 0), (1, 0), (2, 2), (3, 2), (u32::MAX, u32::MAX - 1)] {
-        let header = unused(PvHeader {
-            id: id(&rt),
-            device_bytes: 4_096,
-            data_areas: Extents::from_vec(Vec::new(rt.alloc())),
-            areas: Extents::from_vec(Vec::new(rt.alloc())),
-            version: 1,
-            flags,
-        });
-        assert_eq!(rt; (header.version, header.flags), (2, left));
-        assert_eq!(rt; header.device_bytes, 4_096);
-    }
-    Ok(())
-}
 
 // An area with room for 15 sectors, on disk 3, and on disk 5 one with seven, of which its committed text takes the first.
 fn two_areas(alloc: Global) -> Result<Vec<(Area, Option<Locn>)>, AllocError>

@@ -18,12 +18,11 @@ use Rattle.mda_ring.specs.declared.area.Area.{Area}
 use Rattle.vg_commit.specs.Commits.{written_at}
 use Rattle.vg_commit.specs.Written.{header_of, header_span}
 use Rattle.disk_batch.proofs.WritesApart.{each_apart}
-use Rattle.vg_change.specs.Building.{IsOnFew}
 use Rattle.vg_change.proofs.DisksWritten.{AreApart}
 use Rattle.vg_change.proofs.LabelBatch.{one_put}
 use Rattle.vg_change.proofs.LabelPuts.{one_covers, one_tells, one_value}
-use Rattle.vg_repair.specs.Batches.{clear_put}
-use Rattle.vg_repair.specs.Building.{AreHeld, LiesIn}
+use Rattle.vg_change.specs.Batches.{clear_put}
+use Rattle.vg_change.specs.Building.{AreHeld, IsOnFew, LiesIn}
 
 -- ---- it can run
 

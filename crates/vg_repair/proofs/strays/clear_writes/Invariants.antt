@@ -1,8 +1,0 @@
-use Rattle.std.proofs.Common.{◌≡◌, ◌++◌, drop, map}
-use Rattle.std.specs.Prelude.{filter}
-use Rattle.group_ops.specs.Judging.{lies_on}
-use Rattle.vg_repair.specs.Batches.{clear_put}
-use Rattle.vg_repair.proofs.strays.clear_writes.Given as goal
-
-abbrev pub invariant-loop-area : goal.invariant-loop-area
-invariant-loop-area l = l.list.items ++ map clear_put (filter (lies_on l.strays) (drop l.area-index l.areas)) ≡ map clear_put (filter (lies_on l.strays) l.areas)
