@@ -1,5 +1,5 @@
 -- Disks that read again as they did, but for areas that give a new copy of a group.
-use Rattle.std.proofs.Common.{◌≡◌, ◌⊎◌, ℕ, Bool, true, false, ◌&&◌, ◌||◌, cond, List, [], ◌∷◌, map, Option, Some, None, inl, inr, ⊎_elim, refl, sym, ap, subst, ◌∙◌}
+use Rattle.std.proofs.Common.{◌≡◌, ◌⊎◌, ℕ, Bool, true, false, ◌&&◌, ◌||◌, cond, List, [], ◌∷◌, map, Option, Some, None, inl, inr, ⊎_elim, refl, sym, ap, subst, ◌∙◌, not}
 use Rattle.std.specs.Prelude.{filter, filter_map, option_map, unwrap_or}
 use Rattle.std.specs.List.{AllByRecursion, cons_option, list_any}
 use Rattle.std.proofs.lemmas.Bool.{or_left, or_right, false≢true}
@@ -219,6 +219,17 @@ pub none_missing : (disks : List Reading) (pvs : List (List ℕ × Pv)) → AllB
 none_missing disks [] all = refl
 none_missing disks (pv ∷ pvs) all =
     ap (λ (b : Bool). map (λ (p : List ℕ × Pv). p.1.id) (cond b (pv ∷ filter (is_missing disks) pvs) (filter (is_missing disks) pvs))) all.0 ∙ none_missing disks pvs all.1
+
+-- which physical volumes are missing is told by ids
+kept_same : (pv : List ℕ × Pv) (b : Bool) (xs ys : List (List ℕ × Pv)) → map (λ (x : List ℕ × Pv). x.1.id) xs ≡ map (λ (x : List ℕ × Pv). x.1.id) ys → map (λ (x : List ℕ × Pv). x.1.id) (cond b (pv ∷ xs) xs) ≡ map (λ (x : List ℕ × Pv). x.1.id) (cond b (pv ∷ ys) ys)
+kept_same pv true xs ys same = ap (λ (l : List (List ℕ)). pv.1.id ∷ l) same
+kept_same pv false xs ys same = same
+
+pub missing_same : (as' bs : List Reading) (pvs : List (List ℕ × Pv)) → SameHeaders as' bs → missing_of as' pvs ≡ missing_of bs pvs
+missing_same as' bs [] same = refl
+missing_same as' bs (pv ∷ pvs) same =
+    kept_same pv (is_missing as' pv) (filter (is_missing as') pvs) (filter (is_missing bs) pvs) (missing_same as' bs pvs same)
+    ∙ ap (λ (b : Bool). map (λ (x : List ℕ × Pv). x.1.id) (cond b (pv ∷ filter (is_missing bs) pvs) (filter (is_missing bs) pvs))) (ap (λ (b : Bool). pv.1.missing || not b) (same_ids pv.1.id as' bs same))
 
 not_missing : (disks : List Reading) (pv : List ℕ × Pv) (pvs : List (List ℕ × Pv)) (b : Bool) → is_missing disks pv ≡ b → map (λ (p : List ℕ × Pv). p.1.id) (cond b (pv ∷ filter (is_missing disks) pvs) (filter (is_missing disks) pvs)) ≡ []
     → (is_missing disks pv ≡ false) × (missing_of disks pvs ≡ [])

@@ -1,7 +1,10 @@
 -- The lines that commit a group: vgcreate where none was found, vgextend and those of a next version where one was.
-use Rattle.std.proofs.Common.{◌≡◌, ◌≤◌, ℕ, ◌<◌, ◌%◌, ◌^◌, List, [], ◌∷◌, ◌++◌, map, Option, Some, None, refl, sym, ap, subst, ◌∙◌, arith}
-use Rattle.std.specs.Prelude.{IfSome, IsSomeAnd, unwrap_or}
-use Rattle.std.specs.List.{AllByRecursion as Each}
+use Rattle.std.proofs.Common.{◌≡◌, ◌≤◌, ℕ, ◌<◌, ◌%◌, ◌^◌, false, List, [], ◌∷◌, ◌++◌, map, Option, Some, None, refl, sym, ap, subst, ◌∙◌, arith}
+use Rattle.std.specs.Prelude.{IfSome, IsSomeAnd, slice_index, unwrap_or}
+use Rattle.std.specs.Ordering.{nat_cmp}
+use Rattle.std.specs.FinSet as set
+use Rattle.std.specs.List.{AllByRecursion as Each, remove}
+use Rattle.std.proofs.lemmas.List.Elements.{All-from_recursion, recursion_from_All}
 use Rattle.std.specs.Option.{option_map_or, option_or}
 use Rattle.std.proofs.lemmas.Option.{same_Some}
 use Rattle.lvm_id.specs.LvmId.{IsId}
@@ -12,7 +15,7 @@ use Rattle.meta_model.specs.Standing.{HasTree}
 use Rattle.meta_model.specs.declared.group.Group.{Group}
 use Rattle.meta_model.specs.declared.pv.Pv.{Pv}
 use Rattle.scan_rules.specs.Decision.{Reading}
-use Rattle.scan_rules.specs.Found.{missing_of}
+use Rattle.scan_rules.specs.Found.{is_missing, missing_of}
 use Rattle.volume_rules.specs.Rules.{IsAccepted}
 use Rattle.vg_found.specs.declared.found.Found.{Found}
 use Rattle.vg_found.specs.Disks.{disk_with, disks_of, shapes}
@@ -22,7 +25,12 @@ use Rattle.group_edits.proofs.Whole.{IsWhole}
 use Rattle.group_ops.proofs.Accepted.{created, next_is_whole}
 use Rattle.group_ops.proofs.NextVersions.{CommitsNext, version_is}
 use Rattle.group_ops.specs.Added.{added_of}
-use Rattle.group_ops.specs.Judging.{first_refusal}
+use Rattle.group_edits.proofs.ReducedRules.{all_without, map-remove}
+use Rattle.group_edits.specs.ReducedGroup.{reduced_group}
+use Rattle.group_ops.proofs.Leaving.{LeavesNext}
+use Rattle.group_ops.specs.Committing.{version_change_on}
+use Rattle.group_ops.specs.Judging.{first_refusal, set_of}
+use Rattle.vg_change.proofs.Sound.{version_on}
 use Rattle.group_ops.specs.Laws.{state_in}
 use Rattle.group_ops.specs.NewGroup.{change_with, extended, text_row}
 use Rattle.group_ops.specs.State.{IsState}
@@ -38,6 +46,7 @@ use Rattle.sector_base.specs.declared.spans.Span.{Span}
 use Rattle.image_scans.proofs.MadeGroup.{MakesGroup}
 use Rattle.image_scans.proofs.Makes.{makes_group}
 use Rattle.image_scans.proofs.SettledBase.{IsSettledScan, copy_tree, settled_none, settled_some}
+use Rattle.group_ops.specs.declared.backup.Backup.{Backup}
 
 -- the change commits this group, which is the next version or the first
 pub record Commits (found : Found) (state : GroupState) (change : Change) : Type 0 where
@@ -71,12 +80,12 @@ create_by : (state : GroupState) (base : Group) (names : List (List ℕ)) (now :
 create_by state base names now None none = (refl, none)
 create_by state base names now (Some group) none = absurd cc
 
-pub vgcreate_commits : (found : Found) (names : List (List ℕ)) → IsState (state_in found names) → (id : Option (List ℕ)) (vg : List ℕ) (extent_size : ℕ) (pvs : List (List ℕ)) (now : ℕ)
+pub vgcreate_commits : (found : Found) (names : List (List ℕ)) (backup : Option Backup) → IsState (state_in found names backup) → (id : Option (List ℕ)) (vg : List ℕ) (extent_size : ℕ) (pvs : List (List ℕ)) (now : ℕ)
     → IsSomeAnd id IsId × (group_name_refusal vg ≡ None) × (8 ≤ extent_size) × (extent_size ≤ 2 ^ 31) × (extent_size % 8 ≡ 0)
-    → first_refusal (option_map_or (λ (group : Group). Some (GroupStands group.name) ∷ []) found.group (new_rows (state_in found names) (empty_group (unwrap_or id []) vg extent_size) pvs now)) ≡ None
-    → Commits found (state_in found names) (change_with (empty_group (unwrap_or id []) vg extent_size) [] (added_of (state_in found names) pvs))
-vgcreate_commits found names is id vg extent_size pvs now planned none =
-    let state : GroupState = state_in found names in
+    → first_refusal (option_map_or (λ (group : Group). Some (GroupStands group.name) ∷ []) found.group (new_rows (state_in found names backup) (empty_group (unwrap_or id []) vg extent_size) pvs now)) ≡ None
+    → Commits found (state_in found names backup) (change_with (empty_group (unwrap_or id []) vg extent_size) [] (added_of (state_in found names backup) pvs))
+vgcreate_commits found names backup is id vg extent_size pvs now planned none =
+    let state : GroupState = state_in found names backup in
     let base : Group = empty_group (unwrap_or id []) vg extent_size in
     let parts = create_by state base pvs now found.group none in
     let whole : IsWhole (extended base (added_of state pvs)) =
@@ -107,16 +116,16 @@ extend_none state vg names now group none =
     let rows = none_holds (found_rows state vg names now group) none in
     all_none (extend_rows state group (added_of state names)) (each_front (λ row. row ≡ None) (extend_rows state group (added_of state names)) (text_row state (next_version group) state.disk_of (added_of state names) now ∷ []) rows.1.1.1.1)
 
-none_missing_of : (found : Found) → HasShape found → FoundIsWhole found → (group : Group) → found.group ≡ Some group → missing_of (shapes found.disks) group.pvs ≡ []
+pub none_missing_of : (found : Found) → HasShape found → FoundIsWhole found → (group : Group) → found.group ≡ Some group → missing_of (shapes found.disks) group.pvs ≡ []
 none_missing_of found shape whole group is =
     sym (subst (λ (o : Option Group). IfSome o (λ g. found.missing ≡ missing_of (shapes found.disks) g.pvs)) is shape.missing) ∙ whole.there
 
-pub vgextend_commits : (found : Found) (names : List (List ℕ)) → HasShape found → FoundIsWhole found → IsState (state_in found names) → (readings : List Reading) → IsSettledScan readings found → (vg : List ℕ) (pvs : List (List ℕ)) (now : ℕ) (group : Group)
-    → found.group ≡ Some group → first_refusal (found_rows (state_in found names) vg pvs now group) ≡ None
-    → Commits found (state_in found names) (change_with (next_version group) found.disk_of (added_of (state_in found names) pvs))
+pub vgextend_commits : (found : Found) (names : List (List ℕ)) (backup : Option Backup) → HasShape found → FoundIsWhole found → IsState (state_in found names backup) → (readings : List Reading) → IsSettledScan readings found → (vg : List ℕ) (pvs : List (List ℕ)) (now : ℕ) (group : Group)
+    → found.group ≡ Some group → first_refusal (found_rows (state_in found names backup) vg pvs now group) ≡ None
+    → Commits found (state_in found names backup) (change_with (next_version group) found.disk_of (added_of (state_in found names backup) pvs))
 unfolding extended
-vgextend_commits found names shape whole is readings settled vg pvs now group there none =
-    let state : GroupState = state_in found names in
+vgextend_commits found names backup shape whole is readings settled vg pvs now group there none =
+    let state : GroupState = state_in found names backup in
     let listed : found.disk_of ≡ disks_of group found.disks = subst (λ (o : Option Group). IfSome o (λ g. found.disk_of ≡ disks_of g found.disks)) there shape.disk_of in
     let old = old_whole readings found settled group there in
     let good : IsWhole (extended (next_version group) (added_of state pvs)) = next_is_whole state is group pvs listed old.0 old.1 (extend_none state vg pvs now group none) in
@@ -128,9 +137,9 @@ vgextend_commits found names shape whole is readings settled vg pvs now group th
 
 -- ---- the next version, on the disks of the group
 
--- whatever sectors are to hold zeros before
-with_zeros : (state : GroupState) (change : Change) (spans : List Span) (group : Group) → MakesGroup state change group → MakesGroup state (record change { zero = spans }) group
-with_zeros state change spans group m = record {
+-- whatever sectors are to hold zeros before, and whatever disks are cleared behind
+with_others : (state : GroupState) (change : Change) (spans : List Span) (cleared : set.FinSet nat_cmp) (group : Group) → MakesGroup state change group → MakesGroup state (record change { zero = spans; cleared = cleared }) group
+with_others state change spans cleared group m = record {
   made = m.made;
   there = m.there;
   whole = m.whole;
@@ -143,11 +152,11 @@ with_zeros state change spans group m = record {
   disks_xl = m.disks_xl;
 }
 
-pub next_commits : (found : Found) (names : List (List ℕ)) → HasShape found → FoundIsWhole found → IsState (state_in found names) → (readings : List Reading) → IsSettledScan readings found → (change : Change) (now : ℕ) → now < 2 ^ 48
-    → CommitsNext (state_in found names) change now → Commits found (state_in found names) change
+pub next_commits : (found : Found) (names : List (List ℕ)) (backup : Option Backup) → HasShape found → FoundIsWhole found → IsState (state_in found names backup) → (readings : List Reading) → IsSettledScan readings found → (change : Change) (now : ℕ) → now < 2 ^ 48
+    → CommitsNext (state_in found names backup) change now → Commits found (state_in found names backup) change
 unfolding extended
-next_commits found names shape whole is readings settled change now time made =
-    let state : GroupState = state_in found names in
+next_commits found names backup shape whole is readings settled change now time made =
+    let state : GroupState = state_in found names backup in
     let there : found.group ≡ Some made.old = made.there in
     let listed : found.disk_of ≡ disks_of made.old found.disks = subst (λ (o : Option Group). IfSome o (λ g. found.disk_of ≡ disks_of g found.disks)) there shape.disk_of in
     let old = old_whole readings found settled made.old there in
@@ -159,6 +168,33 @@ next_commits found names shape whole is readings settled change now time made =
     subst (Commits found state) (version_is state made.zero made.next ∙ sym made.change_xl)
     (record {
       group = extended made.next (added_of state []);
-      makes = with_zeros state (change_with made.next found.disk_of (added_of state [])) made.zero (extended made.next (added_of state [])) makes;
+      makes = with_others state (change_with made.next found.disk_of (added_of state [])) made.zero set.empty (extended made.next (added_of state [])) makes;
       next = subst (λ (o : Option Group). IsNext o made.next) (sym there) (sym made.same_id, omega (arith, made.next_seqno));
+    })
+
+-- ---- the next version without one of the physical volumes
+
+pub leaves_commits : (found : Found) (names : List (List ℕ)) (backup : Option Backup) → HasShape found → FoundIsWhole found → IsState (state_in found names backup) → (readings : List Reading) → IsSettledScan readings found → (change : Change) (now : ℕ) → LeavesNext (state_in found names backup) change now
+    → Commits found (state_in found names backup) change
+unfolding extended
+leaves_commits found names backup shape whole is readings settled change now left =
+    let state : GroupState = state_in found names backup in
+    let there : found.group ≡ Some left.old = left.there in
+    let listed : found.disk_of ≡ disks_of left.old found.disks = subst (λ (o : Option Group). IfSome o (λ g. found.disk_of ≡ disks_of g found.disks)) there shape.disk_of in
+    let old = old_whole readings found settled left.old there in
+    let rest : List ℕ = remove found.disk_of left.number in
+    let next : Group = reduced_group left.old left.number in
+    let pvs : disks_of next found.disks ≡ rest = map-remove (λ (pv : List ℕ × Pv). disk_with found.disks pv.1.id) left.old.pvs left.number ∙ ap (λ (l : List ℕ). remove l left.number) (sym listed) in
+    let IsThere : List ℕ × Pv → Type 0 = λ pv. is_missing (shapes found.disks) pv ≡ false in
+    let present : Each IsThere next.pvs =
+    recursion_from_All IsThere next.pvs (all_without IsThere left.old.pvs left.number (All-from_recursion IsThere left.old.pvs (all_there (shapes found.disks) left.old.pvs (none_missing_of found shape whole left.old there))))
+    in
+    let makes : MakesGroup state (change_with next rest (added_of state [])) (extended next (added_of state [])) =
+    makes_group state is next rest [] (record { disks_xl = pvs; there = present }) (left.whole is old.0 old.1)
+    in
+    subst (Commits found state) (sym left.change_xl)
+    (record {
+      group = next;
+      makes = with_others state (version_change_on rest next) [] (set_of (slice_index found.disk_of left.number ∷ [])) next (subst (λ (c : Change). MakesGroup state c next) (version_on state rest next) makes);
+      next = subst (λ (o : Option Group). IsNext o next) (sym there) (refl, omega arith);
     })

@@ -1,6 +1,6 @@
 -- A line that commits a group: what is found on its way, and once all is written.
-use Rattle.std.proofs.Common.{◌≡◌, ◌<◌, ◌⊎◌, ℕ, ◌+◌, ◌^◌, true, List, [], ◌++◌, length, get_or, map, take, Option, Some, None, inl, sym, ap, subst, ◌∙◌, arith, false}
-use Rattle.std.specs.Prelude.{All}
+use Rattle.std.proofs.Common.{◌≡◌, ◌<◌, ◌⊎◌, ℕ, ◌+◌, ◌^◌, Bool, true, List, [], ◌++◌, length, get_or, map, take, Option, Some, None, inl, sym, ap, subst, ◌∙◌, arith, false}
+use Rattle.std.specs.Prelude.{All, slice_get}
 use Rattle.std.proofs.lemmas.List.{take_all}
 use Rattle.std.proofs.lemmas.List.Elements.{All-filter, filter_passes}
 use Rattle.conf_text.specs.Printed.{printed}
@@ -13,14 +13,15 @@ use Rattle.mda_header.specs.declared.header.Locn.{Locn}
 use Rattle.mda_ring.specs.declared.area.Area.{Area}
 use Rattle.meta_model.specs.declared.group.Group.{Group}
 use Rattle.meta_print.specs.Layout.{tree_of}
-use Rattle.scan_rules.specs.Decision.{AreaReading, Copy, SameHeaders, decide_scan, first_misplaced, is_held, lists}
+use Rattle.scan_rules.specs.Decision.{AreaReading, Copy, Reading, SameHeaders, decide_scan, first_misplaced, is_held, lists}
 use Rattle.vg_commit.proofs.Disks.{no_area}
 use Rattle.vg_commit.specs.SectorReading.{ShowsBy, new_reading, old_reading}
+use Rattle.vg_found.specs.declared.disk.Disk.{Disk}
 use Rattle.vg_found.specs.declared.found.Found.{Found}
 use Rattle.vg_found.specs.Disks.{shapes}
 use Rattle.vg_scan.specs.Readings.{IsDiskReading}
 use Rattle.vg_scan.specs.Texts.{IsCopyOf}
-use Rattle.group_ops.proofs.PlacedVolumes.{change_is_placed}
+use Rattle.group_ops.proofs.PlacedChanges.{change_is_placed}
 use Rattle.group_ops.proofs.WholeState.{whole_is_state}
 use Rattle.group_ops.specs.Judging.{lies_on as is_on, set_of}
 use Rattle.group_ops.specs.Laws.{ArePlaced, state_in}
@@ -48,6 +49,7 @@ use Rattle.image_scans.proofs.MadeGroup.{IsListedOn, MakesGroup}
 use Rattle.image_scans.proofs.OneArea.{printed_copy}
 use Rattle.image_scans.proofs.ReadingShapes.{gives_at, readings_shaped}
 use Rattle.image_scans.proofs.SettledBase.{IsSettledScan, settled_read, settled_scan}
+use Rattle.group_ops.specs.declared.backup.Backup.{Backup}
 
 -- the image with all batches is the last on the way
 pub all_written : (batches : List (List Put)) (base : Image) → HasFirstBatches batches base (with_batches batches base)
@@ -57,15 +59,15 @@ all_written batches base = record {
   either = λ pv sector. inl (sym (ap (λ (l : List (List Put)). with_batches l base pv sector) (take_all (length batches) batches (omega arith))));
 }
 
-module _ (base : Image) (sizes : List ℕ) (found : Found) (names : List (List ℕ)) (line : Line) (now : ℕ) (given : List Part) (p : CanCarryOut base sizes found names line now given) where
+module _ (base : Image) (sizes : List ℕ) (found : Found) (names : List (List ℕ)) (backup : Option Backup) (line : Line) (now : ℕ) (given : List Part) (p : CanCarryOut base sizes found names backup line now given) where
   abbrev state : GroupState
-  state = state_in found names
+  state = state_in found names backup
 
   abbrev change : Change
   change = change_of state line now given
 
   pub is_state : IsState state
-  is_state = whole_is_state found names p.shape p.whole p.named p.names_are
+  is_state = whole_is_state found names backup p.shape p.whole p.named p.names_are
 
   pub can : CanMake state.areas change now
   can = can_make state line now given is_state p.planned p.takes p.passes
@@ -96,49 +98,56 @@ module _ (base : Image) (sizes : List ℕ) (found : Found) (names : List (List �
     abbrev own : List (Area × Option Locn)
     own = areas_of change state.areas
 
-    fits : CanTakeText change state.areas text
+    pub fits : CanTakeText change state.areas text
     fits = can.commit group makes.made
 
-    copy : IsCopyOf text group []
+    pub copy : IsCopyOf text group []
     copy = let early : now < 2 ^ 48 = p.time in printed_copy group now (omega (arith, early)) makes.whole.tree makes.whole.accepted
 
-    placed : first_misplaced group (shapes found.disks) ≡ None
-    placed = subst (λ (o : Option Group). ArePlaced state.disks o) makes.made (change_is_placed state line now given is_state p.shape.placed)
+    pub placed : first_misplaced group (shapes found.disks) ≡ None
+    placed = subst (λ (o : Option Group). ArePlaced state.disks o) makes.made (change_is_placed state line now given is_state p.passes p.shape.placed)
 
-    ends : All (HasLabel (with_batches (batches_with (Some group)) base)) change.labels
+    pub ends : All (HasLabel (with_batches (batches_with (Some group)) base)) change.labels
     ends = subst (λ (g : Option Group). All (HasLabel (with_batches (batches_with g) base)) change.labels) makes.made (p.keeps.found base shown).labels
 
+    -- where the first area of the group shows the text, the new version is found
+    pub where_held : (image : Image) (bare : List ℕ → AreaReading → Bool) → AllAgain image found.unread 0 (lists group) bare new found.disks p.scan.readings → ShowsBy (new_reading text) image (get_or own 0 no_area)
+        → FindsVersion sizes image none_out (Some (version_of group change))
+    where_held image bare read shows =
+        let held : is_held group text read.read ≡ true =
+        text_held image group text found.disks read.there read.read read.at
+        (again_give NotRefused new tt tt (lists group) bare p.scan.readings read.read read.again (settled_read p.scan.readings found settled)) (get_or own 0 no_area)
+        (All-filter (is_on (set_of change.disk_of)) (IsHeldOn state.disks) state.areas (subst (All (IsHeldOn state.disks)) (sym is_state.areas) (all_held state.disks is_state.disks)) 0 no_area fits.committed.some)
+        (of_set (IsListedOn group state.disks) change.disk_of makes.listed (get_or own 0 no_area).0.pv (filter_passes (is_on (set_of change.disk_of)) state.areas 0 no_area fits.committed.some))
+        shows
+        in
+        new_found image sizes found p.shape p.whole p.scan.readings p.scan.are.sizes_xl headers settled group text copy next placed makes.there change.disk_of makes.disks_xl bare read held
+
     module _ (image : Image) (h : HasFirstBatches (batches_of state line now given) base image) where
-      front : HasFirstBatches (batches_with (Some group)) base image
+      pub front : HasFirstBatches (batches_with (Some group)) base image
       front = subst (λ (g : Option Group). HasFirstBatches (batches_with g) base image) makes.made h
 
       kept : All (IsKeptOrNew text base image) state.areas
       kept = subst (λ (g : Option Group). AreasKeptBy g now change state.areas base image) makes.made (p.keeps.kept base image shown h).areas
 
-      again : AllAgain image found.unread 0 (lists group) (λ id r. false) new found.disks p.scan.readings
-      again =
-          all_again base image found.unread 0 (lists group) (λ id r. false) new found.disks p.scan.readings p.scan.are.each
-          (λ k disk reading at_disk at_reading is.
+      -- a disk reads again
+      pub disk_reads : (k : ℕ) (disk : Disk) (reading : Reading) → slice_get found.disks k ≡ Some disk → slice_get p.scan.readings k ≡ Some reading → IsDiskReading (0 + k) (base (0 + k)) disk reading → DiskAgain (0 + k) (image (0 + k)) (lists group) (λ id r. false) new disk reading
+      disk_reads k disk reading at_disk at_reading is =
           let zero_less : 0 + k ≡ k = omega arith in
           subst (λ (n : ℕ). DiskAgain n (image n) (lists group) (λ id r. false) new disk reading) (sym zero_less)
           (each_again state is_state change group makes text fits can.labels lies.differ base ends image front [] copy kept k disk reading at_disk
           (subst (λ (n : ℕ). IsDiskReading n (base n) disk reading) zero_less is)
-          (none_refused (λ id r. false) reading.pv (gives_at NotRefused p.scan.readings k reading (settled_read p.scan.readings found settled) at_reading))))
+          (none_refused (λ id r. false) reading.pv (gives_at NotRefused p.scan.readings k reading (settled_read p.scan.readings found settled) at_reading)))
+
+      again : AllAgain image found.unread 0 (lists group) (λ id r. false) new found.disks p.scan.readings
+      again = all_again base image found.unread 0 (lists group) (λ id r. false) new found.disks p.scan.readings p.scan.are.each disk_reads
 
       pub on_the_way : FindsVersion sizes image none_out (version_in found) ⊎ FindsVersion sizes image none_out (Some (version_of group change))
       on_the_way =
           either_found image sizes found p.shape p.whole p.scan.readings p.scan.are.sizes_xl headers settled group text copy next placed makes.there change.disk_of makes.disks_xl again p.scan.answer
 
       pub with_text : All (ShowsBy (new_reading text) image) own → FindsVersion sizes image none_out (Some (version_of group change))
-      with_text shows =
-          let held : is_held group text again.read ≡ true =
-          text_held image group text found.disks again.there again.read again.at
-          (again_give NotRefused new tt tt (lists group) (λ id r. false) p.scan.readings again.read again.again (settled_read p.scan.readings found settled)) (get_or own 0 no_area)
-          (All-filter (is_on (set_of change.disk_of)) (IsHeldOn state.disks) state.areas (subst (All (IsHeldOn state.disks)) (sym is_state.areas) (all_held state.disks is_state.disks)) 0 no_area fits.committed.some)
-          (of_set (IsListedOn group state.disks) change.disk_of makes.listed (get_or own 0 no_area).0.pv (filter_passes (is_on (set_of change.disk_of)) state.areas 0 no_area fits.committed.some))
-          (shows 0 no_area fits.committed.some)
-          in
-          new_found image sizes found p.shape p.whole p.scan.readings p.scan.are.sizes_xl headers settled group text copy next placed makes.there change.disk_of makes.disks_xl again held
+      with_text shows = where_held image (λ id r. false) again (shows 0 no_area fits.committed.some)
 
     -- until the headers are published each disk reads as it did
     module _ (image : Image) (n : ℕ) (less : n < length (batches_of state line now given)) (h : HasFirstBatches (take n (batches_of state line now given)) base image) where

@@ -178,7 +178,7 @@ module _ (state : GroupState) (is_state : IsState state) (change : Change) (grou
 
   module _ (ends : All (HasLabel (with_batches batches base)) change.labels) (image : Image) (h : HasFirstBatches batches base image) where
     -- a disk that isn't one of the group
-    off_disk : (pv : ℕ) → set.contains (set_of change.disk_of) pv ≡ false → (sector : ℕ) → image pv sector ≡ base pv sector
+    pub off_disk : (pv : ℕ) → set.contains (set_of change.disk_of) pv ≡ false → (sector : ℕ) → image pv sector ≡ base pv sector
     off_disk pv off sector =
         ⊎_elim
         (λ same. same)

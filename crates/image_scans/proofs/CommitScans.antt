@@ -7,7 +7,7 @@ use Rattle.std.specs.Ordering.{nat_cmp}
 use Rattle.disk_model.specs.Steps.{Image}
 use Rattle.meta_model.specs.declared.group.Group.{Group}
 use Rattle.meta_model.specs.declared.pv.Pv.{Pv}
-use Rattle.scan_rules.specs.Decision.{Conflict, Copy, DuplicatePv, FoundGroup, GivesNoLater, HasShape as IsShaped, NoCopy, NoGroup, PvShape, Reading, SameHeaders, ScanAnswer, TwoGroups, Unsupported, decide_scan, first_misplaced, is_held, lists}
+use Rattle.scan_rules.specs.Decision.{AreaReading, Conflict, Copy, DuplicatePv, FoundGroup, GivesNoLater, HasShape as IsShaped, NoCopy, NoGroup, PvShape, Reading, SameHeaders, ScanAnswer, TwoGroups, Unsupported, decide_scan, first_misplaced, is_held, lists}
 use Rattle.scan_rules.specs.Found.{is_missing, missing_of}
 use Rattle.scan_rules.proofs.SameShape.{same_shape}
 use Rattle.vg_found.specs.declared.disk.Disk.{Disk}
@@ -89,14 +89,14 @@ no_later readings found group text copy next (settled_some held parts some old_c
 module _ (image : Image) (sizes : List ℕ) (found : Found) (shape : HasShape found) (whole : IsWhole found) (readings : List Reading) (sizes_are : map (λ (d : Disk). d.sectors) found.disks ≡ sizes) (headers : SameHeaders (shapes found.disks) readings)
     (settled : IsSettledScan readings found) (group : Group) (text : List ℕ) (copy : IsCopyOf text group []) (next : IsNext found.group group) (placed : first_misplaced group (shapes found.disks) ≡ None)
     (there : Each (λ (pv : List ℕ × Pv). is_missing (shapes found.disks) pv ≡ false) group.pvs) (disk_of : List ℕ) (disks_xl : disks_of group found.disks ≡ disk_of)
-    (again : AllAgain image found.unread 0 (lists group) (λ id r. false) (Copy group text []) found.disks readings) where
+    (bare : List ℕ → AreaReading → Bool) (again : AllAgain image found.unread 0 (lists group) bare (Copy group text []) found.disks readings) where
   new_shape : IsShaped group again.read
   new_shape =
-      same_shape group readings again.read (again_headers (lists group) (λ id r. false) (Copy group text []) readings again.read again.again)
+      same_shape group readings again.read (again_headers (lists group) bare (Copy group text []) readings again.read again.again)
       (same_shape group (shapes found.disks) readings headers (record { apart = shape.differ; placed = placed }))
 
   new_given : DisksGive (λ disk. GivesNoLater group text) again.read
-  new_given = again_give (GivesNoLater group text) (Copy group text []) (refl, inl (refl, refl)) tt (lists group) (λ id r. false) readings again.read again.again (no_later readings found group text copy next settled)
+  new_given = again_give (GivesNoLater group text) (Copy group text []) (refl, inl (refl, refl)) tt (lists group) bare readings again.read again.again (no_later readings found group text copy next settled)
 
   none_away : missing_of again.read group.pvs ≡ []
   none_away = none_missing again.read group.pvs (each_there group.pvs there)
@@ -104,7 +104,7 @@ module _ (image : Image) (sizes : List ℕ) (found : Found) (shape : HasShape fo
       still : (pv : List ℕ × Pv) → is_missing (shapes found.disks) pv ≡ false → is_missing again.read pv ≡ false
       still pv is =
           ap (λ (b : Bool). pv.1.missing || not b)
-          (sym (same_ids pv.1.id (shapes found.disks) readings headers ∙ same_ids pv.1.id readings again.read (again_headers (lists group) (λ id r. false) (Copy group text []) readings again.read again.again)))
+          (sym (same_ids pv.1.id (shapes found.disks) readings headers ∙ same_ids pv.1.id readings again.read (again_headers (lists group) bare (Copy group text []) readings again.read again.again)))
           ∙ is
 
       each_there : (pvs : List (List ℕ × Pv)) → Each (λ (pv : List ℕ × Pv). is_missing (shapes found.disks) pv ≡ false) pvs → Each (λ (pv : List ℕ × Pv). is_missing again.read pv ≡ false) pvs
@@ -149,10 +149,14 @@ module _ (image : Image) (sizes : List ℕ) (found : Found) (shape : HasShape fo
   pub new_found : is_held group text again.read ≡ true → FindsVersion sizes image none_out (Some new_version)
   new_found held = of_finds (finds_newest group text again.read new_shape new_given held)
 
-  -- and else the one that was found before
-  pub either_found : IsFoundBy (decide_scan readings) found → FindsVersion sizes image none_out (version_in found) ⊎ FindsVersion sizes image none_out (Some new_version)
-  either_found by =
-      ⊎_elim
-      (λ held. inr (new_found held))
-      (λ same. inl (same_version image sizes found whole readings by again.there again.read (again.sizes_xl ∙ sizes_are) again.are (ap decide_scan same) again.ids))
-      (held_or_same group text [] readings again.read again.again)
+-- where no area was cleared, and else the one that was found before
+pub either_found : (image : Image) (sizes : List ℕ) (found : Found) (shape : HasShape found) (whole : IsWhole found) (readings : List Reading) (sizes_are : map (λ (d : Disk). d.sectors) found.disks ≡ sizes) (headers : SameHeaders (shapes found.disks) readings)
+    (settled : IsSettledScan readings found) (group : Group) (text : List ℕ) (copy : IsCopyOf text group []) (next : IsNext found.group group) (placed : first_misplaced group (shapes found.disks) ≡ None)
+    (there : Each (λ (pv : List ℕ × Pv). is_missing (shapes found.disks) pv ≡ false) group.pvs) (disk_of : List ℕ) (disks_xl : disks_of group found.disks ≡ disk_of)
+    → (again : AllAgain image found.unread 0 (lists group) (λ id r. false) (Copy group text []) found.disks readings) → IsFoundBy (decide_scan readings) found
+    → FindsVersion sizes image none_out (version_in found) ⊎ FindsVersion sizes image none_out (Some (record { group = group; disk_of = disk_of }))
+either_found image sizes found shape whole readings sizes_are headers settled group text copy next placed there disk_of disks_xl again by =
+    ⊎_elim
+    (λ held. inr (new_found image sizes found shape whole readings sizes_are headers settled group text copy next placed there disk_of disks_xl (λ id r. false) again held))
+    (λ same. inl (same_version image sizes found whole readings by again.there again.read (again.sizes_xl ∙ sizes_are) again.are (ap decide_scan same) again.ids))
+    (held_or_same group text [] readings again.read again.again)

@@ -18,6 +18,7 @@ pub mod CommitScans
 pub mod HeldText
 pub mod CommitLine
 pub mod CommitCommands
+pub mod RestoredCommit
 pub mod Quiet
 pub mod Placed
 pub mod NewPlaces
@@ -34,3 +35,11 @@ pub mod BesideScan
 pub mod Zeroes
 pub mod NoLater
 pub mod MetAreas
+pub mod ClearedLabels
+pub mod ClearWrites
+pub mod ClearedAgain
+pub mod ClearedApart
+pub mod ClearScans
+pub mod RemovalScans
+pub mod RemovalEnds
+pub mod ClearPlaces

@@ -1,13 +1,14 @@
 -- What a line makes: a version of the group, a new physical volume, or nothing.
-use Rattle.std.proofs.Common.{◌≡◌, ◌≤◌, ◌<◌, ℕ, ◌^◌, ◌||◌, nat_lt, true, false, List, [], ◌∷◌, Option, Some, None, refl}
-use Rattle.std.specs.Prelude.{slice_get, unwrap_or}
+use Rattle.std.proofs.Common.{◌≡◌, ◌≤◌, ◌<◌, ℕ, ◌^◌, ◌||◌, nat_lt, true, false, List, [], ◌∷◌, Option, Some, None, refl, sym, ap, subst, ◌∙◌}
+use Rattle.std.specs.Prelude.{IsSomeAnd, is_some, slice_get, unwrap_or}
 use Rattle.std.specs.Option.{option_map_or}
 use Rattle.std.proofs.lemmas.Bool.{ltb-false}
+use Rattle.std.proofs.lemmas.Option.{same_Some}
 use Rattle.disk_model.specs.Steps.{Image}
 use Rattle.extent_alloc.specs.declared.part.Part.{Part}
 use Rattle.lvm_script.specs.Options.{number_named}
 use Rattle.lvm_script.specs.declared.command.Command.{Command}
-use Rattle.lvm_script.specs.declared.command.Command.TheVariants.{Lvcreate, Lvextend, Lvreduce, Lvremove, Lvrename, Pvcreate, Vgcreate, Vgextend, Vgrename}
+use Rattle.lvm_script.specs.declared.command.Command.TheVariants.{Lvcreate, Lvextend, Lvreduce, Lvremove, Lvrename, Pvcreate, Vgcfgrestore, Vgcreate, Vgextend, Vgreduce, Vgremove, Vgrename}
 use Rattle.lvm_script.specs.declared.line.Line.{Line}
 use Rattle.lvm_script.specs.declared.op_refusal.OpRefusal.{OpRefusal}
 use Rattle.lvm_script.specs.declared.op_refusal.OpRefusal.TheVariants.{IdTaken, PvUsed, TooSmall, UnknownGroup, UnknownPv}
@@ -17,22 +18,30 @@ use Rattle.vg_found.specs.declared.disk.Disk.{Disk}
 use Rattle.vg_found.specs.declared.found.Found.{Found}
 use Rattle.vg_found.specs.Shape.{HasShape}
 use Rattle.vg_found.specs.Whole.{IsWhole}
+use Rattle.group_ops.proofs.Leaving.{leaves_next}
 use Rattle.group_ops.proofs.NextVersions.{commits_next, is_next}
 use Rattle.group_ops.proofs.Passed.{both_false}
 use Rattle.group_ops.specs.Allocating.{Takes}
 use Rattle.group_ops.specs.Judging.{first_refusal, stands_on_disk}
 use Rattle.group_ops.specs.Laws.{state_in}
-use Rattle.group_ops.specs.Planning.{IsPlanned, asks_of, change_of, extend_by, refusal_of}
+use Rattle.group_ops.specs.Planning.{IsBackupOf, IsPlanned, asks_of, change_of, extend_by, refusal_of}
 use Rattle.group_ops.specs.Pvcreate.{disk_rows, fewest_sectors, group_has, is_listed, new_label, pvcreate_change}
 use Rattle.group_ops.specs.State.{IsState}
 use Rattle.group_ops.specs.Vgextend.{found_rows}
+use Rattle.group_ops.specs.Vgreduce.{vgreduce_change}
 use Rattle.group_ops.specs.declared.state.Change.{Change}
 use Rattle.group_ops.specs.declared.state.GroupState.{GroupState}
 use Rattle.group_ops.proofs.Rows.{none_holds, test_fails}
 use Rattle.image_scans.specs.Laws.{CanCarryOut}
-use Rattle.image_scans.proofs.CommitCommands.{Commits, next_commits, vgcreate_commits, vgextend_commits}
+use Rattle.image_scans.proofs.CommitCommands.{Commits, leaves_commits, next_commits, vgcreate_commits, vgextend_commits}
 use Rattle.image_scans.proofs.CommitLine.{is_state, settled}
 use Rattle.image_scans.proofs.SettledBase.{IsSettledScan}
+use Rattle.group_ops.specs.declared.backup.Backup.{Backup}
+use Rattle.group_ops.specs.declared.backup.Backup.TheVariants.{Sound}
+use Rattle.group_ops.proofs.Restoring.{Restores, restores, sound_tree}
+use Rattle.group_ops.specs.Backup.{IsBackup}
+use Rattle.group_ops.specs.Vgcfgrestore.{vgcfgrestore_change, vgcfgrestore_rows}
+use Rattle.image_scans.proofs.RestoredCommit.{restores_commits}
 
 -- a new physical volume on a disk that the group doesn't list, with an id that stands nowhere
 pub record MakesPv (state : GroupState) (change : Change) : Type 0 where
@@ -86,34 +95,48 @@ by_name found state id name copies (Some number) none change group labels = on_d
 
 -- ---- any line
 
-extend_line : (found : Found) (names : List (List ℕ)) → HasShape found → IsWhole found → IsState (state_in found names) → (readings : List Reading) → IsSettledScan readings found → (vg : List ℕ) (pvs : List (List ℕ)) (now : ℕ) (o : Option Group)
-    → found.group ≡ o → first_refusal (option_map_or (found_rows (state_in found names) vg pvs now) o (Some (UnknownGroup vg) ∷ [])) ≡ None
-    → LineMakes found (state_in found names) (extend_by (state_in found names) o pvs)
-extend_line found names shape whole is readings scan vg pvs now None there none = absurd cc
-extend_line found names shape whole is readings scan vg pvs now (Some group) there none = makes_version (vgextend_commits found names shape whole is readings scan vg pvs now group there none)
+extend_line : (found : Found) (names : List (List ℕ)) (backup : Option Backup) → HasShape found → IsWhole found → IsState (state_in found names backup) → (readings : List Reading) → IsSettledScan readings found → (vg : List ℕ) (pvs : List (List ℕ)) (now : ℕ) (o : Option Group)
+    → found.group ≡ o → first_refusal (option_map_or (found_rows (state_in found names backup) vg pvs now) o (Some (UnknownGroup vg) ∷ [])) ≡ None
+    → LineMakes found (state_in found names backup) (extend_by (state_in found names backup) o pvs)
+extend_line found names backup shape whole is readings scan vg pvs now None there none = absurd cc
+extend_line found names backup shape whole is readings scan vg pvs now (Some group) there none = makes_version (vgextend_commits found names backup shape whole is readings scan vg pvs now group there none)
 
-next_line : (found : Found) (names : List (List ℕ)) → HasShape found → IsWhole found → IsState (state_in found names) → (readings : List Reading) → IsSettledScan readings found → (number : ℕ) (id : Option (List ℕ)) (command : Command) (now : ℕ) (given : List Part) → now < 2 ^ 48
-    → IsPlanned id command → is_next command ≡ true → Takes (asks_of (state_in found names) (record { number = number; id = id; command = command })) given → refusal_of (state_in found names) (record { number = number; id = id; command = command }) now given ≡ None
-    → LineMakes found (state_in found names) (change_of (state_in found names) (record { number = number; id = id; command = command }) now given)
-next_line found names shape whole is readings scan number id command now given time planned next takes none =
+next_line : (found : Found) (names : List (List ℕ)) (backup : Option Backup) → HasShape found → IsWhole found → IsState (state_in found names backup) → (readings : List Reading) → IsSettledScan readings found → (number : ℕ) (id : Option (List ℕ)) (command : Command) (now : ℕ) (given : List Part) → now < 2 ^ 48
+    → IsPlanned id command → is_next command ≡ true → Takes (asks_of (state_in found names backup) (record { number = number; id = id; command = command })) given → refusal_of (state_in found names backup) (record { number = number; id = id; command = command }) now given ≡ None
+    → LineMakes found (state_in found names backup) (change_of (state_in found names backup) (record { number = number; id = id; command = command }) now given)
+next_line found names backup shape whole is readings scan number id command now given time planned next takes none =
     makes_version
-    (next_commits found names shape whole is readings scan (change_of (state_in found names) (record { number = number; id = id; command = command }) now given) now time (commits_next (state_in found names) number id command now given planned next takes none))
+    (next_commits found names backup shape whole is readings scan (change_of (state_in found names backup) (record { number = number; id = id; command = command }) now given) now time (commits_next (state_in found names backup) number id command now given planned next takes none))
 
-by_command : (found : Found) (names : List (List ℕ)) → HasShape found → IsWhole found → IsState (state_in found names) → (readings : List Reading) → IsSettledScan readings found → (number : ℕ) (id : Option (List ℕ)) (command : Command) (now : ℕ) (given : List Part) → now < 2 ^ 48
-    → IsPlanned id command → Takes (asks_of (state_in found names) (record { number = number; id = id; command = command })) given → refusal_of (state_in found names) (record { number = number; id = id; command = command }) now given ≡ None
-    → LineMakes found (state_in found names) (change_of (state_in found names) (record { number = number; id = id; command = command }) now given)
-by_command found names shape whole is readings scan number id (Pvcreate pv copies) now given time planned takes none =
-    by_name found (state_in found names) (unwrap_or id []) pv copies (number_named names pv) none (pvcreate_change (state_in found names) (unwrap_or id []) pv copies) refl refl
-by_command found names shape whole is readings scan number id (Vgcreate vg extent_size pvs) now given time planned takes none = makes_version (vgcreate_commits found names is id vg extent_size pvs now planned none)
-by_command found names shape whole is readings scan number id (Vgextend vg pvs) now given time planned takes none = extend_line found names shape whole is readings scan vg pvs now found.group refl none
-by_command found names shape whole is readings scan number id (Vgrename vg new) now given time planned takes none = next_line found names shape whole is readings scan number id (Vgrename vg new) now given time planned refl takes none
-by_command found names shape whole is readings scan number id (Lvcreate new) now given time planned takes none = next_line found names shape whole is readings scan number id (Lvcreate new) now given time planned refl takes none
-by_command found names shape whole is readings scan number id (Lvextend path growth pvs) now given time planned takes none = next_line found names shape whole is readings scan number id (Lvextend path growth pvs) now given time planned refl takes none
-by_command found names shape whole is readings scan number id (Lvreduce path amount) now given time planned takes none = next_line found names shape whole is readings scan number id (Lvreduce path amount) now given time planned refl takes none
-by_command found names shape whole is readings scan number id (Lvremove path) now given time planned takes none = next_line found names shape whole is readings scan number id (Lvremove path) now given time planned refl takes none
-by_command found names shape whole is readings scan number id (Lvrename vg old new) now given time planned takes none = next_line found names shape whole is readings scan number id (Lvrename vg old new) now given time planned refl takes none
-by_command found names shape whole is readings scan number id command now given time planned takes none = absurd planned
+restore_line : (found : Found) (names : List (List ℕ)) (backup : Option Backup) → IsState (state_in found names backup) → (readings : List Reading) → IsSettledScan readings found → (vg text : List ℕ) (now : ℕ) (o : Option Backup) → backup ≡ o
+    → IsSomeAnd o (IsBackup text) → first_refusal (vgcfgrestore_rows (state_in found names backup) vg now) ≡ None → Commits found (state_in found names backup) (vgcfgrestore_change (state_in found names backup))
+restore_line found names backup is readings scan vg text now None same known none = absurd known
+restore_line found names backup is readings scan vg text now (Some b) same known none =
+    let state : GroupState = state_in found names backup in
+    let made : Restores state (vgcfgrestore_change state) now = restores state vg now (ap is_some same) none in
+    let sound = sound_tree text made.said (subst (IsBackup text) (same_Some b (Sound made.said) (sym same ∙ made.gives)) known) in
+    restores_commits found state is refl readings scan (vgcfgrestore_change state) now made sound.0 sound.1
 
-pub line_makes : (base : Image) (sizes : List ℕ) (found : Found) (names : List (List ℕ)) (line : Line) (now : ℕ) (given : List Part) → CanCarryOut base sizes found names line now given → LineMakes found (state_in found names) (change_of (state_in found names) line now given)
-line_makes base sizes found names line now given p =
-    by_command found names p.shape p.whole (is_state base sizes found names line now given p) p.scan.readings (settled base sizes found names line now given p) line.number line.id line.command now given p.time p.planned p.takes p.passes
+by_command : (found : Found) (names : List (List ℕ)) (backup : Option Backup) → HasShape found → IsWhole found → IsState (state_in found names backup) → (readings : List Reading) → IsSettledScan readings found → (number : ℕ) (id : Option (List ℕ)) (command : Command) (now : ℕ) (given : List Part) → now < 2 ^ 48
+    → IsPlanned id command → IsBackupOf command backup → Takes (asks_of (state_in found names backup) (record { number = number; id = id; command = command })) given → refusal_of (state_in found names backup) (record { number = number; id = id; command = command }) now given ≡ None
+    → LineMakes found (state_in found names backup) (change_of (state_in found names backup) (record { number = number; id = id; command = command }) now given)
+by_command found names backup shape whole is readings scan number id (Pvcreate pv copies) now given time planned known takes none =
+    by_name found (state_in found names backup) (unwrap_or id []) pv copies (number_named names pv) none (pvcreate_change (state_in found names backup) (unwrap_or id []) pv copies) refl refl
+by_command found names backup shape whole is readings scan number id (Vgcreate vg extent_size pvs) now given time planned known takes none = makes_version (vgcreate_commits found names backup is id vg extent_size pvs now planned none)
+by_command found names backup shape whole is readings scan number id (Vgextend vg pvs) now given time planned known takes none = extend_line found names backup shape whole is readings scan vg pvs now found.group refl none
+by_command found names backup shape whole is readings scan number id (Vgreduce vg pv) now given time planned known takes none =
+    makes_version (leaves_commits found names backup shape whole is readings scan (vgreduce_change (state_in found names backup) pv) now (leaves_next (state_in found names backup) vg pv now none))
+by_command found names backup shape whole is readings scan number id (Vgremove vg) now given time planned known takes none = makes_nothing refl refl
+by_command found names backup shape whole is readings scan number id (Vgcfgrestore vg text) now given time planned known takes none =
+    makes_version (restore_line found names backup is readings scan vg text now backup refl known none)
+by_command found names backup shape whole is readings scan number id (Vgrename vg new) now given time planned known takes none = next_line found names backup shape whole is readings scan number id (Vgrename vg new) now given time planned refl takes none
+by_command found names backup shape whole is readings scan number id (Lvcreate new) now given time planned known takes none = next_line found names backup shape whole is readings scan number id (Lvcreate new) now given time planned refl takes none
+by_command found names backup shape whole is readings scan number id (Lvextend path growth pvs) now given time planned known takes none = next_line found names backup shape whole is readings scan number id (Lvextend path growth pvs) now given time planned refl takes none
+by_command found names backup shape whole is readings scan number id (Lvreduce path amount) now given time planned known takes none = next_line found names backup shape whole is readings scan number id (Lvreduce path amount) now given time planned refl takes none
+by_command found names backup shape whole is readings scan number id (Lvremove path) now given time planned known takes none = next_line found names backup shape whole is readings scan number id (Lvremove path) now given time planned refl takes none
+by_command found names backup shape whole is readings scan number id (Lvrename vg old new) now given time planned known takes none = next_line found names backup shape whole is readings scan number id (Lvrename vg old new) now given time planned refl takes none
+by_command found names backup shape whole is readings scan number id command now given time planned known takes none = absurd planned
+
+pub line_makes : (base : Image) (sizes : List ℕ) (found : Found) (names : List (List ℕ)) (backup : Option Backup) (line : Line) (now : ℕ) (given : List Part) → CanCarryOut base sizes found names backup line now given → LineMakes found (state_in found names backup) (change_of (state_in found names backup) line now given)
+line_makes base sizes found names backup line now given p =
+    by_command found names backup p.shape p.whole (is_state base sizes found names backup line now given p) p.scan.readings (settled base sizes found names backup line now given p) line.number line.id line.command now given p.time p.planned p.given_back p.takes p.passes

@@ -87,7 +87,7 @@ map_last f (y ∷ xs) x = ap (λ l. f y ∷ l) (map_last f xs x)
 
 -- ---- disks with ids
 
-has_same : (id : List ℕ) (o : Option PvHeader) → unwrap_or (option_map (λ (pv : PvOf). same_bytes pv.id id) (option_map pv_shape o)) false ≡ unwrap_or (option_map (λ (h : PvHeader). same_bytes h.id id) o) false
+pub has_same : (id : List ℕ) (o : Option PvHeader) → unwrap_or (option_map (λ (pv : PvOf). same_bytes pv.id id) (option_map pv_shape o)) false ≡ unwrap_or (option_map (λ (h : PvHeader). same_bytes h.id id) o) false
 has_same id None = refl
 has_same id (Some header) = refl
 
@@ -177,7 +177,7 @@ pub record IsBaseOf (state : GroupState) (base : Group) (listed : List ℕ) : Ty
   pub disks_xl : disks_of base state.disks ≡ listed
   pub there : Each (λ (pv : List ℕ × Pv). is_missing (shapes state.disks) pv ≡ false) base.pvs
 
-not_missing : (state : GroupState) (pv : List ℕ × Pv) (missing any : Bool) → pv.1.missing ≡ missing → list_any (has_id pv.1.id) (shapes state.disks) ≡ any → is_missing (shapes state.disks) pv ≡ false → any ≡ true
+pub not_missing : (state : GroupState) (pv : List ℕ × Pv) (missing any : Bool) → pv.1.missing ≡ missing → list_any (has_id pv.1.id) (shapes state.disks) ≡ any → is_missing (shapes state.disks) pv ≡ false → any ≡ true
 not_missing state pv missing true m a is = refl
 not_missing state pv true false m a is = absurd (true≢false (sym (ap (λ (b : Bool). b || not (list_any (has_id pv.1.id) (shapes state.disks))) m) ∙ is))
 not_missing state pv false false m a is =

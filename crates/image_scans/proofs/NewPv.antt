@@ -44,6 +44,7 @@ use Rattle.image_scans.proofs.Quiet.{IsNewId, IsQuiet, one_apart, one_quiet}
 use Rattle.image_scans.proofs.QuietVersion.{SameDisks, quiet_version}
 use Rattle.image_scans.proofs.ReadingShapes.{gives_at, gives_on, pv_shaped}
 use Rattle.image_scans.proofs.SettledBase.{IsSettledScan, settled_none, settled_some}
+use Rattle.group_ops.specs.declared.backup.Backup.{Backup}
 
 -- ---- a disk that isn't listed
 
@@ -74,9 +75,9 @@ each_other id [] none = tt
 each_other id (pv ∷ pvs) none =
     let parts = both_false (same_bytes pv.1.id id) (list_any (λ (p : List ℕ × Pv). same_bytes p.1.id id) pvs) none in (other_side pv.1.id id parts.0, each_other id pvs parts.1)
 
-module _ (base : Image) (sizes : List ℕ) (found : Found) (names : List (List ℕ)) (line : Line) (now : ℕ) (given : List Part) (p : CanCarryOut base sizes found names line now given) (m : MakesPv (state_in found names) (change_of (state_in found names) line now given)) where
+module _ (base : Image) (sizes : List ℕ) (found : Found) (names : List (List ℕ)) (backup : Option Backup) (line : Line) (now : ℕ) (given : List Part) (p : CanCarryOut base sizes found names backup line now given) (m : MakesPv (state_in found names backup) (change_of (state_in found names backup) line now given)) where
   abbrev state : GroupState
-  state = state_in found names
+  state = state_in found names backup
 
   abbrev change : Change
   change = change_of state line now given
@@ -130,7 +131,7 @@ module _ (base : Image) (sizes : List ℕ) (found : Found) (names : List (List �
   unlisted_pv group is (Some header) has (Some own) same = ap (lists group) (sym same.0) ∙ header_unlisted group is header has
 
   pub quiet_before : (reading : Reading) → slice_get p.scan.readings m.number ≡ Some reading → IsDiskReading m.number (base m.number) m.disk reading → IsQuiet found.group reading
-  quiet_before reading there read = by (settled base sizes found names line now given p)
+  quiet_before reading there read = by (settled base sizes found names backup line now given p)
     where
       by : IsSettledScan p.scan.readings found → IsQuiet found.group reading
       by (settled_none nothing none given) = subst (λ (o : Option Group). IsQuiet o reading) (sym none) (gives_at IsNone p.scan.readings m.number reading given there)
@@ -187,12 +188,12 @@ module _ (base : Image) (sizes : List ℕ) (found : Found) (names : List (List �
       (λ reading there is.
       subst (λ (n : ℕ). IsNewAt n (image n) unread Differs m.disk.sectors own reading) (sym plain) (new reading there (subst (λ (n : ℕ). IsDiskReading n (base n) m.disk reading) plain is)))
       in
-      let base_apart : first_duplicate (ids_from 0 p.scan.readings) ≡ None = ap first_duplicate (sym (ids_same 0 (shapes found.disks) p.scan.readings (headers base sizes found names line now given p))) ∙ p.shape.differ in
+      let base_apart : first_duplicate (ids_from 0 p.scan.readings) ≡ None = ap first_duplicate (sym (ids_same 0 (shapes found.disks) p.scan.readings (headers base sizes found names backup line now given p))) ∙ p.shape.differ in
       quiet_version image sizes found p.whole.there p.scan.readings p.scan.answer unread left_out left r.there r.read (r.sizes_xl ∙ p.scan.are.sizes_xl) r.are
       (one_quiet found.group m.number Differs (λ a b rel. (rel.0, rel.1)) p.scan.readings r.read r.at)
       (one_apart m.number 0 Differs p.scan.readings (λ a b rel. rel.2) p.scan.readings r.read (λ id none. none) r.at base_apart)
       (same_disks image unread own others r)
-      (settled base sizes found names line now given p)
+      (settled base sizes found names backup line now given p)
 
   -- ---- the disk left out
 

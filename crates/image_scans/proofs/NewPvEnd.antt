@@ -53,6 +53,7 @@ use Rattle.image_scans.proofs.Lines.{MakesPv}
 use Rattle.image_scans.proofs.NewPv.{OtherIds, each_other, quiet_before, with_disk}
 use Rattle.image_scans.proofs.OneArea.{entry_nothing}
 use Rattle.image_scans.proofs.Quiet.{IsQuiet}
+use Rattle.group_ops.specs.declared.backup.Backup.{Backup}
 
 -- ---- empty areas
 
@@ -146,9 +147,9 @@ shapes_have id (disk ∷ disks) =
 
 -- ---- the disk
 
-module _ (base : Image) (sizes : List ℕ) (found : Found) (names : List (List ℕ)) (line : Line) (now : ℕ) (given : List Part) (p : CanCarryOut base sizes found names line now given) (m : MakesPv (state_in found names) (change_of (state_in found names) line now given)) where
+module _ (base : Image) (sizes : List ℕ) (found : Found) (names : List (List ℕ)) (backup : Option Backup) (line : Line) (now : ℕ) (given : List Part) (p : CanCarryOut base sizes found names backup line now given) (m : MakesPv (state_in found names backup) (change_of (state_in found names backup) line now given)) where
   abbrev state : GroupState
-  state = state_in found names
+  state = state_in found names backup
 
   abbrev change : Change
   change = change_of state line now given
@@ -163,14 +164,14 @@ module _ (base : Image) (sizes : List ℕ) (found : Found) (names : List (List �
   only = label ∷ []
 
   has_label : HasLabel image label
-  has_label = All-head (HasLabel image) label [] (subst (All (HasLabel image)) m.labels_xl (p.keeps.found base (shown base sizes found names line now given p)).labels)
+  has_label = All-head (HasLabel image) label [] (subst (All (HasLabel image)) m.labels_xl (p.keeps.found base (shown base sizes found names backup line now given p)).labels)
 
   abbrev AreEmpty : NewLabel → Type 0
   AreEmpty l = All (λ (area : Extent). IsHeader (sectors_of (record { pv = l.disk; start = area.offset; size = area.size }) image 0) (empty_area area)) l.header.areas
 
   areas_empty : Each (IsEmpty m.number (image m.number)) label.header.areas
   areas_empty =
-      let all : All AreEmpty change.labels = subst (λ (g : Option Group). HoldsAfter g now change state.areas image) m.none (p.keeps.found base (shown base sizes found names line now given p)).areas in
+      let all : All AreEmpty change.labels = subst (λ (g : Option Group). HoldsAfter g now change state.areas image) m.none (p.keeps.found base (shown base sizes found names backup line now given p)).areas in
       let own : AreEmpty label = All-head AreEmpty label [] (subst (All AreEmpty) m.labels_xl all) in
       recursion_from_All (IsEmpty m.number (image m.number)) label.header.areas
       (λ k d within.
@@ -179,7 +180,7 @@ module _ (base : Image) (sizes : List ℕ) (found : Found) (names : List (List �
       subst (λ (s : List ℕ). IsHeader s (empty_area area)) plain (own k d within))
 
   low : label.sector < 4
-  low = (All-head (λ (l : NewLabel). l.sector < 4) label [] (subst (All (λ (l : NewLabel). l.sector < 4)) m.labels_xl (λ k d within. ((can base sizes found names line now given p).labels k d within).sector_below)))
+  low = (All-head (λ (l : NewLabel). l.sector < 4) label [] (subst (All (λ (l : NewLabel). l.sector < 4)) m.labels_xl (λ k d within. ((can base sizes found names backup line now given p).labels k d within).sector_below)))
 
   before_kept : (k : ℕ) → k < label.sector → image m.number k ≡ base m.number k
   before_kept k less =
@@ -222,7 +223,7 @@ module _ (base : Image) (sizes : List ℕ) (found : Found) (names : List (List �
     },
   )
 
-  id_new : (o : Option Group) → group_has m.id o ≡ false → IsQuiet o read × OtherIds base sizes found names line now given p m o own
+  id_new : (o : Option Group) → group_has m.id o ≡ false → IsQuiet o read × OtherIds base sizes found names backup line now given p m o own
   id_new None none = (each_none label.header.areas, tt)
   id_new (Some group) none =
       let unlisted : lists group m.id ≡ false = (both_false (has_other_id group m.id) (has_pv_id group m.id) none).1 in
@@ -231,15 +232,15 @@ module _ (base : Image) (sizes : List ℕ) (found : Found) (names : List (List �
   pub with_new_disk : FindsVersion sizes image none_out (version_in found)
   with_new_disk =
       let new = id_new found.group m.not_in_group in
-      with_disk base sizes found names line now given p m image (all_written (batches_of state line now given) base) found.unread none_out (λ pv within. none_unread found p.whole pv) (λ pv other. refl) own new.1
+      with_disk base sizes found names backup line now given p m image (all_written (batches_of state line now given) base) found.unread none_out (λ pv within. none_unread found p.whole pv) (λ pv other. refl) own new.1
       (λ reading there before. record {
         read = read;
         own_sectors = refl;
         own_unread = ((λ none. absurd cc), (λ unread. absurd (true≢false (sym unread ∙ none_unread found p.whole m.number))));
         is = record { contents = stands reading before; sectors_xl = refl; pv_xl = (refl, each_read m.number (image m.number) label.header.areas) };
         rel = (
-          quiet_before base sizes found names line now given p m reading there before,
+          quiet_before base sizes found names backup line now given p m reading there before,
           new.0,
-          sym (same_ids m.id (shapes found.disks) p.scan.readings (headers base sizes found names line now given p)) ∙ shapes_have m.id found.disks ∙ m.on_no_disk,
+          sym (same_ids m.id (shapes found.disks) p.scan.readings (headers base sizes found names backup line now given p)) ∙ shapes_have m.id found.disks ∙ m.on_no_disk,
         );
       })

@@ -1,5 +1,5 @@
 -- The zeros of an lvcreate lie in free extents of the group that was found.
-use Rattle.std.proofs.Common.{◌≡◌, ◌<◌, ℕ, ◌^◌, refl, List, [], ◌∷◌, Some, None, sym, ap, subst, ◌∙◌}
+use Rattle.std.proofs.Common.{◌≡◌, ◌<◌, ℕ, ◌^◌, refl, Option, List, [], ◌∷◌, Some, None, sym, ap, subst, ◌∙◌}
 use Rattle.std.specs.Prelude.{option_map, slice_index}
 use Rattle.std.specs.Option.{option_map_or}
 use Rattle.extent_alloc.specs.declared.part.Part.{Part}
@@ -28,13 +28,14 @@ use Rattle.group_ops.specs.declared.state.GroupState.{GroupState}
 use Rattle.image_scans.specs.Laws.{IsFree, ZeroesLie, in_spans}
 use Rattle.image_scans.proofs.NewPlaces.{first_free}
 use Rattle.image_scans.proofs.NoWrites.{found_listed, found_placed, found_there}
+use Rattle.group_ops.specs.declared.backup.Backup.{Backup}
 
-pub new_lie : (found : Found) (names : List (List ℕ)) (id : List ℕ) (new : NewVolume) (now : ℕ) (given : List Part) → HasShape found → IsWhole found → IsState (state_in found names)
-    → ((group : Group) → found.group ≡ Some group → IsAccepted group × HasTree group) → IsNewVolume new → now < 2 ^ 48 → IsId id → Takes (option_map (create_asks (state_in found names) id new) found.group) given
-    → first_refusal (option_map_or (λ (g : Group). create_in_rows (state_in found names) id new now g given) found.group (Some (UnknownGroup new.vg) ∷ [])) ≡ None
-    → ZeroesLie found (lvcreate_change (state_in found names) id new now given)
-new_lie found names id new now given shape whole state_is held values time is_id takes passes disk sector among =
-    let state : GroupState = state_in found names in
+pub new_lie : (found : Found) (names : List (List ℕ)) (backup : Option Backup) (id : List ℕ) (new : NewVolume) (now : ℕ) (given : List Part) → HasShape found → IsWhole found → IsState (state_in found names backup)
+    → ((group : Group) → found.group ≡ Some group → IsAccepted group × HasTree group) → IsNewVolume new → now < 2 ^ 48 → IsId id → Takes (option_map (create_asks (state_in found names backup) id new) found.group) given
+    → first_refusal (option_map_or (λ (g : Group). create_in_rows (state_in found names backup) id new now g given) found.group (Some (UnknownGroup new.vg) ∷ [])) ≡ None
+    → ZeroesLie found (lvcreate_change (state_in found names backup) id new now given)
+new_lie found names backup id new now given shape whole state_is held values time is_id takes passes disk sector among =
+    let state : GroupState = state_in found names backup in
     let made : Creates state id new now given = creates state id new now given is_id values found.group refl takes passes in
     let old : Group = made.old in
     let known = held old made.there in

@@ -59,6 +59,7 @@ use Rattle.image_scans.proofs.Lines.{LineMakes, MakesPv, line_makes, makes_nothi
 use Rattle.image_scans.proofs.Placed.{IsPlaceOn, extent_beside, primary_in_extents}
 use Rattle.vg_commit.proofs.Disks.{no_area}
 use Rattle.image_scans.proofs.SettledBase.{IsSettledScan, settled_none, settled_some}
+use Rattle.group_ops.specs.declared.backup.Backup.{Backup}
 
 -- ---- lists
 
@@ -97,9 +98,9 @@ module _ (found : Found) (shape : HasShape found) where
   pub found_there : IsWhole found → (group : Group) → found.group ≡ Some group → missing_of (shapes found.disks) group.pvs ≡ []
   found_there whole group is = sym (subst (λ (o : Option Group). IfSome o (λ g. found.missing ≡ missing_of (shapes found.disks) g.pvs)) is shape.missing) ∙ whole.there
 
-module _ (base : Image) (sizes : List ℕ) (found : Found) (names : List (List ℕ)) (line : Line) (now : ℕ) (given : List Part) (p : CanCarryOut base sizes found names line now given) (group : Group) (is_group : found.group ≡ Some group) where
+module _ (base : Image) (sizes : List ℕ) (found : Found) (names : List (List ℕ)) (backup : Option Backup) (line : Line) (now : ℕ) (given : List Part) (p : CanCarryOut base sizes found names backup line now given) (group : Group) (is_group : found.group ≡ Some group) where
   abbrev state : GroupState
-  state = state_in found names
+  state = state_in found names backup
 
   abbrev change : Change
   change = change_of state line now given
@@ -110,7 +111,7 @@ module _ (base : Image) (sizes : List ℕ) (found : Found) (names : List (List �
   -- ---- the group that was found
 
   accepted : IsAccepted group
-  accepted = by (settled base sizes found names line now given p)
+  accepted = by (settled base sizes found names backup line now given p)
     where
       by : IsSettledScan p.scan.readings found → IsAccepted group
       by (settled_none nothing none given) = absurd (let e : ◌≡◌ {A = Option Group} None (Some group) = sym none ∙ is_group in cc)
@@ -139,7 +140,7 @@ module _ (base : Image) (sizes : List ℕ) (found : Found) (names : List (List �
       no_label value by =
           let some : NewLabel = record { disk = 0; sector = 0; header = record { id = []; device_bytes = 0; data_areas = []; areas = []; version = 0; flags = 0 } } in
           let w = label_where change.labels some number at.sector value by in
-          let low : (get_or change.labels w.0 some).sector < 4 = ((can base sizes found names line now given p).labels w.0 some w.1).sector_below in
+          let low : (get_or change.labels w.0 some).sector < 4 = ((can base sizes found names backup line now given p).labels w.0 some w.1).sector_below in
           let behind : 8 ≤ at.sector = on.beside.behind in
           omega (arith, low, w.3, behind)
 
@@ -147,7 +148,7 @@ module _ (base : Image) (sizes : List ℕ) (found : Found) (names : List (List �
       no_area_write value w =
           let own : List (Area × Option Locn) = areas_of change state.areas in
           let b : Area × Option Locn = get_or own w.number no_area in
-          let st = is_state base sizes found names line now given p in
+          let st = is_state base sizes found names backup line now given p in
           let held : IsHeldOn found.disks b =
           All-filter (is_on (set_of change.disk_of)) (IsHeldOn found.disks) state.areas (subst (All (IsHeldOn found.disks)) (sym st.areas) (all_held found.disks st.disks)) w.number no_area w.among
           in
@@ -170,8 +171,8 @@ module _ (base : Image) (sizes : List ℕ) (found : Found) (names : List (List �
           none_any (batches_with (Some c.group)) number at.sector
           (λ value by.
           ⊎_elim (no_label value) (no_area_write value)
-          (writes state (is_state base sizes found names line now given p) change c.group c.makes (printed (tree_of c.group now)) ((can base sizes found names line now given p).commit c.group c.makes.made)
-          (can base sizes found names line now given p).labels (lies base sizes found names line now given p).differ base number at.sector value by))
+          (writes state (is_state base sizes found names backup line now given p) change c.group c.makes (printed (tree_of c.group now)) ((can base sizes found names backup line now given p).commit c.group c.makes.made)
+          (can base sizes found names backup line now given p).labels (lies base sizes found names backup line now given p).differ base number at.sector value by))
 
     -- ---- one that commits none
 
@@ -204,7 +205,7 @@ module _ (base : Image) (sizes : List ℕ) (found : Found) (names : List (List �
         (none_outside none (subst (All (λ (label : NewLabel). label.disk ≢ number)) (sym labels) (All-nil (λ (label : NewLabel). label.disk ≢ number))))
 
     pub extent_outside : All (KeepsSector (slice_index found.disk_of at.pv) at.sector) (batches_of state line now given)
-    extent_outside = subst (λ (l : List ℕ). All (KeepsSector (slice_index l at.pv) at.sector) (batches_of state line now given)) (sym listed) (by_line (line_makes base sizes found names line now given p))
+    extent_outside = subst (λ (l : List ℕ). All (KeepsSector (slice_index l at.pv) at.sector) (batches_of state line now given)) (sym listed) (by_line (line_makes base sizes found names backup line now given p))
 
   -- ---- all places
 

@@ -13,7 +13,7 @@ use Rattle.disk_batch.proofs.FrontBatches.{KeepsSector, front_kept}
 use Rattle.disk_model.specs.Steps.{Image, value_at}
 use Rattle.extent_alloc.specs.declared.part.Part.{Part}
 use Rattle.lvm_script.specs.declared.command.Command.{Command}
-use Rattle.lvm_script.specs.declared.command.Command.TheVariants.{Lvcreate, Lvextend, Lvreduce, Lvremove, Lvrename, Pvcreate, Vgcreate, Vgextend, Vgrename}
+use Rattle.lvm_script.specs.declared.command.Command.TheVariants.{Lvcreate, Lvextend, Lvreduce, Lvremove, Lvrename, Pvcreate, Vgcfgrestore, Vgcreate, Vgextend, Vgreduce, Vgremove, Vgrename}
 use Rattle.lvm_script.specs.declared.line.Line.{Line}
 use Rattle.mda_header.specs.declared.header.Locn.{Locn}
 use Rattle.mda_ring.specs.declared.area.Area.{Area}
@@ -48,6 +48,7 @@ use Rattle.image_scans.proofs.Front.{any_if, front_or, written_of}
 use Rattle.image_scans.proofs.NewVolume.{new_lie}
 use Rattle.image_scans.proofs.NoWrites.{extent_outside, found_listed, found_placed, found_there}
 use Rattle.image_scans.proofs.Placed.{IsPlaceOn, extent_beside}
+use Rattle.group_ops.specs.declared.backup.Backup.{Backup}
 
 -- ---- writes of zeros
 
@@ -87,19 +88,19 @@ batch_written (span ∷ spans) image pv sector among = zeros_written (span ∷ s
 -- ---- where they lie
 
 -- what the plan of a line stands on, whatever the disks hold
-pub record IsPlannedOn (found : Found) (names : List (List ℕ)) (line : Line) (now : ℕ) (given : List Part) : Type 0 where
+pub record IsPlannedOn (found : Found) (names : List (List ℕ)) (backup : Option Backup) (line : Line) (now : ℕ) (given : List Part) : Type 0 where
   pub shape : HasShape found
   pub whole : IsWhole found
-  pub state : IsState (state_in found names)
+  pub state : IsState (state_in found names backup)
   pub held : (group : Group) → found.group ≡ Some group → IsAccepted group × HasTree group
   pub planned : IsPlanned line.id line.command
   pub time : now < 2 ^ 48
-  pub takes : Takes (asks_of (state_in found names) line) given
-  pub passes : refusal_of (state_in found names) line now given ≡ None
+  pub takes : Takes (asks_of (state_in found names backup) line) given
+  pub passes : refusal_of (state_in found names backup) line now given ≡ None
 
-module _ (found : Found) (names : List (List ℕ)) (line : Line) (now : ℕ) (given : List Part) (on : IsPlannedOn found names line now given) where
+module _ (found : Found) (names : List (List ℕ)) (backup : Option Backup) (line : Line) (now : ℕ) (given : List Part) (on : IsPlannedOn found names backup line now given) where
   abbrev change : Change
-  change = change_of (state_in found names) line now given
+  change = change_of (state_in found names backup) line now given
 
   -- in free extents of the group
   pub planned_lie : ZeroesLie found change
@@ -109,17 +110,20 @@ module _ (found : Found) (names : List (List ℕ)) (line : Line) (now : ℕ) (gi
       line_of command = record { number = line.number; id = line.id; command = command }
 
       -- a command that has none
-      none_lie : (command : Command) → IsPlanned line.id command → zeroes command ≡ false → ZeroesLie found (change_of (state_in found names) (line_of command) now given)
+      none_lie : (command : Command) → IsPlanned line.id command → zeroes command ≡ false → ZeroesLie found (change_of (state_in found names backup) (line_of command) now given)
       none_lie command planned other disk sector is =
-          absurd (false≢true (ap (λ (spans : List Span). in_spans spans disk sector) (sym (none_zeroed (state_in found names) line.number line.id command now given planned other)) ∙ is))
+          absurd (false≢true (ap (λ (spans : List Span). in_spans spans disk sector) (sym (none_zeroed (state_in found names backup) line.number line.id command now given planned other)) ∙ is))
 
-      zeroes_by : (command : Command) → IsPlanned line.id command → Takes (asks_of (state_in found names) (line_of command)) given → refusal_of (state_in found names) (line_of command) now given ≡ None
-          → ZeroesLie found (change_of (state_in found names) (line_of command) now given)
+      zeroes_by : (command : Command) → IsPlanned line.id command → Takes (asks_of (state_in found names backup) (line_of command)) given → refusal_of (state_in found names backup) (line_of command) now given ≡ None
+          → ZeroesLie found (change_of (state_in found names backup) (line_of command) now given)
       zeroes_by (Lvcreate new) planned takes passes =
-          new_lie found names (unwrap_or line.id []) new now given on.shape on.whole on.state on.held planned.1 on.time (drawn_is line.id planned.0) takes passes
+          new_lie found names backup (unwrap_or line.id []) new now given on.shape on.whole on.state on.held planned.1 on.time (drawn_is line.id planned.0) takes passes
       zeroes_by (Pvcreate pv copies) planned takes passes = none_lie (Pvcreate pv copies) planned refl
       zeroes_by (Vgcreate vg extent_size pvs) planned takes passes = none_lie (Vgcreate vg extent_size pvs) planned refl
       zeroes_by (Vgextend vg pvs) planned takes passes = none_lie (Vgextend vg pvs) planned refl
+      zeroes_by (Vgreduce vg pv) planned takes passes = none_lie (Vgreduce vg pv) planned refl
+      zeroes_by (Vgremove vg) planned takes passes = none_lie (Vgremove vg) planned refl
+      zeroes_by (Vgcfgrestore vg text) planned takes passes = none_lie (Vgcfgrestore vg text) planned refl
       zeroes_by (Vgrename vg new) planned takes passes = none_lie (Vgrename vg new) planned refl
       zeroes_by (Lvextend path growth pvs) planned takes passes = none_lie (Lvextend path growth pvs) planned refl
       zeroes_by (Lvreduce path amount) planned takes passes = none_lie (Lvreduce path amount) planned refl
@@ -140,14 +144,14 @@ module _ (found : Found) (names : List (List ℕ)) (line : Line) (now : ℕ) (gi
 
   -- ---- an image on their way
 
-  module _ (base image : Image) (h : HasFirstBatches (zeros_of (state_in found names) line now given) base image) where
+  module _ (base image : Image) (h : HasFirstBatches (zeros_of (state_in found names backup) line now given) base image) where
     -- each sector is as in the base, or is zeroed
     same_or_zeroed : (disk sector : ℕ) → (image disk sector ≡ base disk sector) ⊎ (in_spans change.zero disk sector ≡ true)
     same_or_zeroed disk sector =
         ⊎_elim
         (λ same. inl same)
         (λ by. inr (written_of disk sector zero_put change.zero (image disk sector) (any_if (map zero_put change.zero) disk sector (image disk sector) by)))
-        (front_or (zeros_of (state_in found names) line now given) base image disk sector h)
+        (front_or (zeros_of (state_in found names backup) line now given) base image disk sector h)
 
     same_or_beside : (disk sector : ℕ) → (image disk sector ≡ base disk sector) ⊎ IsPlaceOn found.disks disk sector
     same_or_beside disk sector = ⊎_elim (λ same. inl same) (λ zeroed. inr (zeroes_beside disk sector zeroed)) (same_or_zeroed disk sector)
@@ -166,25 +170,25 @@ module _ (found : Found) (names : List (List ℕ)) (line : Line) (now : ℕ) (gi
         (λ place. absurd (beside_areas found.disks (λ pv disk there. (on.shape.disks pv disk there).0) area.0.pv first place area held refl (omega arith) (omega (arith, ring))))
         (same_or_beside area.0.pv first)
 
-module _ (base : Image) (sizes : List ℕ) (found : Found) (names : List (List ℕ)) (line : Line) (now : ℕ) (given : List Part) (p : CanCarryOut base sizes found names line now given) where
-  planned_on : IsPlannedOn found names line now given
+module _ (base : Image) (sizes : List ℕ) (found : Found) (names : List (List ℕ)) (backup : Option Backup) (line : Line) (now : ℕ) (given : List Part) (p : CanCarryOut base sizes found names backup line now given) where
+  planned_on : IsPlannedOn found names backup line now given
   planned_on = record {
     shape = p.shape;
     whole = p.whole;
-    state = is_state base sizes found names line now given p;
-    held = old_whole p.scan.readings found (settled base sizes found names line now given p);
+    state = is_state base sizes found names backup line now given p;
+    held = old_whole p.scan.readings found (settled base sizes found names backup line now given p);
     planned = p.planned;
     time = p.time;
     takes = p.takes;
     passes = p.passes;
   }
 
-  pub zeroes_lie : ZeroesLie found (change_of (state_in found names) line now given)
-  zeroes_lie = planned_lie found names line now given planned_on
+  pub zeroes_lie : ZeroesLie found (change_of (state_in found names backup) line now given)
+  zeroes_lie = planned_lie found names backup line now given planned_on
 
-  module _ (image : Image) (h : HasFirstBatches (zeros_of (state_in found names) line now given) base image) where
+  module _ (image : Image) (h : HasFirstBatches (zeros_of (state_in found names backup) line now given) base image) where
     pub zeroes_scan : IsScanOf image sizes found
-    zeroes_scan = scan_kept base image sizes found p.shape (same_or_beside found names line now given planned_on base image h) p.scan
+    zeroes_scan = scan_kept base image sizes found p.shape (same_or_beside found names backup line now given planned_on base image h) p.scan
 
     pub zeroes_keep_places : (group : Group) → found.group ≡ Some group → (lv sector : ℕ) (at : At) → primary group lv sector ≡ Some at → at_place image found.disk_of at ≡ at_place base found.disk_of at
     zeroes_keep_places group is lv sector at there =
@@ -194,20 +198,20 @@ module _ (base : Image) (sizes : List ℕ) (found : Found) (names : List (List �
         let l = zeroes_lie (slice_index found.disk_of at.pv) at.sector zeroed in
         let own : group ≡ l.0 = same_Some group l.0 (sym is ∙ l.1) in
         absurd (l.2.free lv sector at (subst (λ (g : Group). primary g lv sector ≡ Some at) own there) refl refl))
-        (same_or_zeroed found names line now given planned_on base image h (slice_index found.disk_of at.pv) at.sector)
+        (same_or_zeroed found names backup line now given planned_on base image h (slice_index found.disk_of at.pv) at.sector)
 
   -- ---- one on the way of the batches behind them
 
-  module _ (image : Image) (h : HasFirstBatches (batches_of (state_in found names) line now given) (with_batches (zeros_of (state_in found names) line now given) base) image) where
-    outside : (disk sector : ℕ) → in_spans (change_of (state_in found names) line now given).zero disk sector ≡ true → All (KeepsSector disk sector) (batches_of (state_in found names) line now given)
+  module _ (image : Image) (h : HasFirstBatches (batches_of (state_in found names backup) line now given) (with_batches (zeros_of (state_in found names backup) line now given) base) image) where
+    outside : (disk sector : ℕ) → in_spans (change_of (state_in found names backup) line now given).zero disk sector ≡ true → All (KeepsSector disk sector) (batches_of (state_in found names backup) line now given)
     outside disk sector is =
         let l = zeroes_lie disk sector is in
         let lies : LiesInExtents l.0 found.disk_of disk sector = l.2.lies in
-        subst (λ (n : ℕ). All (KeepsSector n sector) (batches_of (state_in found names) line now given)) lies.disk_xl
-        (subst (λ (n : ℕ). All (KeepsSector (slice_index found.disk_of lies.at.pv) n) (batches_of (state_in found names) line now given)) lies.sector_xl
-        (extent_outside base sizes found names line now given p l.0 l.1 lies.at lies.extents))
+        subst (λ (n : ℕ). All (KeepsSector n sector) (batches_of (state_in found names backup) line now given)) lies.disk_xl
+        (subst (λ (n : ℕ). All (KeepsSector (slice_index found.disk_of lies.at.pv) n) (batches_of (state_in found names backup) line now given)) lies.sector_xl
+        (extent_outside base sizes found names backup line now given p l.0 l.1 lies.at lies.extents))
 
-    pub zeroes_kept : (disk sector : ℕ) → in_spans (change_of (state_in found names) line now given).zero disk sector ≡ true → image disk sector ≡ zeros
+    pub zeroes_kept : (disk sector : ℕ) → in_spans (change_of (state_in found names backup) line now given).zero disk sector ≡ true → image disk sector ≡ zeros
     zeroes_kept disk sector is =
-        front_kept (batches_of (state_in found names) line now given) (with_batches (zeros_of (state_in found names) line now given) base) image disk sector (outside disk sector is) h
-        ∙ batch_written (change_of (state_in found names) line now given).zero base disk sector is
+        front_kept (batches_of (state_in found names backup) line now given) (with_batches (zeros_of (state_in found names backup) line now given) base) image disk sector (outside disk sector is) h
+        ∙ batch_written (change_of (state_in found names backup) line now given).zero base disk sector is

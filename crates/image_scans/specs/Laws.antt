@@ -11,6 +11,7 @@ use Rattle.disk_model.specs.Steps.{Image}
 use Rattle.disk_model.specs.Submitting.{writes_at}
 use Rattle.extent_alloc.specs.declared.part.Part.{Part}
 use Rattle.lvm_script.specs.Values.{is_disk_name}
+use Rattle.lvm_script.specs.declared.command.Command.TheVariants.{Vgremove}
 use Rattle.lvm_script.specs.declared.line.Line.{Line}
 use Rattle.meta_model.specs.declared.group.Group.{Group}
 use Rattle.meta_model.specs.declared.lv.Lv.{Lv}
@@ -24,16 +25,18 @@ use Rattle.vg_found.specs.declared.found.Found.{Found}
 use Rattle.vg_scan.specs.Scans.{IsScanOf}
 use Rattle.group_ops.specs.Allocating.{Takes}
 use Rattle.group_ops.specs.Laws.{state_in}
-use Rattle.group_ops.specs.Planning.{IsPlanned, asks_of, change_of, refusal_of}
+use Rattle.group_ops.specs.Planning.{IsBackupOf, IsPlanned, asks_of, change_of, refusal_of}
 use Rattle.group_ops.specs.declared.state.Change.{Change}
 use Rattle.group_ops.specs.declared.state.NewLabel.{NewLabel}
-use Rattle.vg_change.specs.Batches.{batches_of, zeros_of}
+use Rattle.vg_change.specs.Batches.{batches_of, clears_of, zeros_of}
 use Rattle.vg_change.specs.CarryingOut.{KeepsImages}
 use Rattle.image_scans.specs.Versions.{FindsVersion, Version, version_in}
+use Rattle.group_ops.specs.declared.backup.Backup.{Backup}
 
--- what was found of this image is whole, and nothing is stale or stray on its disks, which have these names; the line takes these
--- parts, no row refuses it with them at this time, and it keeps images as a line does whose batches were begun
-pub record CanCarryOut (base : Image) (sizes : List ℕ) (found : Found) (names : List (List ℕ)) (line : Line) (now : ℕ) (given : List Part) : Type 0 where
+-- what was found of this image is whole, and nothing is stale or stray on its disks, which have these names; the backup is what
+-- the line's text gives, if it restores a group; the line takes these parts, no row refuses it with them at this time, and it
+-- keeps images as a line does whose batches were begun
+pub record CanCarryOut (base : Image) (sizes : List ℕ) (found : Found) (names : List (List ℕ)) (backup : Option Backup) (line : Line) (now : ℕ) (given : List Part) : Type 0 where
   pub scan : IsScanOf base sizes found
   pub shape : HasShape found
   pub whole : IsWhole found
@@ -42,10 +45,11 @@ pub record CanCarryOut (base : Image) (sizes : List ℕ) (found : Found) (names 
   pub named : length names ≡ length found.disks
   pub names_are : All (λ name. is_disk_name name ≡ true) names
   pub planned : IsPlanned line.id line.command
+  pub given_back : IsBackupOf line.command backup
   pub time : now < 2 ^ 48
-  pub takes : Takes (asks_of (state_in found names) line) given
-  pub passes : refusal_of (state_in found names) line now given ≡ None
-  pub keeps : KeepsImages (state_in found names) line now given
+  pub takes : Takes (asks_of (state_in found names backup) line) given
+  pub passes : refusal_of (state_in found names backup) line now given ≡ None
+  pub keeps : KeepsImages (state_in found names backup) line now given
 
 -- no disk is left out
 abbrev pub none_out : ℕ → Bool
@@ -80,22 +84,22 @@ BaseScans =
 -- every image on the way of the line's batches
 abbrev pub ImagesScan : Type 0
 ImagesScan =
-    (base image : Image) (sizes : List ℕ) (found : Found) (names : List (List ℕ)) (line : Line) (now : ℕ) (given : List Part) → CanCarryOut base sizes found names line now given
-    → HasFirstBatches (batches_of (state_in found names) line now given) base image
-    → FindsOnTheWay sizes image found (change_of (state_in found names) line now given) (change_of (state_in found names) line now given).group
+    (base image : Image) (sizes : List ℕ) (found : Found) (names : List (List ℕ)) (backup : Option Backup) (line : Line) (now : ℕ) (given : List Part) → CanCarryOut base sizes found names backup line now given
+    → HasFirstBatches (batches_of (state_in found names backup) line now given) base image
+    → FindsOnTheWay sizes image found (change_of (state_in found names backup) line now given) (change_of (state_in found names backup) line now given).group
 
 -- every image of a commit whose last batch wasn't begun has the version that was found
 abbrev pub UnpublishedScans : Type 0
 UnpublishedScans =
-    (base image : Image) (sizes : List ℕ) (found : Found) (names : List (List ℕ)) (line : Line) (now : ℕ) (given : List Part) (n : ℕ) (group : Group) → CanCarryOut base sizes found names line now given
-    → (change_of (state_in found names) line now given).group ≡ Some group → n < length (batches_of (state_in found names) line now given) → HasFirstBatches (take n (batches_of (state_in found names) line now given)) base image
+    (base image : Image) (sizes : List ℕ) (found : Found) (names : List (List ℕ)) (backup : Option Backup) (line : Line) (now : ℕ) (given : List Part) (n : ℕ) (group : Group) → CanCarryOut base sizes found names backup line now given
+    → (change_of (state_in found names backup) line now given).group ≡ Some group → n < length (batches_of (state_in found names backup) line now given) → HasFirstBatches (take n (batches_of (state_in found names backup) line now given)) base image
     → FindsVersion sizes image none_out (version_in found)
 
 -- the image with all of them
 abbrev pub LastScans : Type 0
 LastScans =
-    (base : Image) (sizes : List ℕ) (found : Found) (names : List (List ℕ)) (line : Line) (now : ℕ) (given : List Part) → CanCarryOut base sizes found names line now given
-    → FindsAtEnd sizes (with_batches (batches_of (state_in found names) line now given) base) found (change_of (state_in found names) line now given) (change_of (state_in found names) line now given).group
+    (base : Image) (sizes : List ℕ) (found : Found) (names : List (List ℕ)) (backup : Option Backup) (line : Line) (now : ℕ) (given : List Part) → CanCarryOut base sizes found names backup line now given
+    → FindsAtEnd sizes (with_batches (batches_of (state_in found names backup) line now given) base) found (change_of (state_in found names backup) line now given) (change_of (state_in found names backup) line now given).group
 
 -- ---- volumes
 
@@ -119,21 +123,21 @@ IsOutside batch place = writes_at (map write_work batch) place.0 place.1 ≡ fal
 -- no write of the line covers a primary place of a visible volume of the group that was found
 abbrev pub PlacesAreOutside : Type 0
 PlacesAreOutside =
-    (base : Image) (sizes : List ℕ) (found : Found) (names : List (List ℕ)) (line : Line) (now : ℕ) (given : List Part) (group : Group) → CanCarryOut base sizes found names line now given → found.group ≡ Some group
-    → All (λ (batch : List Put). All (IsOutside batch) (visible_places group found.disk_of)) (batches_of (state_in found names) line now given)
+    (base : Image) (sizes : List ℕ) (found : Found) (names : List (List ℕ)) (backup : Option Backup) (line : Line) (now : ℕ) (given : List Part) (group : Group) → CanCarryOut base sizes found names backup line now given → found.group ≡ Some group
+    → All (λ (batch : List Put). All (IsOutside batch) (visible_places group found.disk_of)) (batches_of (state_in found names backup) line now given)
 
 -- so in every image on the way each such place has what it has in the base
 abbrev pub PlacesAreKept : Type 0
 PlacesAreKept =
-    (base image : Image) (sizes : List ℕ) (found : Found) (names : List (List ℕ)) (line : Line) (now : ℕ) (given : List Part) (group : Group) → CanCarryOut base sizes found names line now given → found.group ≡ Some group
-    → HasFirstBatches (batches_of (state_in found names) line now given) base image
+    (base image : Image) (sizes : List ℕ) (found : Found) (names : List (List ℕ)) (backup : Option Backup) (line : Line) (now : ℕ) (given : List Part) (group : Group) → CanCarryOut base sizes found names backup line now given → found.group ≡ Some group
+    → HasFirstBatches (batches_of (state_in found names backup) line now given) base image
     → (lv sector : ℕ) (at : At) → primary group lv sector ≡ Some at → at_place image found.disk_of at ≡ at_place base found.disk_of at
 
 -- and its visible volumes have their contents
 abbrev pub ViewIsKept : Type 0
 ViewIsKept =
-    (base image : Image) (sizes : List ℕ) (found : Found) (names : List (List ℕ)) (line : Line) (now : ℕ) (given : List Part) (group : Group) → CanCarryOut base sizes found names line now given → found.group ≡ Some group
-    → HasFirstBatches (batches_of (state_in found names) line now given) base image → view image group found.disk_of ≡ view base group found.disk_of
+    (base image : Image) (sizes : List ℕ) (found : Found) (names : List (List ℕ)) (backup : Option Backup) (line : Line) (now : ℕ) (given : List Part) (group : Group) → CanCarryOut base sizes found names backup line now given → found.group ≡ Some group
+    → HasFirstBatches (batches_of (state_in found names backup) line now given) base image → view image group found.disk_of ≡ view base group found.disk_of
 
 -- ---- zeros
 
@@ -167,25 +171,59 @@ ZeroesLie found change = (disk sector : ℕ) → IsTrue (in_spans change.zero di
 -- so it is of a line
 abbrev pub LineZeroesLie : Type 0
 LineZeroesLie =
-    (base : Image) (sizes : List ℕ) (found : Found) (names : List (List ℕ)) (line : Line) (now : ℕ) (given : List Part) → CanCarryOut base sizes found names line now given
-    → ZeroesLie found (change_of (state_in found names) line now given)
+    (base : Image) (sizes : List ℕ) (found : Found) (names : List (List ℕ)) (backup : Option Backup) (line : Line) (now : ℕ) (given : List Part) → CanCarryOut base sizes found names backup line now given
+    → ZeroesLie found (change_of (state_in found names backup) line now given)
 
 -- every image on the way of the zeros: a scan finds the same as before
 abbrev pub ZeroesScan : Type 0
 ZeroesScan =
-    (base image : Image) (sizes : List ℕ) (found : Found) (names : List (List ℕ)) (line : Line) (now : ℕ) (given : List Part) → CanCarryOut base sizes found names line now given
-    → HasFirstBatches (zeros_of (state_in found names) line now given) base image → IsScanOf image sizes found
+    (base image : Image) (sizes : List ℕ) (found : Found) (names : List (List ℕ)) (backup : Option Backup) (line : Line) (now : ℕ) (given : List Part) → CanCarryOut base sizes found names backup line now given
+    → HasFirstBatches (zeros_of (state_in found names backup) line now given) base image → IsScanOf image sizes found
 
 -- and each primary place of a volume has what it has in the base
 abbrev pub ZeroesKeepPlaces : Type 0
 ZeroesKeepPlaces =
-    (base image : Image) (sizes : List ℕ) (found : Found) (names : List (List ℕ)) (line : Line) (now : ℕ) (given : List Part) (group : Group) → CanCarryOut base sizes found names line now given → found.group ≡ Some group
-    → HasFirstBatches (zeros_of (state_in found names) line now given) base image
+    (base image : Image) (sizes : List ℕ) (found : Found) (names : List (List ℕ)) (backup : Option Backup) (line : Line) (now : ℕ) (given : List Part) (group : Group) → CanCarryOut base sizes found names backup line now given → found.group ≡ Some group
+    → HasFirstBatches (zeros_of (state_in found names backup) line now given) base image
     → (lv sector : ℕ) (at : At) → primary group lv sector ≡ Some at → at_place image found.disk_of at ≡ at_place base found.disk_of at
 
 -- in every image on the way of the batches behind them each sector of the zeros has them
 abbrev pub ZeroesAreKept : Type 0
 ZeroesAreKept =
-    (base image : Image) (sizes : List ℕ) (found : Found) (names : List (List ℕ)) (line : Line) (now : ℕ) (given : List Part) → CanCarryOut base sizes found names line now given
-    → HasFirstBatches (batches_of (state_in found names) line now given) (with_batches (zeros_of (state_in found names) line now given) base) image
-    → (disk sector : ℕ) → IsTrue (in_spans (change_of (state_in found names) line now given).zero disk sector) → image disk sector ≡ replicate 512 0
+    (base image : Image) (sizes : List ℕ) (found : Found) (names : List (List ℕ)) (backup : Option Backup) (line : Line) (now : ℕ) (given : List Part) → CanCarryOut base sizes found names backup line now given
+    → HasFirstBatches (batches_of (state_in found names backup) line now given) (with_batches (zeros_of (state_in found names backup) line now given) base) image
+    → (disk sector : ℕ) → IsTrue (in_spans (change_of (state_in found names backup) line now given).zero disk sector) → image disk sector ≡ replicate 512 0
+
+-- ---- disks that are cleared
+
+-- every image while disks are cleared behind a commit has the new version
+abbrev pub ClearsScan : Type 0
+ClearsScan =
+    (base image : Image) (sizes : List ℕ) (found : Found) (names : List (List ℕ)) (backup : Option Backup) (line : Line) (now : ℕ) (given : List Part) (group : Group) → CanCarryOut base sizes found names backup line now given
+    → (change_of (state_in found names backup) line now given).group ≡ Some group → HasFirstBatches (clears_of (state_in found names backup) line now given) (with_batches (batches_of (state_in found names backup) line now given) base) image
+    → FindsVersion sizes image none_out (Some (version_of group (change_of (state_in found names backup) line now given)))
+
+-- and each primary place of the group that was found has what it had before, whatever that is
+abbrev pub ClearsKeepPlaces : Type 0
+ClearsKeepPlaces =
+    (base mid image : Image) (sizes : List ℕ) (found : Found) (names : List (List ℕ)) (backup : Option Backup) (line : Line) (now : ℕ) (given : List Part) (group : Group) → CanCarryOut base sizes found names backup line now given → found.group ≡ Some group
+    → HasFirstBatches (clears_of (state_in found names backup) line now given) mid image
+    → (lv sector : ℕ) (at : At) → primary group lv sector ≡ Some at → at_place image found.disk_of at ≡ at_place mid found.disk_of at
+
+-- every image while a vgremove clears the disks of the group has the version that was found, or none
+abbrev pub RemovalScans : Type 0
+RemovalScans =
+    (base image : Image) (sizes : List ℕ) (found : Found) (names : List (List ℕ)) (backup : Option Backup) (line : Line) (now : ℕ) (given : List Part) (vg : List ℕ) → CanCarryOut base sizes found names backup line now given → line.command ≡ Vgremove vg
+    → HasFirstBatches (clears_of (state_in found names backup) line now given) base image → FindsVersion sizes image none_out (version_in found) ⊎ FindsVersion sizes image none_out None
+
+-- until its last batch is begun the former
+abbrev pub UnremovedScans : Type 0
+UnremovedScans =
+    (base image : Image) (sizes : List ℕ) (found : Found) (names : List (List ℕ)) (backup : Option Backup) (line : Line) (now : ℕ) (given : List Part) (vg : List ℕ) (n : ℕ) → CanCarryOut base sizes found names backup line now given → line.command ≡ Vgremove vg
+    → n < length (clears_of (state_in found names backup) line now given) → HasFirstBatches (take n (clears_of (state_in found names backup) line now given)) base image → FindsVersion sizes image none_out (version_in found)
+
+-- and once all is written there is none
+abbrev pub RemovedScans : Type 0
+RemovedScans =
+    (base : Image) (sizes : List ℕ) (found : Found) (names : List (List ℕ)) (backup : Option Backup) (line : Line) (now : ℕ) (given : List Part) (vg : List ℕ) → CanCarryOut base sizes found names backup line now given → line.command ≡ Vgremove vg
+    → FindsVersion sizes (with_batches (clears_of (state_in found names backup) line now given) base) none_out None

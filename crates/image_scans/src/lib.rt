@@ -6,4 +6,4 @@
 
 mod laws;
 
-pub use laws::{change_keeps_view, change_scans, change_zeroes};
+pub use laws::{change_clears, change_keeps_view, change_scans, change_zeroes};

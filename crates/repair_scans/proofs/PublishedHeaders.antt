@@ -18,18 +18,19 @@ use Rattle.vg_commit.specs.Written.{area_writes, header_after, header_span, head
 use Rattle.vg_commit.proofs.AreasCommit.{header_covers, one_area}
 use Rattle.vg_found.specs.declared.found.Found.{Found}
 use Rattle.group_ops.specs.Judging.{lies_on}
-use Rattle.vg_change.specs.Batches.{batch_if, label_put}
+use Rattle.vg_change.specs.Batches.{batch_if, clear_put, label_put}
 use Rattle.vg_change.proofs.LabelPuts.{label_where, one_covers, one_tells, one_value}
-use Rattle.vg_repair.specs.Batches.{clear_put, repair_batches, stray_areas, stray_labels, text_batches}
-use Rattle.vg_repair.specs.Building.{AreHeld}
+use Rattle.vg_repair.specs.Batches.{repair_batches, stray_areas, stray_labels, text_batches}
 use Rattle.vg_repair.specs.Stale.{stale_areas, text_of}
 use Rattle.vg_repair.proofs.HeldAreas.{stale_held}
 use Rattle.vg_repair.proofs.StaleOthers.{stale_elsewhere}
 use Rattle.vg_repair.proofs.StrayLabels.{labels_can}
 use Rattle.repair_scans.specs.Laws.{CanRepair}
 use Rattle.image_scans.proofs.Front.{any_if, batches_or}
-use Rattle.repair_scans.proofs.RepairOnTheWay.{IsClearWrite, clear_writes, some_label, stale_far}
+use Rattle.repair_scans.proofs.RepairOnTheWay.{some_label, stale_far}
+use Rattle.image_scans.proofs.ClearWrites.{IsClearWrite, clear_write}
 use Rattle.repair_scans.proofs.StraysApart.{strays_apart}
+use Rattle.vg_change.specs.Building.{AreHeld}
 
 -- ---- the third batch of a commit
 
@@ -97,13 +98,13 @@ module _ (base : Image) (sizes : List ℕ) (found : Found) (p : CanRepair base s
       let pv : ℕ = (get_or stale k d).0.pv in
       let sector : ℕ = (get_or stale k d).0.start / 512 in
       let far : 2048 ≤ (get_or stale k d).0.start = stale_far base sizes found p k d within in
-      let second : Image = with_batches (text_batches (text_of found) stale ++ label_batches) base in
+      let second : Image = with_batches label_batches texts in
       let cleared : with_batches clears second pv sector ≡ second pv sector =
       ⊎_elim
       (λ same. same)
       (λ by.
       let value : List ℕ = with_batches clears second pv sector in
-      let w : IsClearWrite base sizes found p pv sector value = clear_writes base sizes found p pv sector value (any_if (map clear_put (stray_areas found)) pv sector value by) in
+      let w : IsClearWrite (stray_areas found) pv sector value = clear_write (stray_areas found) pv sector value (any_if (map clear_put (stray_areas found)) pv sector value by) in
       absurd (true≢false (sym (filter_passes (lies_on found.strays) found.areas w.number no_area w.among) ∙ ap (contains found.strays) w.disk ∙ stale_elsewhere found (strays_apart base sizes found p.scan) k d within)))
       (batches_or clears second pv sector)
       in
@@ -116,8 +117,7 @@ module _ (base : Image) (sizes : List ℕ) (found : Found) (p : CanRepair base s
       absurd (omega (arith, far, low, w.3)))
       (batches_or label_batches texts pv sector)
       in
-      ap (λ (i : Image). i pv sector) (batches_append (text_batches (text_of found) stale ++ label_batches) clears base) ∙ cleared
-      ∙ ap (λ (i : Image). i pv sector) (batches_append (text_batches (text_of found) stale) label_batches base) ∙ labelled
+      ap (λ (i : Image). i pv sector) (batches_append (text_batches (text_of found) stale) (label_batches ++ clears) base ∙ batches_append label_batches clears texts) ∙ cleared ∙ labelled
 
   -- the header of each stale area is as it publishes the text
   pub header_published : (k : ℕ) (d : Area × Option Locn) → k < length stale

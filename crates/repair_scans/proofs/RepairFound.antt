@@ -1,6 +1,6 @@
 -- What a scan finds on the way of a repair.
-use Rattle.std.proofs.Common.{◌≡◌, ℕ, zero, suc, ◌+◌, cond, Bool, true, false, not, ◌&&◌, ◌||◌, List, [], ◌∷◌, map, Option, Some, None, inl, inr, ⊎_elim, refl, sym, ap, subst, ◌∙◌, arith}
-use Rattle.std.specs.Prelude.{filter, filter_map, option_map, slice_get, unwrap_or}
+use Rattle.std.proofs.Common.{◌≡◌, ℕ, zero, suc, ◌+◌, Bool, true, false, not, ◌&&◌, List, [], ◌∷◌, Option, Some, None, inl, inr, ⊎_elim, refl, sym, ap, subst, ◌∙◌, arith}
+use Rattle.std.specs.Prelude.{filter_map, option_map, slice_get, unwrap_or}
 use Rattle.std.specs.FinSet as set
 use Rattle.std.specs.List.{Contains, cons_option, list_any}
 use Rattle.std.specs.Option.{option_and_then}
@@ -11,10 +11,9 @@ use Rattle.disk_batch.specs.InTurn.{HasFirstBatches, Put}
 use Rattle.disk_batch.proofs.FrontBatches.{none_front}
 use Rattle.disk_model.specs.Steps.{Image, IsSame}
 use Rattle.meta_model.specs.declared.group.Group.{Group}
-use Rattle.meta_model.specs.declared.pv.Pv.{Pv}
 use Rattle.pv_header.specs.declared.header.PvHeader.{PvHeader}
-use Rattle.scan_rules.specs.Decision.{Area, AreaReading, Conflict, Copy, DuplicatePv, Found as PvOf, FoundGroup, GivesNoLater, HasShape as IsShaped, Held, NoCopy, NoGroup, PvShape, Reading, SameHeaders, SamePv, ScanAnswer, TwoGroups, Unsupported, decide_scan, gives, holds, is_held, is_listed, lists}
-use Rattle.scan_rules.specs.Found.{is_missing, missing_of}
+use Rattle.scan_rules.specs.Decision.{Area, AreaReading, Conflict, Copy, DuplicatePv, Found as PvOf, FoundGroup, GivesNoLater, HasShape as IsShaped, Held, NoCopy, NoGroup, PvShape, Reading, SamePv, ScanAnswer, TwoGroups, Unsupported, decide_scan, gives, holds, is_held, is_listed, lists}
+use Rattle.scan_rules.specs.Found.{missing_of}
 use Rattle.scan_rules.specs.Laws.{IsStray}
 use Rattle.scan_rules.proofs.Repairs.{strays_exact}
 use Rattle.scan_rules.proofs.Scanning.{same_bytes_to}
@@ -30,7 +29,7 @@ use Rattle.vg_repair.specs.Stale.{text_of}
 use Rattle.vg_repair.proofs.Nothing.{leaves_all}
 use Rattle.repair_scans.specs.Laws.{CanRepair, FindsAgain}
 use Rattle.image_scans.specs.Versions.{Version}
-use Rattle.image_scans.proofs.Again.{AreasAgain, DisksAgain, Finds, GivesAgain, PvAgain, again_give, again_headers, finds_newest, same_ids}
+use Rattle.image_scans.proofs.Again.{AreasAgain, DisksAgain, Finds, GivesAgain, PvAgain, again_give, again_headers, finds_newest, missing_same}
 use Rattle.image_scans.proofs.CommitScans.{disks_by_ids, none_unread}
 use Rattle.image_scans.proofs.Decided.{IsFoundWith, found_parts}
 use Rattle.image_scans.proofs.DiskAgain.{AllAgain, DiskAgain, all_again}
@@ -109,17 +108,6 @@ same_id header None own read is has same = absurd cc
 same_id header (Some other) own None is has same = absurd same
 same_id header (Some other) own (Some pv) is has same =
     ap (λ (x : PvOf). x.id) (sym (same_Some pv own has)) ∙ sym same.0 ∙ ap (λ (x : PvHeader). x.id) (same_Some other header is)
-
--- which physical volumes are missing is told by ids
-kept_same : (pv : List ℕ × Pv) (b : Bool) (xs ys : List (List ℕ × Pv)) → map (λ (x : List ℕ × Pv). x.1.id) xs ≡ map (λ (x : List ℕ × Pv). x.1.id) ys → map (λ (x : List ℕ × Pv). x.1.id) (cond b (pv ∷ xs) xs) ≡ map (λ (x : List ℕ × Pv). x.1.id) (cond b (pv ∷ ys) ys)
-kept_same pv true xs ys same = ap (λ (l : List (List ℕ)). pv.1.id ∷ l) same
-kept_same pv false xs ys same = same
-
-missing_same : (as' bs : List Reading) (pvs : List (List ℕ × Pv)) → SameHeaders as' bs → missing_of as' pvs ≡ missing_of bs pvs
-missing_same as' bs [] same = refl
-missing_same as' bs (pv ∷ pvs) same =
-    kept_same pv (is_missing as' pv) (filter (is_missing as') pvs) (filter (is_missing bs) pvs) (missing_same as' bs pvs same)
-    ∙ ap (λ (b : Bool). map (λ (x : List ℕ × Pv). x.1.id) (cond b (pv ∷ filter (is_missing bs) pvs) (filter (is_missing bs) pvs))) (ap (λ (b : Bool). pv.1.missing || not b) (same_ids pv.1.id as' bs same))
 
 module _ (base : Image) (sizes : List ℕ) (found : Found) (p : CanRepair base sizes found) where
   abbrev readings : List Reading

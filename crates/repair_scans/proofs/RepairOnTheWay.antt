@@ -1,23 +1,20 @@
 -- An image on the way of a repair: each disk reads again, but for areas that give the text that was found, or nothing.
-use Rattle.std.proofs.Common.{◌≡◌, ◌≤◌, ◌<◌, ◌⊎◌, ℕ, zero, suc, ◌+◌, ◌*◌, ◌/◌, ◌==◌, ◌&&◌, ◌||◌, not, Bool, true, false, cond, List, [], ◌∷◌, ◌++◌, length, get_or, map, Option, Some, None, inl, inr, ⊎_elim, refl, sym, ap, subst, ◌∙◌, arith}
-use Rattle.std.specs.Prelude.{All, filter_map, option_map, slice_get}
+use Rattle.std.proofs.Common.{◌≡◌, ◌≤◌, ◌<◌, ◌⊎◌, ℕ, zero, suc, ◌+◌, ◌*◌, ◌/◌, ◌==◌, ◌&&◌, ◌||◌, not, Bool, true, false, List, [], ◌∷◌, length, get_or, map, Option, Some, None, inl, inr, ⊎_elim, refl, sym, ap, subst, ◌∙◌, arith}
+use Rattle.std.specs.Prelude.{All, slice_get}
 use Rattle.std.specs.FinSet as set
-use Rattle.std.specs.List.{cons_option, enumerate_from, list_any}
+use Rattle.std.specs.List.{list_any}
 use Rattle.std.specs.Option.{option_and_then}
-use Rattle.std.specs.Ordering.{nat_cmp}
 use Rattle.std.proofs.lemmas.Bool.{and_from, and_parts, cases_Bool, cases_lt, eq-eqb, eqb-true, or_cases, or_left, true≢false}
-use Rattle.std.proofs.lemmas.List.Elements.{All-cons, All-filter, All-nil, filter_passes, recursion_from_All}
+use Rattle.std.proofs.lemmas.List.Elements.{All-filter, filter_passes, recursion_from_All}
 use Rattle.std.proofs.lemmas.Option.{same_Some}
 use Rattle.disk_batch.specs.InTurn.{HasFirstBatches, with_batches}
 use Rattle.disk_batch.specs.Writes.{IsWrittenBy}
 use Rattle.disk_batch.proofs.InTurn.{batches_append}
 use Rattle.disk_model.specs.Steps.{Image}
 use Rattle.mda_header.specs.declared.header.Locn.{Locn}
-use Rattle.mda_header.specs.HeaderBytes.{header_bytes}
 use Rattle.mda_ring.specs.declared.area.Area.{Area}
 use Rattle.mda_ring.specs.Areas.{CanTake}
 use Rattle.mda_ring.specs.Ring.{need, room}
-use Rattle.mda_ring.proofs.SpanLaws.{covers_tells}
 use Rattle.meta_model.specs.declared.group.Group.{Group}
 use Rattle.pv_header.specs.PvHeader.{IsPvHeader}
 use Rattle.pv_header.specs.declared.header.PvHeader.{PvHeader}
@@ -31,7 +28,6 @@ use Rattle.disk_contents.specs.Standing.{area_on}
 use Rattle.scan_rules.specs.Decision.{Area as AreaOf, AreaReading, Copy, Found as PvOf, HoldsNone, Reading, Refused, gives, lists}
 use Rattle.vg_commit.proofs.Disks.{no_area}
 use Rattle.vg_commit.specs.SectorReading.{IsSized, ShowsBy, old_reading}
-use Rattle.vg_commit.specs.Written.{header_of, header_span}
 use Rattle.vg_found.specs.declared.disk.Disk.{Disk}
 use Rattle.vg_found.specs.declared.found.Found.{Found}
 use Rattle.vg_found.specs.Disks.{areas_on, held_area, held_areas, header_on}
@@ -41,17 +37,16 @@ use Rattle.vg_scan.specs.Texts.{IsCopyOf}
 use Rattle.group_ops.specs.Added.{pv_in}
 use Rattle.group_ops.specs.Judging.{lies_on}
 use Rattle.group_ops.specs.declared.state.NewLabel.{NewLabel}
-use Rattle.vg_change.specs.Batches.{batch_if, label_bytes, label_put}
+use Rattle.vg_change.specs.Batches.{batch_if, clear_batches, clear_put, label_bytes, label_put}
 use Rattle.vg_change.specs.Laws.{HasLabel, IsKeptOrNew, ShowsEntries, text_in}
 use Rattle.vg_change.specs.Sound.{CanLabel}
 use Rattle.vg_change.proofs.BaseShows.{base_shows, base_sized, shows_alike}
 use Rattle.vg_change.proofs.FarAreas.{IsFar}
 use Rattle.vg_change.proofs.LabelPuts.{label_where, labels_there, with_if}
 use Rattle.vg_change.proofs.LabelsRead.{label_read}
-use Rattle.vg_repair.specs.Batches.{clear_put, repair_batches, stray_areas, stray_labels, text_batches, unused, unused_label}
+use Rattle.vg_repair.specs.Batches.{repair_batches, stray_areas, stray_labels, text_batches}
 use Rattle.vg_repair.specs.Laws.{IsKept}
 use Rattle.vg_repair.specs.Stale.{stale_areas, text_of}
-use Rattle.vg_repair.proofs.ClearBatch.{clear_where}
 use Rattle.vg_repair.proofs.HeldAreas.{each_far, stale_all, stale_held}
 use Rattle.vg_repair.proofs.RepairedShape.{rooms}
 use Rattle.vg_repair.proofs.StrayLabels.{labels_can, labels_differ}
@@ -65,36 +60,8 @@ use Rattle.image_scans.proofs.Front.{AnyWrites, any_append, any_if, batches_or, 
 use Rattle.image_scans.proofs.Given.{AreasGive, GivenHas}
 use Rattle.image_scans.proofs.Labels.{IsSameHeader, four_same}
 use Rattle.image_scans.proofs.MetAreas.{all_placed, area_met, header_met}
-
--- ---- the labels of strays
-
--- each is that of the physical volume that was found on its disk
-abbrev pub IsLabelOn : List Disk → NewLabel → Type 0
-IsLabelOn disks label = (disk : Disk) × (old : PvHeader) × (slice_get disks label.disk ≡ Some disk) × (option_and_then pv_in disk.contents ≡ Some (label.sector, old)) × IsSameHeader old label.header
-
-label_by : (all : List Disk) (number : ℕ) (disk : Disk) → slice_get all number ≡ Some disk → (o : Option (ℕ × PvHeader)) → option_and_then pv_in disk.contents ≡ o → (label : NewLabel)
-    → option_map (λ (pv : ℕ × PvHeader). record { disk = number; sector = pv.0; header = unused pv.1 }) o ≡ Some label → IsLabelOn all label
-label_by all number disk there None is label has = absurd cc
-label_by all number disk there (Some pv) is label has =
-    subst (IsLabelOn all) (same_Some (record { disk = number; sector = pv.0; header = unused pv.1 }) label has) (disk, pv.1, there, is, record { id = refl; held = refl; areas = refl })
-
-label_if : (strays : set.FinSet nat_cmp) (all : List Disk) (number : ℕ) (disk : Disk) → slice_get all number ≡ Some disk → (b : Bool) → set.contains strays number ≡ b → (label : NewLabel)
-    → cond b (option_map (λ (pv : ℕ × PvHeader). record { disk = number; sector = pv.0; header = unused pv.1 }) (option_and_then pv_in disk.contents)) None ≡ Some label → IsLabelOn all label
-label_if strays all number disk there true stray label has = label_by all number disk there (option_and_then pv_in disk.contents) refl label has
-label_if strays all number disk there false stray label has = absurd cc
-
-one_label : (P : NewLabel → Type 0) (o : Option NewLabel) (rest : List NewLabel) → ((label : NewLabel) → o ≡ Some label → P label) → All P rest → All P (cons_option o rest)
-one_label P None rest here all = all
-one_label P (Some label) rest here all = All-cons P label rest (here label refl) all
-
-labels_from : (strays : set.FinSet nat_cmp) (all : List Disk) (first : ℕ) (disks : List Disk) → ((k : ℕ) (disk : Disk) → slice_get disks k ≡ Some disk → slice_get all (first + k) ≡ Some disk)
-    → All (IsLabelOn all) (filter_map (unused_label strays) (enumerate_from first disks))
-labels_from strays all first [] there = All-nil (IsLabelOn all)
-labels_from strays all first (disk ∷ disks) there =
-    let here : slice_get all first ≡ Some disk = subst (λ (n : ℕ). slice_get all n ≡ Some disk) (omega arith) (there 0 disk refl) in
-    one_label (IsLabelOn all) (unused_label strays (first, disk)) (filter_map (unused_label strays) (enumerate_from (first + 1) disks))
-    (λ label has. label_if strays all first disk here (set.contains strays first) refl label has)
-    (labels_from strays all (first + 1) disks (λ k d is. subst (λ (n : ℕ). slice_get all n ≡ Some d) (omega arith) (there (suc k) d is)))
+use Rattle.image_scans.proofs.ClearWrites.{IsClearWrite, clear_write}
+use Rattle.image_scans.proofs.ClearedLabels.{IsLabelOn, labels_on as labels_stand_on}
 
 -- ---- an area among others
 
@@ -200,8 +167,8 @@ module _ (base : Image) (sizes : List ℕ) (found : Found) (p : CanRepair base s
   pub stale_rooms : All (λ (a : Area × Option Locn). need (length text + 1) ≤ room a.0.size a.1) stale
   stale_rooms = rooms text stale p.fits
 
-  labels_on : All (IsLabelOn found.disks) labels
-  labels_on = labels_from found.strays found.disks 0 found.disks (λ k disk there. subst (λ (n : ℕ). slice_get found.disks n ≡ Some disk) (omega arith) there)
+  labels_on : All (IsLabelOn found.strays found.disks) labels
+  labels_on = labels_stand_on found.strays found.disks
 
   -- ---- what is written
 
@@ -210,38 +177,23 @@ module _ (base : Image) (sizes : List ℕ) (found : Found) (p : CanRepair base s
   texts_write [] take fits pv sector value by = absurd by
   texts_write (a ∷ areas) take fits pv sector value by = commit_writes text (a ∷ areas) take fits pv sector value by
 
-  -- the empty header of an area of a stray
-  pub record IsClearWrite (pv sector : ℕ) (value : List ℕ) : Type 0 where
-    pub number : ℕ
-    pub among : number < length cleared
-    pub disk : (get_or cleared number no_area).0.pv ≡ pv
-    pub at : (get_or cleared number no_area).0.start / 512 ≡ sector
-    pub is : value ≡ header_bytes (header_of (get_or cleared number no_area).0 None None)
-
-  -- what the last batch writes
-  pub clear_writes : (pv sector : ℕ) (value : List ℕ) → IsWrittenBy (map clear_put cleared) pv sector value → IsClearWrite pv sector value
-  clear_writes pv sector value by =
-      let w = clear_where cleared no_area pv sector value by in
-      let t = covers_tells (header_span (get_or cleared w.0 no_area).0) pv sector w.2 in
-      record { number = w.0; among = w.1; disk = t.0; at = omega (arith, t.1, t.2); is = w.3 }
-
   -- what any of the batches writes
-  pub writes : (pv sector : ℕ) (value : List ℕ) → AnyWrites (repair_batches found) pv sector value → IsAreaWrite text stale pv sector value ⊎ (IsWrittenBy (map label_put labels) pv sector value ⊎ IsClearWrite pv sector value)
+  pub writes : (pv sector : ℕ) (value : List ℕ) → AnyWrites (repair_batches found) pv sector value → IsAreaWrite text stale pv sector value ⊎ (IsWrittenBy (map label_put labels) pv sector value ⊎ IsClearWrite cleared pv sector value)
   writes pv sector value by =
       ⊎_elim
-      (λ first.
-      ⊎_elim
       (λ texts. inl (texts_write stale (stale_held found p.shape).take stale_rooms pv sector value texts))
+      (λ clears.
+      ⊎_elim
       (λ label. inr (inl (any_if (map label_put labels) pv sector value label)))
-      (any_append (text_batches text stale) (batch_if (map label_put labels)) pv sector value first))
-      (λ last. inr (inr (clear_writes pv sector value (any_if (map clear_put cleared) pv sector value last))))
-      (any_append (text_batches text stale ++ batch_if (map label_put labels)) (batch_if (map clear_put cleared)) pv sector value by)
+      (λ last. inr (inr (clear_write cleared pv sector value (any_if (map clear_put cleared) pv sector value last))))
+      (any_append (batch_if (map label_put labels)) (batch_if (map clear_put cleared)) pv sector value clears))
+      (any_append (text_batches text stale) (clear_batches found.strays found.disks found.areas) pv sector value by)
 
   -- near sectors are those of labels
   text_far : (pv sector : ℕ) (value : List ℕ) → IsAreaWrite text stale pv sector value → 4 ≤ sector
   text_far pv sector value w = let begins : 2048 ≤ (get_or stale w.number no_area).0.start = stale_far w.number no_area w.among in omega (arith, begins, w.from)
 
-  clear_far : (pv sector : ℕ) (value : List ℕ) → IsClearWrite pv sector value → 4 ≤ sector
+  clear_far : (pv sector : ℕ) (value : List ℕ) → IsClearWrite cleared pv sector value → 4 ≤ sector
   clear_far pv sector value w = let begins : 2048 ≤ (get_or cleared w.number no_area).0.start = cleared_far w.number no_area w.among in omega (arith, begins, w.at)
 
   -- some label, where a list has none
@@ -254,17 +206,17 @@ module _ (base : Image) (sizes : List ℕ) (found : Found) (p : CanRepair base s
       let label : NewLabel = get_or labels k d in
       let low : label.sector < 4 = (labels_can found p.shape k d within).sector_below in
       let texts : Image = with_batches (text_batches text stale) base in
-      let first : Image = with_batches (text_batches text stale ++ batch_if (map label_put labels)) base in
+      let first : Image = with_batches (batch_if (map label_put labels)) texts in
       let there : first label.disk label.sector ≡ label_bytes label =
-      ap (λ (i : Image). i label.disk label.sector) (batches_append (text_batches text stale) (batch_if (map label_put labels)) base ∙ with_if (map label_put labels) texts)
-      ∙ labels_there labels texts (labels_differ found p.shape) k d within
+      ap (λ (i : Image). i label.disk label.sector) (with_if (map label_put labels) texts) ∙ labels_there labels texts (labels_differ found p.shape) k d within
       in
-      ap (λ (i : Image). i label.disk label.sector) (batches_append (text_batches text stale ++ batch_if (map label_put labels)) (batch_if (map clear_put cleared)) base)
+      ap (λ (i : Image). i label.disk label.sector)
+      (batches_append (text_batches text stale) (clear_batches found.strays found.disks found.areas) base ∙ batches_append (batch_if (map label_put labels)) (batch_if (map clear_put cleared)) texts)
       ∙ ⊎_elim
       (λ same. same ∙ there)
       (λ by.
       let value : List ℕ = with_batches (batch_if (map clear_put cleared)) first label.disk label.sector in
-      let w : IsClearWrite label.disk label.sector value = clear_writes label.disk label.sector value (any_if (map clear_put cleared) label.disk label.sector value by) in
+      let w : IsClearWrite cleared label.disk label.sector value = clear_write cleared label.disk label.sector value (any_if (map clear_put cleared) label.disk label.sector value by) in
       absurd (omega (arith, low, clear_far label.disk label.sector value w)))
       (batches_or (batch_if (map clear_put cleared)) first label.disk label.sector)
 
@@ -298,7 +250,7 @@ module _ (base : Image) (sizes : List ℕ) (found : Found) (p : CanRepair base s
           (λ same. same)
           (λ by.
           let w = label_where labels some_label pv sector (image pv sector) by in
-          let on : IsLabelOn found.disks (get_or labels w.0 some_label) = labels_on w.0 some_label w.1 in
+          let on : IsLabelOn found.strays found.disks (get_or labels w.0 some_label) = labels_on w.0 some_label w.1 in
           let same : disk ≡ on.0 = same_Some disk on.0 (sym there ∙ ap (slice_get found.disks) (sym w.2) ∙ on.2) in
           absurd (let e : ◌≡◌ {A = Option (ℕ × PvHeader)} None (Some ((get_or labels w.0 some_label).sector, on.1)) = sym none ∙ ap (λ (d : Disk). option_and_then pv_in d.contents) same ∙ on.3 in cc))
           (near pv sector low)
@@ -309,7 +261,7 @@ module _ (base : Image) (sizes : List ℕ) (found : Found) (p : CanRepair base s
         of_label sector value by =
             let w = label_where labels some_label pv sector value by in
             let new : NewLabel = get_or labels w.0 some_label in
-            let on : IsLabelOn found.disks new = labels_on w.0 some_label w.1 in
+            let on : IsLabelOn found.strays found.disks new = labels_on w.0 some_label w.1 in
             let same : disk ≡ on.0 = same_Some disk on.0 (sym there ∙ ap (slice_get found.disks) (sym w.2) ∙ on.2) in
             let both : ◌≡◌ {A = Option (ℕ × PvHeader)} (Some (label, header)) (Some (new.sector, on.1)) = sym (ap (option_and_then pv_in) is) ∙ ap (λ (d : Disk). option_and_then pv_in d.contents) same ∙ on.3 in
             let pair : (label, header) ≡ (new.sector, on.1) = same_Some (label, header) (new.sector, on.1) both in
@@ -351,7 +303,7 @@ module _ (base : Image) (sizes : List ℕ) (found : Found) (p : CanRepair base s
           placed : IsPlaced areas area
           placed = all_placed found.disks are_disks pv disk there label header areas is k d within
 
-          is_cleared : IsClearWrite pv (area.area.offset / 512) (image pv (area.area.offset / 512)) → IsCleared pv image (lost header.id) area
+          is_cleared : IsClearWrite cleared pv (area.area.offset / 512) (image pv (area.area.offset / 512)) → IsCleared pv image (lost header.id) area
           is_cleared clear =
               let sector : ℕ = area.area.offset / 512 in
               let b : Area × Option Locn = get_or cleared clear.number no_area in

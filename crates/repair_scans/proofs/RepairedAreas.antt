@@ -30,13 +30,13 @@ use Rattle.vg_found.specs.Disks.{held_area, held_by}
 use Rattle.vg_scan.specs.Readings.{IsAreaReading, IsGiven}
 use Rattle.vg_scan.specs.Texts.{IsCopyOf, IsStored, stored_bytes}
 use Rattle.group_ops.specs.Judging.{lies_on}
-use Rattle.vg_change.specs.Laws.{text_in}
+use Rattle.vg_change.specs.Laws.{IsEmpty, text_in}
 use Rattle.vg_change.proofs.BaseShows.{base_shows, base_sized, shows_alike}
 use Rattle.vg_repair.specs.Batches.{repair_batches}
-use Rattle.vg_repair.specs.Laws.{IsEmpty, IsRight}
+use Rattle.vg_repair.specs.Laws.{IsRight}
 use Rattle.vg_repair.specs.Repaired.{repaired_area, repaired_held, with_entry}
 use Rattle.vg_repair.specs.Stale.{is_among, text_of}
-use Rattle.vg_repair.proofs.Flagged.{each_of_filtered}
+use Rattle.vg_change.proofs.Filtered.{each_of_filtered}
 use Rattle.vg_repair.proofs.HeldAreas.{stale_held}
 use Rattle.vg_repair.proofs.RepairedShape.{area_kept}
 use Rattle.repair_scans.specs.Laws.{CanRepair}

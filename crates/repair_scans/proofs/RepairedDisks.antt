@@ -21,7 +21,7 @@ use Rattle.vg_found.specs.Disks.{header_on}
 use Rattle.group_ops.specs.Added.{pv_in}
 use Rattle.vg_scan.specs.Readings.{AreAreaReadings, AreDiskReadings, AreReadings, IsAreaReading, IsContents, IsDiskReading, IsPvReading}
 use Rattle.vg_scan.specs.Texts.{IsCopyOf}
-use Rattle.vg_repair.specs.Batches.{repair_batches, unused}
+use Rattle.vg_repair.specs.Batches.{repair_batches}
 use Rattle.vg_repair.specs.Repaired.{repaired_area, repaired_areas, repaired_contents, repaired_disk, repaired_disks}
 use Rattle.vg_repair.specs.Stale.{text_of}
 use Rattle.vg_repair.proofs.Numbered.{mapped_same}
@@ -32,6 +32,7 @@ use Rattle.repair_scans.proofs.RepairOnTheWay.{without_header}
 use Rattle.repair_scans.proofs.RepairedAreas.{area_repaired}
 use Rattle.repair_scans.proofs.RepairedLabels.{label_repaired}
 use Rattle.repair_scans.proofs.RepairedReadings.{area_after, pv_after, reading_after, readings_after}
+use Rattle.group_ops.specs.Cleared.{unused}
 
 module _ (base : Image) (sizes : List ℕ) (found : Found) (p : CanRepair base sizes found) (group : Group) (passed : List (List ℕ)) (copy : IsCopyOf (text_of found) group passed)
     (unlisted : (pv : ℕ) (disk : Disk) (header : PvHeader) → slice_get found.disks pv ≡ Some disk → header_on disk.contents ≡ Some header → set.contains found.strays pv ≡ true → lists group header.id ≡ false) where

@@ -25,13 +25,14 @@ use Rattle.group_ops.specs.Added.{pv_in}
 use Rattle.group_ops.specs.declared.state.NewLabel.{NewLabel}
 use Rattle.vg_change.specs.Laws.{HasLabel}
 use Rattle.vg_change.proofs.LabelPuts.{label_where}
-use Rattle.vg_repair.specs.Batches.{repair_batches, stray_labels, unused, unused_label}
+use Rattle.vg_repair.specs.Batches.{repair_batches, stray_labels}
 use Rattle.vg_repair.proofs.Numbered.{all_in}
 use Rattle.repair_scans.specs.Laws.{CanRepair}
 use Rattle.image_scans.proofs.CommitLine.{all_written}
 use Rattle.image_scans.proofs.Labels.{header_again, label_again, of_four}
 use Rattle.repair_scans.proofs.RepairOnTheWay.{label_stands, near, shown, some_label}
 use Rattle.repair_scans.proofs.StraysApart.{in_at}
+use Rattle.group_ops.specs.Cleared.{unused, unused_label}
 
 -- a label that is written is on a stray
 label_of_stray : (found : Found) (number : ℕ) (stray : Bool) (o : Option (ℕ × PvHeader)) (label : NewLabel) → contains found.strays number ≡ stray
