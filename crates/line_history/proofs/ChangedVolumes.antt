@@ -1,5 +1,5 @@
 -- The version that a line commits has the volumes that its command makes of those that were found.
-use Rattle.std.proofs.Common.{◌≡◌, ℕ, zero, suc, ◌+◌, ◌*◌, List, [], ◌∷◌, ◌++◌, map, Option, Some, None, true, refl, sym, ap, subst, ◌∙◌}
+use Rattle.std.proofs.Common.{◌≡◌, ℕ, zero, suc, ◌+◌, ◌*◌, List, [], ◌∷◌, ◌++◌, map, Option, Some, None, true, false, refl, sym, ap, subst, ◌∙◌}
 use Rattle.std.specs.Prelude.{IfSome, IsSomeAnd, option_map, slice_get, slice_index, unwrap_or}
 use Rattle.std.specs.Option.{option_map_or}
 use Rattle.std.proofs.lemmas.Option.{same_Some}
@@ -8,7 +8,7 @@ use Rattle.extent_alloc.specs.declared.part.Part.{Part}
 use Rattle.lvm_script.specs.declared.amount.Amount.{Amount}
 use Rattle.lvm_script.specs.declared.amount.Growth.{Growth}
 use Rattle.lvm_script.specs.declared.command.Command.{Command}
-use Rattle.lvm_script.specs.declared.command.Command.TheVariants.{Lvcreate, Lvextend, Lvreduce, Lvremove, Lvrename, Pvcreate, Vgcreate, Vgextend, Vgrename}
+use Rattle.lvm_script.specs.declared.command.Command.TheVariants.{Lvcreate, Lvextend, Lvreduce, Lvremove, Lvrename, Pvcreate, Vgcfgrestore, Vgcreate, Vgextend, Vgreduce, Vgremove, Vgrename}
 use Rattle.lvm_script.specs.declared.command.NewVolume.{NewVolume}
 use Rattle.lvm_script.specs.declared.command.Path.{Path}
 use Rattle.lvm_script.specs.declared.line.Line.{Line}
@@ -49,7 +49,7 @@ use Rattle.group_ops.specs.Lvreduce.{kept_by, reduce_change, reduce_in_rows, red
 use Rattle.group_ops.specs.Lvremove.{remove_change, remove_in_rows, remove_lv_rows}
 use Rattle.group_ops.specs.Lvrename.{rename_in_rows, rename_lv_rows}
 use Rattle.group_ops.specs.NewGroup.{extended, free_number, names_in, pv_name, with_added}
-use Rattle.group_ops.specs.Planning.{IsPlanned, asks_of, change_of, extend_by, refusal_of}
+use Rattle.group_ops.specs.Planning.{IsBackupOf, IsPlanned, asks_of, change_of, extend_by, refusal_of}
 use Rattle.group_ops.specs.Vgcreate.{empty_group}
 use Rattle.group_ops.specs.Volumes.{rows_on}
 use Rattle.group_ops.specs.declared.added.Added.{Added}
@@ -67,6 +67,18 @@ use Rattle.line_history.proofs.LongerVolumes.{create_changes, extend_changes}
 use Rattle.line_history.proofs.RemovedVolumes.{volumes_removed}
 use Rattle.line_history.proofs.RenamedVolumes.{named_in, volumes_renamed}
 use Rattle.line_history.proofs.ShortenedVolumes.{volumes_shortened}
+use Rattle.std.specs.List.{remove}
+use Rattle.std.proofs.lemmas.Option.{slice_get-map}
+use Rattle.group_edits.specs.ReducedGroup.{has_leg_on_pv, reduced_group as without_pv}
+use Rattle.group_ops.proofs.Leaving.{LeavesNext, leaves_next}
+use Rattle.group_ops.specs.Vgreduce.{vgreduce_change}
+use Rattle.line_history.proofs.LeftVolumes.{volumes_left}
+use Rattle.group_ops.specs.declared.backup.Backup.{Backup}
+use Rattle.group_edits.specs.RestoredGroup.{restored_group}
+use Rattle.group_ops.proofs.Restoring.{Restores, restores, sound_tree}
+use Rattle.group_ops.specs.Vgcfgrestore.{vgcfgrestore_change}
+use Rattle.line_history.proofs.ReadBackups.{some_backup}
+use Rattle.line_history.proofs.RestoredVolumes.{restore_changes}
 
 -- ---- lists
 
@@ -106,9 +118,9 @@ named_behind (Some refusal ∷ front) group name rows passes = absurd cc
 
 -- ---- the commands
 
-module _ (found : Found) (names : List (List ℕ)) where
+module _ (found : Found) (names : List (List ℕ)) (backup : Option Backup) where
   abbrev state : GroupState
-  state = state_in found names
+  state = state_in found names backup
 
   create_keeps : (id vg : List ℕ) (extent_size : ℕ) (pvs : List (List ℕ)) (change : Change) (group : Group) → found.group ≡ None → extended (empty_group id vg extent_size) (added_of state pvs) ≡ group
       → ChangesVolumes (Vgcreate vg extent_size pvs) (version_in found) (Some (version_of group change))
@@ -178,6 +190,23 @@ module _ (found : Found) (names : List (List ℕ)) where
       refl,
     )
 
+    -- vgreduce: a physical volume without legs has left
+    leave_changes : (vg pv : List ℕ) (old : Group) (number : ℕ) → found.group ≡ Some old → has_leg_on_pv old number ≡ false
+        → ChangesVolumes (Vgreduce vg pv) (version_in found) (Some (record { group = without_pv old number; disk_of = remove found.disk_of number }))
+    leave_changes vg pv old number there unused = (
+      ap (λ (l : List ℕ). volumes_of (Some (record { group = without_pv old number; disk_of = remove l number }))) (listed old there)
+          ∙ volumes_left (was old) number unused (accepted old there) (λ k row is. (disk_with found.disks row.1.id, slice_get-map (λ (r : List ℕ × Pv). disk_with found.disks r.1.id) old.pvs k ∙ ap (option_map (λ (r : List ℕ × Pv). disk_with found.disks r.1.id)) is))
+          ∙ sym (ap volumes_of (version_found old there)),
+      sym (ap group_name (version_found old there)),
+    )
+
+    left_by : (vg pv : List ℕ) (change : Change) (now : ℕ) → LeavesNext state change now → (group : Group) → change.group ≡ Some group → ChangesVolumes (Vgreduce vg pv) (version_in found) (Some (version_of group change))
+    left_by vg pv change now left =
+        subst (λ (c : Change). (group : Group) → c.group ≡ Some group → ChangesVolumes (Vgreduce vg pv) (version_in found) (Some (version_of group c))) (sym left.change_xl)
+        (λ group is.
+        subst (λ (g : Group). ChangesVolumes (Vgreduce vg pv) (version_in found) (Some (record { group = g; disk_of = remove found.disk_of left.number }))) (same_Some (without_pv left.old left.number) group is)
+        (leave_changes vg pv left.old left.number left.there left.may.unused))
+
     -- lvrename: a visible volume has another name
     rename_changes : (vg name new : List ℕ) (old : Group) → found.group ≡ Some old → (v : ℕ × Lv) → visible_named old name ≡ Some v
         → ChangesVolumes (Lvrename vg name new) (version_in found) (Some (version_of (renamed_volume name new old) (version_change state (renamed_volume name new old))))
@@ -233,6 +262,18 @@ module _ (found : Found) (names : List (List ℕ)) where
         subst (λ (before : Option Version). ChangesVolumes (Lvextend path growth pvs) before (Some (on_disks (longer_volume path.lv given old)))) (sym (version_found old there))
         (extend_changes path growth pvs given (was old) found.disk_of (accepted old there) (same_disks old (longer_volume path.lv given old) there) (trees old there) v seen)
 
+    -- vgcfgrestore: the volumes of its text
+    restored_by : (vg text : List ℕ) (change : Change) (now : ℕ) → IsBackupOf (Vgcfgrestore vg text) backup → Restores state change now → (group : Group) → change.group ≡ Some group
+        → ChangesVolumes (Vgcfgrestore vg text) (version_in found) (Some (version_of group change))
+    restored_by vg text change now gives_back made =
+        let sound = sound_tree text made.said (subst (λ (b : Option Backup). IsBackupOf (Vgcfgrestore vg text) b) made.gives gives_back) in
+        let whole = made.whole (accepted made.old made.there) sound.0 sound.1 in
+        subst (λ (c : Change). (group : Group) → c.group ≡ Some group → ChangesVolumes (Vgcfgrestore vg text) (version_in found) (Some (version_of group c))) (sym made.change_xl)
+        (λ group is.
+        subst (λ (g : Group). ChangesVolumes (Vgcfgrestore vg text) (version_in found) (Some (record { group = g; disk_of = disks_of made.said found.disks }))) (same_Some (restored_group made.old made.said) group is)
+        (subst (λ (before : Option Version). ChangesVolumes (Vgcfgrestore vg text) before (Some (record { group = restored_group made.old made.said; disk_of = disks_of made.said found.disks })))
+        (sym (version_found made.old made.there)) (restore_changes vg text (was made.old) made.said (disks_of made.said found.disks) (trees made.old made.there) whole.accepted made.same_name)))
+
     -- lvcreate: there is one volume more
     created_by : (id : List ℕ) (new : NewVolume) (now : ℕ) (given : List Part) (made : Creates state id new now given)
         → ChangesVolumes (Lvcreate new) (version_in found) (Some (version_of (created_group id new now given made.old) (version_change state (created_group id new now given made.old))))
@@ -244,46 +285,50 @@ module _ (found : Found) (names : List (List ℕ)) where
     abbrev extend_rows_on : Path → Growth → List (List ℕ) → ℕ → List Part → Group → ℕ × Lv → List (Option OpRefusal)
     extend_rows_on path growth pvs now given old volume = extend_lv_rows state path.lv growth pvs old volume ++ lengthen_rows state path.lv now old given
 
-    by_command : (number : ℕ) (id : Option (List ℕ)) (command : Command) (now : ℕ) (given : List Part) → IsPlanned id command → Takes (asks_of state (record { number = number; id = id; command = command })) given → refusal_of state (record { number = number; id = id; command = command }) now given ≡ None
+    by_command : (number : ℕ) (id : Option (List ℕ)) (command : Command) (now : ℕ) (given : List Part) → IsPlanned id command → IsBackupOf command backup → Takes (asks_of state (record { number = number; id = id; command = command })) given → refusal_of state (record { number = number; id = id; command = command }) now given ≡ None
         → (group : Group) → (change_of state (record { number = number; id = id; command = command }) now given).group ≡ Some group
         → ChangesVolumes command (version_in found) (Some (version_of group (change_of state (record { number = number; id = id; command = command }) now given)))
-    by_command number id (Pvcreate pv copies) now given planned takes passes group is = absurd cc
-    by_command number id (Vgcreate vg extent_size pvs) now given planned takes passes group is =
+    by_command number id (Pvcreate pv copies) now given planned gives_back takes passes group is = absurd cc
+    by_command number id (Vgcreate vg extent_size pvs) now given planned gives_back takes passes group is =
         create_keeps (unwrap_or id []) vg extent_size pvs (change_of state (record { number = number; id = id; command = Vgcreate vg extent_size pvs }) now given) group (none_found vg _ found.group passes)
         (same_Some (extended (empty_group (unwrap_or id []) vg extent_size) (added_of state pvs)) group is)
-    by_command number id (Vgextend vg pvs) now given planned takes passes group is = extend_keeps vg pvs found.group refl group is
-    by_command number id (Vgrename vg new) now given planned takes passes group is =
+    by_command number id (Vgextend vg pvs) now given planned gives_back takes passes group is = extend_keeps vg pvs found.group refl group is
+    by_command number id (Vgreduce vg pv) now given planned gives_back takes passes group is = left_by vg pv (vgreduce_change state pv) now (leaves_next state vg pv now passes) group is
+    by_command number id (Vgremove vg) now given planned gives_back takes passes group is = absurd cc
+    by_command number id (Vgrename vg new) now given planned gives_back takes passes group is =
         where_found (Vgrename vg new) (λ g. version_change state (renamed_group g new)) found.group refl (λ old there. of_version (Vgrename vg new) (renamed_group old new) (named_keeps vg new old there)) group is
-    by_command number id (Lvrename vg name new) now given planned takes passes group is =
+    by_command number id (Lvrename vg name new) now given planned gives_back takes passes group is =
         where_found (Lvrename vg name new) (λ g. version_change state (renamed_volume name new g)) found.group refl
         (λ old there.
         let seen = named_behind (named_rows old vg) old name (rename_lv_rows state name new now old) (rows_pass vg (rename_in_rows state vg name new now) old there passes) in
         of_version (Lvrename vg name new) (renamed_volume name new old) (rename_changes vg name new old there seen.0 seen.1))
         group is
-    by_command number id (Lvremove path) now given planned takes passes group is =
+    by_command number id (Lvremove path) now given planned gives_back takes passes group is =
         where_found (Lvremove path) (remove_change state path.lv) found.group refl
         (λ old there.
         let seen = named_behind (named_rows old path.vg) old path.lv (remove_lv_rows state path.lv now old) (rows_pass path.vg (remove_in_rows state path now) old there passes) in
         removed_by path old there seen.0 seen.1)
         group is
-    by_command number id (Lvcreate new) now given planned takes passes group is =
+    by_command number id (Lvcreate new) now given planned gives_back takes passes group is =
         let own : List ℕ = unwrap_or id [] in
         let made : Creates state own new now given = creates state own new now given (drawn_is id planned.0) planned.1 found.group refl takes passes in
         subst (λ (change : Change). (g : Group) → change.group ≡ Some g → ChangesVolumes (Lvcreate new) (version_in found) (Some (version_of g change))) (sym made.change_xl)
         (of_version (Lvcreate new) (created_group own new now given made.old) (created_by own new now given made)) group is
-    by_command number id (Lvextend path growth pvs) now given planned takes passes group is =
+    by_command number id (Lvextend path growth pvs) now given planned gives_back takes passes group is =
         where_found (Lvextend path growth pvs) (λ g. version_change state (longer_volume path.lv given g)) found.group refl
         (λ old there.
         let seen = named_behind (named_rows old path.vg) old path.lv (extend_rows_on path growth pvs now given old) (rows_pass path.vg (λ g. extend_in_rows state path growth pvs now g given) old there passes) in
         of_version (Lvextend path growth pvs) (longer_volume path.lv given old) (extended_by path growth pvs given old there seen.0 seen.1))
         group is
-    by_command number id (Lvreduce path amount) now given planned takes passes group is =
+    by_command number id (Lvreduce path amount) now given planned gives_back takes passes group is =
         where_found (Lvreduce path amount) (reduce_change state path.lv amount) found.group refl
         (λ old there.
         let seen = named_behind (named_rows old path.vg) old path.lv (reduce_lv_rows state path.lv amount now old) (rows_pass path.vg (reduce_in_rows state path amount now) old there passes) in
         reduced_by path amount old there seen.0 seen.1)
         group is
-    by_command number id command now given planned takes passes group is = absurd planned
+    by_command number id (Vgcfgrestore vg text) now given planned gives_back takes passes group is =
+        restored_by vg text (vgcfgrestore_change state) now gives_back (restores state vg now (some_backup vg text backup gives_back) passes) group is
+    by_command number id command now given planned gives_back takes passes group is = absurd planned
 
 -- ---- the line
 
@@ -292,7 +337,7 @@ found_tree : (readings : List Reading) (found : Found) → IsSettledScan reading
 found_tree readings found (settled_none nothing none given) group is = absurd (let e : ◌≡◌ {A = Option Group} None (Some group) = sym none ∙ is in cc)
 found_tree readings found (settled_some held parts some copy given all) group is = subst HasTree (same_Some held.group group (sym some ∙ is)) (copy_tree held.text held.group held.passed copy)
 
-pub commit_changes_volumes : (base : Image) (sizes : List ℕ) (found : Found) (names : List (List ℕ)) (line : Line) (now : ℕ) (given : List Part) → CanCarryOut base sizes found names line now given → (group : Group)
-    → (change_of (state_in found names) line now given).group ≡ Some group → ChangesVolumes line.command (version_in found) (Some (version_of group (change_of (state_in found names) line now given)))
-commit_changes_volumes base sizes found names line now given p group is =
-    by_command found names p.shape (found_accepted base sizes found p.scan) (found_tree p.scan.readings found (settled base sizes found names line now given p)) line.number line.id line.command now given p.planned p.takes p.passes group is
+pub commit_changes_volumes : (base : Image) (sizes : List ℕ) (found : Found) (names : List (List ℕ)) (backup : Option Backup) (line : Line) (now : ℕ) (given : List Part) → CanCarryOut base sizes found names backup line now given → (group : Group)
+    → (change_of (state_in found names backup) line now given).group ≡ Some group → ChangesVolumes line.command (version_in found) (Some (version_of group (change_of (state_in found names backup) line now given)))
+commit_changes_volumes base sizes found names backup line now given p group is =
+    by_command found names backup p.shape (found_accepted base sizes found p.scan) (found_tree p.scan.readings found (settled base sizes found names backup line now given p)) line.number line.id line.command now given p.planned p.given_back p.takes p.passes group is

@@ -9,6 +9,7 @@ use Rattle.scan_rules.specs.Decision.{AreaReading, Reading}
 use Rattle.vg_found.specs.Shape.{IsUnread}
 use Rattle.vg_found.specs.declared.disk.Disk.{Disk}
 use Rattle.vg_scan.specs.Readings.{AreDiskReadings, IsDiskReading}
+use Rattle.image_scans.proofs.DiskAgain.{DiskAgain}
 use Rattle.image_scans.proofs.Given.{DisksGive, PvGives}
 
 -- a disk as it is found and reads in an image, where it is read
@@ -19,6 +20,18 @@ pub record OneRead (pv : ℕ) (sector_at : ℕ → List ℕ) (P : AreaReading �
   pub is_read : there.contents ≡ None → ⊥
   pub is : IsDiskReading pv sector_at there read
   pub gives : PvGives P read.pv
+
+-- by how it read before
+pub read_again : (pv : ℕ) (sector_at : ℕ → List ℕ) (P : AreaReading → Type 0) (may : List ℕ → Bool) (bare : List ℕ → AreaReading → Bool) (new : AreaReading) (disk : Disk) (reading : Reading) (d : DiskAgain pv sector_at may bare new disk reading)
+    → (disk.contents ≡ None → ⊥) → PvGives P d.read.pv → OneRead pv sector_at P disk
+read_again pv sector_at P may bare new disk reading d is_read gives =
+    record { there = d.there; read = d.read; sectors_xl = d.sectors_xl; is_read = λ none. is_read (d.unread none); is = d.is; gives = gives }
+
+-- where its sectors are the same it reads as before
+pub read_same : (pv : ℕ) (old sector_at : ℕ → List ℕ) (P : AreaReading → Type 0) (disk : Disk) (reading : Reading) → ((sector : ℕ) → sector_at sector ≡ old sector) → IsDiskReading pv old disk reading → (disk.contents ≡ None → ⊥) → PvGives P reading.pv
+    → OneRead pv sector_at P disk
+read_same pv old sector_at P disk reading same is is_read gives =
+    record { there = disk; read = reading; sectors_xl = refl; is_read = is_read; is = subst (λ (at : ℕ → List ℕ). IsDiskReading pv at disk reading) (λ i sector. sym (same sector) i) is; gives = gives }
 
 -- all disks, of which some are left unread
 pub record SetRead (image : Image) (unread : set.FinSet nat_cmp) (first : ℕ) (P : AreaReading → Type 0) (disks : List Disk) : Type 0 where

@@ -3,6 +3,8 @@ use Rattle.std.proofs.Common.{◌≡◌, ℕ, true, Option, Some, ⊎_elim, refl
 use Rattle.std.proofs.Math.Path.{fun_ext}
 use Rattle.sector_base.specs.declared.places.At.{At}
 use Rattle.disk_batch.specs.InTurn.{HasFirstBatches, with_batches}
+use Rattle.disk_model.specs.CrashValues.{IsImage}
+use Rattle.disk_model.specs.Durability.{IsBase}
 use Rattle.disk_model.specs.Steps.{Image, IsSame, Told}
 use Rattle.image_scans.proofs.CommitLine.{all_written}
 use Rattle.image_scans.proofs.LineScans.{base_scans}
@@ -26,6 +28,10 @@ use Rattle.line_history.specs.LineRun.{Given, RunsLine, Stage, is_repaired, repa
 -- images that are the same in each sector are one
 pub one_image : (a b : Image) → IsSame a b → a ≡ b
 one_image a b same = fun_ext (λ pv. fun_ext (λ sector. same pv sector))
+
+-- where each sector has one possible value an image is that
+pub image_of_base : (told : Told) (base image : Image) → IsBase told base → IsImage told image → image ≡ base
+image_of_base told base image base_is is = one_image image base (λ pv sector. let left = is pv sector in (base_is pv sector).each left.0 (image pv sector) left.1)
 
 -- the places of the volumes of the group that was found have what they have in the base
 abbrev pub KeepsPlaces : Given → Image → Type 0
@@ -85,7 +91,7 @@ module _ (scans : RepairedScans) (g : Given) (stage : Stage) (start ended : Told
     -- ---- and its zeros were begun
     module _ (zeros : zeros_begun stage ≡ true) where
       -- the line can be carried out on any base of which a scan finds that
-      can_on : (base : Image) → IsScanOf base g.sizes (repaired_of g.found) → CanCarryOut base g.sizes (repaired_of g.found) g.names g.line g.clock g.given
+      can_on : (base : Image) → IsScanOf base g.sizes (repaired_of g.found) → CanCarryOut base g.sizes (repaired_of g.found) g.names g.backup g.line g.clock g.given
       can_on base scan = record {
         scan = scan;
         shape = r.repaired_shape repaired;
@@ -95,18 +101,19 @@ module _ (scans : RepairedScans) (g : Given) (stage : Stage) (start ended : Told
         named = r.given.named ∙ sym (repaired_count g.found);
         names_are = r.given.names_are;
         planned = r.given.planned;
+        given_back = r.given_back zeros;
         time = r.given.time;
         takes = r.takes zeros;
         passes = r.passes zeros;
         keeps = r.keeps zeros;
       }
 
-      pub can_start : CanCarryOut (repaired_base g) g.sizes (repaired_of g.found) g.names g.line g.clock g.given
+      pub can_start : CanCarryOut (repaired_base g) g.sizes (repaired_of g.found) g.names g.backup g.line g.clock g.given
       can_start = can_on (repaired_base g) scan_repaired
 
       -- on their way the same is found
       scan_zeroing : (image : Image) → HasFirstBatches (zeros_in g) (repaired_base g) image → IsScanOf image g.sizes (repaired_of g.found)
-      scan_zeroing image way = zeroes_scan (repaired_base g) g.sizes (repaired_of g.found) g.names g.line g.clock g.given can_start image way
+      scan_zeroing image way = zeroes_scan (repaired_base g) g.sizes (repaired_of g.found) g.names g.backup g.line g.clock g.given can_start image way
 
       all_zeroed : HasFirstBatches (zeros_in g) (repaired_base g) (zeroed_base g)
       all_zeroed = all_written (zeros_in g) (repaired_base g)
@@ -115,7 +122,7 @@ module _ (scans : RepairedScans) (g : Given) (stage : Stage) (start ended : Told
       scan_zeroed = scan_zeroing (zeroed_base g) all_zeroed
 
       -- and so the line can be carried out behind them
-      pub can_carry_out : CanCarryOut (zeroed_base g) g.sizes (repaired_of g.found) g.names g.line g.clock g.given
+      pub can_carry_out : CanCarryOut (zeroed_base g) g.sizes (repaired_of g.found) g.names g.backup g.line g.clock g.given
       can_carry_out = can_on (zeroed_base g) scan_zeroed
 
       finds_scanned : (image : Image) → IsScanOf image g.sizes (repaired_of g.found) → FindsVersion g.sizes image none_out (version_in g.found)
@@ -126,12 +133,12 @@ module _ (scans : RepairedScans) (g : Given) (stage : Stage) (start ended : Told
 
       kept_on_way : (image : Image) → HasFirstBatches (zeros_in g) (repaired_base g) image → KeepsPlaces g image
       kept_on_way image way group there lv sector at is_at =
-          zeroes_keep_places (repaired_base g) g.sizes (repaired_of g.found) g.names g.line g.clock g.given can_start image way group there lv sector at is_at ∙ kept_start group there lv sector at is_at
+          zeroes_keep_places (repaired_base g) g.sizes (repaired_of g.found) g.names g.backup g.line g.clock g.given can_start image way group there lv sector at is_at ∙ kept_start group there lv sector at is_at
 
       -- behind the zeros an image on the way of the line keeps the places too
       pub kept_after : (image : Image) → IsAfter g stage start ended r image → KeepsPlaces g image
       kept_after image way group there lv sector at is_at =
-          place_kept (zeroed_base g) g.sizes (repaired_of g.found) g.names g.line g.clock g.given can_carry_out group there image way lv sector at is_at
+          place_kept (zeroed_base g) g.sizes (repaired_of g.found) g.names g.backup g.line g.clock g.given can_carry_out group there image way lv sector at is_at
           ∙ kept_on_way (zeroed_base g) all_zeroed group there lv sector at is_at
 
     -- until the zeros are written

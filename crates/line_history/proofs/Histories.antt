@@ -1,52 +1,55 @@
 -- A run of one line has its history.
-use Rattle.std.proofs.Common.{◌≡◌, ℕ, zero, suc, ◌+◌, ◌-◌, Bool, true, false, ◌≤◌, ◌<◌, List, [], ◌∷◌, ◌++◌, length, drop, map, take, Option, Some, None, ⊎_elim, refl, sym, ap, ◌∙◌, arith}
+use Rattle.std.proofs.Common.{◌≡◌, ℕ, zero, suc, ◌+◌, ◌-◌, Bool, true, false, ◌≤◌, ◌<◌, List, [], ◌∷◌, ◌++◌, length, drop, map, take, Option, Some, None, ⊎_elim, refl, sym, ap, subst, ◌∙◌, arith}
 use Rattle.std.specs.Prelude.{flat_map, is_some}
 use Rattle.std.proofs.lemmas.Bool.{cases_lt}
-use Rattle.std.proofs.lemmas.List.{take_all}
-use Rattle.std.proofs.lemmas.List.Concat.{flat_map-append}
 use Rattle.sector_base.specs.declared.spans.Span.{Span}
-use Rattle.disk_batch.proofs.Carrying.{writes_of_nothing}
 use Rattle.disk_batch.specs.InTurn.{Put, WritesInTurn}
-use Rattle.disk_model.proofs.StepsSince.{steps_joined, writes_submitted-append}
+use Rattle.disk_model.proofs.StepsSince.{steps_joined}
 use Rattle.disk_model.specs.Since.{writes_submitted}
 use Rattle.disk_model.specs.Steps.{Completed, Flushing, Reading, Step, Submitted, Told, Writing, steps_on}
+use Rattle.group_ops.proofs.NoClears.{clears}
 use Rattle.group_ops.specs.Laws.{state_in}
 use Rattle.group_ops.specs.Planning.{IsPlanned}
+use Rattle.lvm_script.specs.Options.{Word}
 use Rattle.lvm_script.specs.declared.answer.Answer.{Answer}
 use Rattle.lvm_script.specs.declared.answer.Answer.TheVariants as answer
 use Rattle.lvm_script.specs.declared.command.Command.{Command}
-use Rattle.lvm_script.specs.declared.command.Command.TheVariants.{Lvcreate, Lvextend, Lvreduce, Lvremove, Lvrename, Pvcreate, Vgcreate, Vgextend, Vgrename}
+use Rattle.lvm_script.specs.declared.command.Command.TheVariants.{Lvcreate, Lvextend, Lvreduce, Lvremove, Lvrename, Pvcreate, Vgcfgrestore, Vgcreate, Vgextend, Vgreduce, Vgremove, Vgrename}
+use Rattle.lvm_script.specs.declared.line.Line.{Line}
 use Rattle.lvm_script.specs.declared.op_refusal.OpRefusal.{OpRefusal}
 use Rattle.image_scans.specs.Versions.{version_in}
 use Rattle.meta_model.specs.declared.group.Group.{Group}
 use Rattle.repair_scans.specs.Laws.{RepairedScans}
 use Rattle.vg_repair.proofs.RepairedSizes.{repaired_count}
 use Rattle.vg_repair.specs.Repaired.{repaired_of}
-use Rattle.volume_history.proofs.SingleLines.{done_commit, done_create, failed_create, fenced_commit, no_line, undone_line}
+use Rattle.volume_history.proofs.SingleLines.{done_commit, done_create, failed_create, fenced_commit, made_commit, no_line, undone_line}
 use Rattle.volume_history.specs.Chronicles.{Entry, Origin, has_written, pending}
 use Rattle.volume_history.specs.Laws.{Tells}
 use Rattle.vg_change.specs.Batches.{batch_if, zero_put}
-use Rattle.volume_history.specs.Commands.{is_data, is_good}
+use Rattle.volume_history.specs.Commands.{created_disk, is_data, is_good}
 use Rattle.volume_history.specs.Runs.{journal_of, lines_of}
-use Rattle.volume_history.specs.Single.{LeavesDisk, answered_entries, done_entries, taken_entries}
-use Rattle.line_history.proofs.LineKinds.{Kind, commits_group, creates, kind_of}
-use Rattle.line_history.proofs.Lines.{change, commit_law, done_law, is_start, next, none_created, origin_handed, origin_repaired, stays_handed, stays_repaired, stays_unpublished}
+use Rattle.volume_history.specs.Single.{LeavesDisk, MayEnd as MayFollow, answered_entries, done_entries, made_entries, taken_entries}
+use Rattle.line_history.proofs.ClearedLines.{committed_law, made_law}
+use Rattle.line_history.proofs.Clearing.{as_written, ended_base, whole_origin}
+use Rattle.line_history.proofs.LineKinds.{Kind, commits_group, creates, kind_of, removes}
+use Rattle.line_history.proofs.Lines.{change, commit_law, next, none_created, origin_handed, origin_repaired, stays_handed, stays_repaired, stays_unpublished}
 use Rattle.line_history.proofs.NewDisk.{create_law, created_law}
 use Rattle.line_history.proofs.Origins.{origin_of}
+use Rattle.line_history.proofs.RemovedGroup.{creates_none, removal_law, removed_law, stays_unremoved, stays_unwritten}
 use Rattle.line_history.proofs.Seen.{part_then, steps_more}
 use Rattle.line_history.proofs.Settled.{none_pending}
-use Rattle.line_history.specs.Histories.{HasHistoryOf, HasSubmittedAll, IsBeforeLine, MayAnswer, journal_of_line}
-use Rattle.line_history.specs.LineRun.{Given, RunsLine, Stage, Opened, Repairing, Repaired, Zeroing, Writing, Done, batches_if, batches_in, is_repaired, is_zeroed, repairs_in, zeros_begun, zeros_in}
-
--- all that is written by these batches
-abbrev all_writes : List (List Put) → List Put
-all_writes batches = flat_map (λ (batch : List Put). batch) batches
+use Rattle.line_history.proofs.Submitted.{all_submitted, both_submitted, submitted}
+use Rattle.line_history.specs.Histories.{HasHistoryOf, IsBeforeLine, MayAnswer, MayEnd, commits_in, journal_of_line, making, took_of}
+use Rattle.line_history.specs.LineRun.{ClearsLine, Given, RunsLine, Stage, Opened, Repairing, Repaired, Zeroing, Writing, Done, batches_if, batches_in, clears_in, is_repaired, is_zeroed, zeros_begun, zeros_in}
 
 -- a line that can be planned reads and writes no sectors of a volume
 quiet_line : (id : Option (List ℕ)) (command : Command) → IsPlanned id command → is_data command ≡ false
 quiet_line id (Pvcreate pv copies) planned = refl
 quiet_line id (Vgcreate vg extent_size pvs) planned = refl
 quiet_line id (Vgextend vg pvs) planned = refl
+quiet_line id (Vgreduce vg pv) planned = refl
+quiet_line id (Vgremove vg) planned = refl
+quiet_line id (Vgcfgrestore vg text) planned = refl
 quiet_line id (Vgrename vg new) planned = refl
 quiet_line id (Lvcreate new) planned = refl
 quiet_line id (Lvextend path growth pvs) planned = refl
@@ -66,6 +69,10 @@ none_submitted (Submitted tag (Writing span sectors) ∷ steps) pv none = absurd
 none_submitted (Submitted tag (Reading span) ∷ steps) pv none = none_submitted steps pv none
 none_submitted (Submitted tag (Flushing disk) ∷ steps) pv none = none_submitted steps pv none
 none_submitted (Completed tag work well fresh ∷ steps) pv none = none_submitted steps pv none
+
+-- a line that creates no physical volume
+creates_no_disk : (o : Origin) (line : Line) → created_disk o.names line.command ≡ None → LeavesDisk o line
+creates_no_disk o line none disk created = absurd (let e : None ≡ Some disk = sym none ∙ created in cc)
 
 module _ (scans : RepairedScans) (g : Given) (start ended : Told) where
   -- no command is pending at its end: its history begins at the hand-in, or at the end of the repair
@@ -111,25 +118,26 @@ module _ (scans : RepairedScans) (g : Given) (start ended : Told) where
   nothing_of (suc n) = refl
 
   refused : (r : RunsLine g Repaired start ended) (refusal : OpRefusal)
-      → HasHistoryOf g ended (journal_of_line (length start.steps) (length ended.steps) (answer.Refused refusal)) ((g.line, Some (answer.Refused refusal)) ∷ [])
+      → HasHistoryOf g ended (journal_of_line (length start.steps) None (length ended.steps)) ((g.line, Some (answer.Refused refusal)) ∷ [])
   refused r refusal =
       repaired_so (answered_entries (origin_repaired scans g Repaired start ended r refl) g.line (answer.Refused refusal))
       (undone Repaired r refl refl (leaves Repaired r refl refl ((r.zeros refl).writes ∙ nothing_of (r.zeros refl).submitted)) (answer.Refused refusal) refl) refl
 
   -- ---- its zeros were begun
   kind : (stage : Stage) (r : RunsLine g stage start ended) (repaired : is_repaired stage ≡ true) (begun : zeros_begun stage ≡ true) → Kind g.names g.line.command (change scans g stage start ended r repaired)
-  kind stage r repaired begun = kind_of (state_in (repaired_of g.found) g.names) (r.given.named ∙ sym (repaired_count g.found)) g.line g.clock g.given r.given.planned (r.takes begun) (r.passes begun)
+  kind stage r repaired begun = kind_of (state_in (repaired_of g.found) g.names g.backup) (r.given.named ∙ sym (repaired_count g.found)) g.line g.clock g.given r.given.planned (r.given_back begun) (r.takes begun) (r.passes begun)
 
   -- one of them failed
   module _ (r : RunsLine g Zeroing start ended) (pv : ℕ) where
     -- a line that creates a physical volume has none
     left : Kind g.names g.line.command (change scans g Zeroing start ended r refl) → LeavesDisk (origin_repaired scans g Zeroing start ended r refl) g.line
-    left (commits_group group made) = λ disk created. absurd (let e : None ≡ Some disk = sym (none_created scans g Zeroing start ended r refl refl group made) ∙ created in cc)
+    left (commits_group group made) = creates_no_disk (origin_repaired scans g Zeroing start ended r refl) g.line (none_created scans g Zeroing start ended r refl refl group made)
     left (creates disk label none created labels on no_zeros) =
         leaves Zeroing r refl refl
-        ((r.zeros refl).writes ∙ ap (λ (spans : List Span). all_writes (take (r.zeros refl).submitted (batch_if (map zero_put spans)))) no_zeros ∙ nothing_of (r.zeros refl).submitted)
+        ((r.zeros refl).writes ∙ ap (λ (spans : List Span). flat_map (λ (batch : List Put). batch) (take (r.zeros refl).submitted (batch_if (map zero_put spans)))) no_zeros ∙ nothing_of (r.zeros refl).submitted)
+    left (removes vg command_is none labels no_zeros) = creates_no_disk (origin_repaired scans g Zeroing start ended r refl) g.line (creates_none g.names g.line.command vg command_is)
 
-    zeros_failed : HasHistoryOf g ended (journal_of_line (length start.steps) (length ended.steps) (answer.PvFailed pv)) ((g.line, Some (answer.PvFailed pv)) ∷ [])
+    zeros_failed : HasHistoryOf g ended (journal_of_line (length start.steps) None (length ended.steps)) ((g.line, Some (answer.PvFailed pv)) ∷ [])
     zeros_failed =
         repaired_so (answered_entries (origin_repaired scans g Zeroing start ended r refl) g.line (answer.PvFailed pv))
         (undone Zeroing r refl refl (left (kind Zeroing r refl refl)) (answer.PvFailed pv) refl) refl
@@ -142,83 +150,112 @@ module _ (scans : RepairedScans) (g : Given) (start ended : Told) where
     abbrev origin : Origin
     origin = origin_repaired scans g Writing start ended r refl
 
-    none_made : LeavesDisk origin g.line
-    none_made disk created = absurd (let e : None ≡ Some disk = sym (none_created scans g Writing start ended r refl refl group made) ∙ created in cc)
-
-    -- all that these batches write, where they were submitted
-    submitted : (old new : Told) (batches : List (List Put)) (well : Bool) (w : WritesInTurn old batches well new) → length batches ≤ w.submitted → writes_submitted w.since ≡ all_writes batches
-    submitted old new batches well w le = w.writes ∙ ap all_writes (take_all w.submitted batches le)
-
-    -- all batches of the repair were submitted, and all zeros, and so were the others of the line where its last one was
-    all_submitted : length (batches_in g) ≤ own.submitted → HasSubmittedAll g.handed g.base g.sizes g.names g.clock g.line ended
-    all_submitted le =
-        let none : writes_submitted r.since ≡ [] = writes_of_nothing r.since r.nothing in
-        let repairs : writes_submitted r.repair.since ≡ all_writes (repairs_in g) = submitted r.opened start (repairs_in g) true r.repair (let w = r.repair.whole refl in omega (arith, w)) in
-        let zeros : writes_submitted (r.zeros refl).since ≡ all_writes (zeros_in g) = submitted start r.zeroed (zeros_in g) true (r.zeros refl) (let w = (r.zeros refl).whole refl in omega (arith, w)) in
-        let line : writes_submitted own.since ≡ all_writes (batches_in g) = submitted r.zeroed ended (batches_in g) false own le in
-        let before : List Step = (r.zeros refl).since ++ (r.repair.since ++ r.since) in
-        let first : writes_submitted (r.repair.since ++ r.since) ≡ all_writes (repairs_in g) =
-        writes_submitted-append r.repair.since r.since ∙ ap (λ (l : List Put). l ++ writes_submitted r.repair.since) none ∙ repairs in
-        let both : writes_submitted before ≡ all_writes (repairs_in g ++ zeros_in g) =
-        writes_submitted-append (r.zeros refl).since (r.repair.since ++ r.since)
-        ∙ ap (λ (l : List Put). l ++ writes_submitted (r.zeros refl).since) first
-        ∙ ap (λ (l : List Put). all_writes (repairs_in g) ++ l) zeros ∙ sym (flat_map-append _ (repairs_in g) (zeros_in g))
-        in
-        record {
-          found = g.found;
-          scan = r.given.scan;
-          since = own.since ++ before;
-          steps = steps_joined g.handed r.zeroed ended before own.since
-              (steps_joined g.handed start r.zeroed (r.repair.since ++ r.since) (r.zeros refl).since (is_start scans g Writing start ended r refl) (r.zeros refl).steps) own.steps;
-          given = g.given;
-          takes = r.takes refl;
-          writes = writes_submitted-append own.since before
-              ∙ ap (λ (l : List Put). l ++ writes_submitted own.since) both
-              ∙ ap (λ (l : List Put). all_writes (repairs_in g ++ zeros_in g) ++ l) line ∙ sym (flat_map-append _ (repairs_in g ++ zeros_in g) (batches_in g));
-        }
-
-    commit_failed : HasHistoryOf g ended (journal_of_line (length start.steps) (length ended.steps) (answer.PvFailed pv)) ((g.line, Some (answer.PvFailed pv)) ∷ [])
+    commit_failed : HasHistoryOf g ended (journal_of_line (length start.steps) None (length ended.steps)) ((g.line, Some (answer.PvFailed pv)) ∷ [])
     commit_failed =
         ⊎_elim
         (λ (less : own.submitted < length (batches_in g)).
         repaired_so (answered_entries origin g.line (answer.PvFailed pv))
-        (undone_line origin g.line (stays_unpublished scans g Writing start ended r refl refl group made less) (quiet_line g.line.id g.line.command r.given.planned) none_made (answer.PvFailed pv) refl) refl)
+        (undone_line origin g.line (stays_unpublished scans g Writing start ended r refl refl group made less) (quiet_line g.line.id g.line.command r.given.planned)
+        (creates_no_disk origin g.line (none_created scans g Writing start ended r refl refl group made)) (answer.PvFailed pv) refl) refl)
         (λ (le : length (batches_in g) ≤ own.submitted). record {
           history = (fenced_commit origin g.line (length r.zeroed.steps) (next scans g Writing start ended r refl refl group made) (commit_law scans g Writing start ended r refl refl group made) pv).history;
-          last = λ some. all_submitted le;
+          last = λ some. all_submitted g Writing start ended r refl refl ended own.since (batches_in g) own.steps (submitted r.zeroed ended (batches_in g) false own le) (ap (λ (o : Option Group). making (is_some o) (batches_in g) (clears_in g)) made);
         })
         (cases_lt own.submitted (length (batches_in g)))
 
   pub failed : (r : RunsLine g Writing start ended) (pv : ℕ)
-      → HasHistoryOf g ended (journal_of_line (length start.steps) (length ended.steps) (answer.PvFailed pv)) ((g.line, Some (answer.PvFailed pv)) ∷ [])
+      → HasHistoryOf g ended (journal_of_line (length start.steps) None (length ended.steps)) ((g.line, Some (answer.PvFailed pv)) ∷ [])
   failed r pv = by (kind Writing r refl refl)
     where
       by : Kind g.names g.line.command (change scans g Writing start ended r refl)
-          → HasHistoryOf g ended (journal_of_line (length start.steps) (length ended.steps) (answer.PvFailed pv)) ((g.line, Some (answer.PvFailed pv)) ∷ [])
+          → HasHistoryOf g ended (journal_of_line (length start.steps) None (length ended.steps)) ((g.line, Some (answer.PvFailed pv)) ∷ [])
       by (commits_group group made) = commit_failed r pv group made
       by (creates disk label none created labels on no_zeros) =
           repaired_so (answered_entries (origin_repaired scans g Writing start ended r refl) g.line (answer.PvFailed pv))
           (failed_create (origin_repaired scans g Writing start ended r refl) g.line disk pv (create_law scans g Writing start ended r refl refl disk label none created labels on no_zeros (length ended.steps + 1) (omega arith))) refl
+      by (removes vg command_is none labels no_zeros) =
+          repaired_so (answered_entries (origin_repaired scans g Writing start ended r refl) g.line (answer.PvFailed pv))
+          (undone_line (origin_repaired scans g Writing start ended r refl) g.line (stays_unwritten scans g Writing start ended r refl refl vg command_is) (quiet_line g.line.id g.line.command r.given.planned)
+          (creates_no_disk (origin_repaired scans g Writing start ended r refl) g.line (creates_none g.names g.line.command vg command_is)) (answer.PvFailed pv) refl) refl
 
-  pub done : (r : RunsLine g Done start ended)
-      → HasHistoryOf g ended (journal_of_line (length start.steps) (length ended.steps) answer.Fine) ((g.line, Some answer.Fine) ∷ [])
-  done r = by (kind Done r refl refl)
-    where
-      by : Kind g.names g.line.command (change scans g Done start ended r refl)
-          → HasHistoryOf g ended (journal_of_line (length start.steps) (length ended.steps) answer.Fine) ((g.line, Some answer.Fine) ∷ [])
-      by (commits_group group made) =
-          repaired_so (done_entries (origin_repaired scans g Done start ended r refl) g.line (length r.zeroed.steps) (next scans g Done start ended r refl refl group made))
-          (done_commit (origin_repaired scans g Done start ended r refl) g.line (length r.zeroed.steps) (next scans g Done start ended r refl refl group made) (commit_law scans g Done start ended r refl refl group made)
-          (done_law scans g Done start ended r refl refl group made refl)) refl
-      by (creates disk label none created labels on no_zeros) =
-          repaired_so (taken_entries (origin_repaired scans g Done start ended r refl) g.line)
-          (done_create (origin_repaired scans g Done start ended r refl) g.line disk (create_law scans g Done start ended r refl refl disk label none created labels on no_zeros (length ended.steps) (omega arith))
-          (created_law scans g Done start ended r refl refl disk label none created labels on no_zeros refl)) refl
-
-  pub lines : (stage : Stage) (said : Answer) → RunsLine g stage start ended → MayAnswer stage said
-      → HasHistoryOf g ended (journal_of_line (length start.steps) (length ended.steps) said) ((g.line, Some said) ∷ [])
+  pub lines : (stage : Stage) (said : Answer) → RunsLine g stage start ended → MayAnswer stage said → HasHistoryOf g ended (journal_of_line (length start.steps) None (length ended.steps)) ((g.line, Some said) ∷ [])
   lines Repaired (answer.Refused refusal) r may = refused r refusal
   lines Zeroing (answer.PvFailed pv) r may = zeros_failed r pv
   lines Writing (answer.PvFailed pv) r may = failed r pv
-  lines Done answer.Fine r may = done r
   lines stage said r may = absurd may
+
+-- ---- disks are cleared behind its batches
+
+-- a line that creates a physical volume clears none
+created_clears : (names : List Word) (command : Command) (disk : ℕ) → created_disk names command ≡ Some disk → clears command ≡ false
+created_clears names (Vgreduce vg pv) disk created = cc
+created_clears names (Vgremove vg) disk created = cc
+created_clears names command disk created = refl
+
+module _ (scans : RepairedScans) (g : Given) (start ended : Told) where
+  -- the history of a line that was answered so, where it took place at this moment
+  abbrev TookPlace : Option ℕ → Answer → Type 0
+  TookPlace took said = HasHistoryOf g ended (journal_of_line (length start.steps) took (length ended.steps)) ((g.line, Some said) ∷ [])
+
+  kind_cleared : (well : Bool) (c : ClearsLine g well start ended) → Kind g.names g.line.command (change scans g Done start c.made c.line refl)
+  kind_cleared well c = kind scans g start c.made Done c.line refl refl
+
+  took_by : (well : Bool) (said : Answer) (c : ClearsLine g well start ended) (b : Bool) → commits_in g ≡ b → TookPlace (took_of b well (length c.made.steps) (length ended.steps)) said → TookPlace (took_of (commits_in g) well (length c.made.steps) (length ended.steps)) said
+  took_by well said c b is = subst (λ (k : Bool). TookPlace (took_of k well (length c.made.steps) (length ended.steps)) said) (sym is)
+
+  -- one that commits a group took place once its batches were written
+  committed : (well : Bool) (c : ClearsLine g well start ended) (group : Group) → (change scans g Done start c.made c.line refl).group ≡ Some group → (said : Answer) → MayFollow said
+      → TookPlace (took_of (commits_in g) well (length c.made.steps) (length ended.steps)) said
+  committed well c group made said may =
+      let version = next scans g Done start c.made c.line refl refl group made in
+      took_by well said c true (ap (λ (o : Option Group). is_some o) made)
+      (repaired_so scans g start ended (made_entries (whole_origin scans g well start ended c) g.line (length c.line.zeroed.steps) (length c.made.steps) version said)
+      (made_commit (whole_origin scans g well start ended c) g.line (length c.line.zeroed.steps) version (committed_law scans g well start ended c group made) (length c.made.steps) (made_law scans g well start ended c group made) said may) refl)
+
+  -- all went well
+  module _ (c : ClearsLine g true start ended) where
+    all_well : Kind g.names g.line.command (change scans g Done start c.made c.line refl) → TookPlace (took_of (commits_in g) true (length c.made.steps) (length ended.steps)) answer.Fine
+    all_well (commits_group group made) = committed true c group made answer.Fine tt
+    all_well (creates disk label none created labels on no_zeros) =
+        let other : clears g.line.command ≡ false = created_clears g.names g.line.command disk created in
+        let r : RunsLine g Writing start ended = as_written scans g true start ended c other in
+        took_by true answer.Fine c false (ap (λ (o : Option Group). is_some o) none)
+        (repaired_so scans g start ended (taken_entries (origin_repaired scans g Writing start ended r refl) g.line)
+        (done_create (origin_repaired scans g Writing start ended r refl) g.line disk (create_law scans g Writing start ended r refl refl disk label none created labels on no_zeros (length ended.steps) (omega arith))
+        (created_law scans g Writing start ended r refl refl disk label none created labels on no_zeros (ended_base scans g true start ended c other refl))) refl)
+    all_well (removes vg command_is none labels no_zeros) =
+        took_by true answer.Fine c false (ap (λ (o : Option Group). is_some o) none)
+        (repaired_so scans g start ended (done_entries (whole_origin scans g true start ended c) g.line (length c.made.steps) None)
+        (done_commit (whole_origin scans g true start ended c) g.line (length c.made.steps) None (removal_law scans g true start ended c vg command_is) (removed_law scans g true start ended c vg command_is refl)) refl)
+
+  -- an operation failed
+  module _ (c : ClearsLine g false start ended) (pv : ℕ) where
+    -- before the last batch of a vgremove was begun, or behind that
+    removal_failed : (vg : Word) → g.line.command ≡ Vgremove vg → (change scans g Done start c.made c.line refl).group ≡ None → TookPlace None (answer.PvFailed pv)
+    removal_failed vg command_is none =
+        let own : WritesInTurn c.line.zeroed (batches_in g) true c.made = c.line.written refl in
+        ⊎_elim
+        (λ (less : c.clears.submitted < length (clears_in g)).
+        repaired_so scans g start ended (answered_entries (whole_origin scans g false start ended c) g.line (answer.PvFailed pv))
+        (undone_line (whole_origin scans g false start ended c) g.line (stays_unremoved scans g false start ended c vg command_is less) (quiet_line g.line.id g.line.command c.line.given.planned)
+        (creates_no_disk (whole_origin scans g false start ended c) g.line (creates_none g.names g.line.command vg command_is)) (answer.PvFailed pv) refl) refl)
+        (λ (le : length (clears_in g) ≤ c.clears.submitted). record {
+          history = (fenced_commit (whole_origin scans g false start ended c) g.line (length c.made.steps) None (removal_law scans g false start ended c vg command_is) pv).history;
+          last = λ some.
+              all_submitted g Done start c.made c.line refl refl ended (c.clears.since ++ own.since) (batches_in g ++ clears_in g) (steps_joined c.line.zeroed c.made ended own.since c.clears.since own.steps c.clears.steps)
+              (both_submitted c.line.zeroed c.made ended (batches_in g) (clears_in g) false own c.clears le)
+              (ap (λ (o : Option Group). making (is_some o) (batches_in g) (clears_in g)) none);
+        })
+        (cases_lt c.clears.submitted (length (clears_in g)))
+
+    one_failed : Kind g.names g.line.command (change scans g Done start c.made c.line refl) → TookPlace (took_of (commits_in g) false (length c.made.steps) (length ended.steps)) (answer.PvFailed pv)
+    one_failed (commits_group group made) = committed false c group made (answer.PvFailed pv) tt
+    one_failed (creates disk label none created labels on no_zeros) =
+        took_by false (answer.PvFailed pv) c false (ap (λ (o : Option Group). is_some o) none)
+        (failed scans g start ended (as_written scans g false start ended c (created_clears g.names g.line.command disk created)) pv)
+    one_failed (removes vg command_is none labels no_zeros) = took_by false (answer.PvFailed pv) c false (ap (λ (o : Option Group). is_some o) none) (removal_failed vg command_is none)
+
+  pub cleared : (well : Bool) (said : Answer) (c : ClearsLine g well start ended) → MayEnd well said → TookPlace (took_of (commits_in g) well (length c.made.steps) (length ended.steps)) said
+  cleared true answer.Fine c may = all_well c (kind_cleared true c)
+  cleared false (answer.PvFailed pv) c may = one_failed c pv (kind_cleared false c)
+  cleared well said c may = absurd may

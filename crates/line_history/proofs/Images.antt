@@ -103,9 +103,15 @@ module _ (g : Given) (stage : Stage) (start ended : Told) (r : RunsLine g stage 
   repairs_all : batches_if (repair_begun stage) (repairs_in g) ≡ repairs_in g
   repairs_all = ap (λ (b : Bool). batches_if b (repairs_in g)) (begun_repair stage repaired)
 
+  -- those were all
+  pub all_repairs : WritesInTurn r.opened (repairs_in g) true start
+  all_repairs =
+      subst (λ (l : List (List Put)). WritesInTurn r.opened l true start) repairs_all
+      (subst (λ (w : Bool). WritesInTurn r.opened (batches_if (repair_begun stage) (repairs_in g)) w start) repaired r.repair)
+
   -- the start has one value in each sector, that with all of the repair
   pub start_base : IsBase start repaired_image
-  start_base = subst (λ (l : List (List Put)). IsBase start (with_batches l g.base)) repairs_all (r.repair.lasting repaired g.base (opened_base g stage start ended r))
+  start_base = all_repairs.lasting refl g.base (opened_base g stage start ended r)
 
   pub during : EveryImageSince (length start.steps) r.zeroed (IsZeroing g stage start ended r)
   during =

@@ -31,7 +31,7 @@ pub rest_stand : (group : Group) (number : ℕ) (row : List ℕ × Lv) (rows : L
 rest_stand group number row rows stand k other is = subst (λ (n : ℕ). slice_get group.lvs n ≡ Some other) (omega arith) (stand (suc k) other is)
 
 -- functions that are equal on a range
-map_same : (f g : ℕ → Place) (from count : ℕ) → ((k : ℕ) → k < from + count → f k ≡ g k) → map f (range_with_len from count) ≡ map g (range_with_len from count)
+pub map_same : (f g : ℕ → Place) (from count : ℕ) → ((k : ℕ) → k < from + count → f k ≡ g k) → map f (range_with_len from count) ≡ map g (range_with_len from count)
 map_same f g from zero same = refl
 map_same f g from (suc count) same =
     ap (λ (x : Place). x ∷ map f (range_with_len (from + 1) count)) (same from (omega arith))

@@ -1,4 +1,4 @@
--- What a line makes: a version of the group, or a new physical volume on the disk that it names.
+-- What a line makes: a version of the group, or none in its place, or a new physical volume on the disk that it names.
 use Rattle.std.proofs.Common.{◌≡◌, ◌<◌, ℕ, zero, suc, ◌+◌, Bool, true, false, if◌then◌else◌, List, [], ◌∷◌, length, Option, Some, None, refl, ap, ◌∙◌, arith}
 use Rattle.std.specs.Prelude.{option_map, slice_get, unwrap_or}
 use Rattle.std.specs.Option.{option_map_or}
@@ -7,18 +7,22 @@ use Rattle.std.proofs.lemmas.Option.{same_Some}
 use Rattle.extent_alloc.specs.declared.part.Part.{Part}
 use Rattle.lvm_script.specs.Options.{Word, number_named}
 use Rattle.lvm_script.specs.declared.command.Command.{Command}
-use Rattle.lvm_script.specs.declared.command.Command.TheVariants.{Lvcreate, Lvextend, Lvreduce, Lvremove, Lvrename, Pvcreate, Vgcreate, Vgextend, Vgrename}
+use Rattle.lvm_script.specs.declared.command.Command.TheVariants.{Lvcreate, Lvextend, Lvreduce, Lvremove, Lvrename, Pvcreate, Vgcfgrestore, Vgcreate, Vgextend, Vgreduce, Vgremove, Vgrename}
 use Rattle.lvm_script.specs.declared.line.Line.{Line}
 use Rattle.lvm_script.specs.declared.op_refusal.OpRefusal.{OpRefusal}
 use Rattle.lvm_script.specs.declared.op_refusal.OpRefusal.TheVariants.{UnknownGroup, UnknownPv}
 use Rattle.meta_model.specs.declared.group.Group.{Group}
 use Rattle.vg_found.specs.declared.disk.Disk.{Disk}
+use Rattle.group_edits.specs.ReducedGroup.{reduced_group as without_pv}
+use Rattle.group_edits.specs.RestoredGroup.{restored_group}
+use Rattle.group_ops.proofs.Leaving.{leaves_next}
 use Rattle.group_ops.proofs.NextVersions.{commits_next, is_next}
+use Rattle.group_ops.proofs.Restoring.{restores}
 use Rattle.group_ops.specs.Added.{added_of}
 use Rattle.group_ops.specs.Allocating.{Takes}
 use Rattle.group_ops.specs.Judging.{first_refusal}
 use Rattle.group_ops.specs.NewGroup.{extended}
-use Rattle.group_ops.specs.Planning.{IsPlanned, asks_of, change_of, extend_by, refusal_of}
+use Rattle.group_ops.specs.Planning.{IsBackupOf, IsPlanned, asks_of, change_of, extend_by, refusal_of}
 use Rattle.group_ops.specs.Pvcreate.{disk_rows, new_label, pvcreate_change}
 use Rattle.group_ops.specs.Vgcreate.{empty_group}
 use Rattle.group_edits.specs.NextVersion.{next_version}
@@ -26,12 +30,15 @@ use Rattle.group_ops.specs.Vgextend.{found_rows}
 use Rattle.group_ops.specs.declared.state.Change.{Change}
 use Rattle.group_ops.specs.declared.state.GroupState.{GroupState}
 use Rattle.group_ops.specs.declared.state.NewLabel.{NewLabel}
+use Rattle.line_history.proofs.ReadBackups.{some_backup}
 use Rattle.volume_history.specs.Commands.{created_disk}
 
--- a line with this change: one that creates a physical volume zeroes nothing
+-- a line with this change: one that creates a physical volume or removes the group zeroes nothing, and one that removes it
+-- writes nothing but what clears its disks
 pub data Kind (names : List Word) (command : Command) (change : Change) : Type 0 where
   commits_group : (group : Group) → change.group ≡ Some group → Kind names command change
   creates : (disk : ℕ) (label : NewLabel) → change.group ≡ None → created_disk names command ≡ Some disk → change.labels ≡ label ∷ [] → label.disk ≡ disk → change.zero ≡ [] → Kind names command change
+  removes : (vg : Word) → command ≡ Vgremove vg → change.group ≡ None → change.labels ≡ [] → change.zero ≡ [] → Kind names command change
 
 -- ---- pvcreate
 
@@ -79,18 +86,23 @@ next_kind : (state : GroupState) (number : ℕ) (id : Option (List ℕ)) (comman
 next_kind state number id command now given planned is takes none =
     let made = commits_next state number id command now given planned is takes none in commits_group made.next (ap (λ (c : Change). c.group) made.change_xl)
 
-kind_by : (state : GroupState) → length state.names ≡ length state.disks → (number : ℕ) (id : Option (List ℕ)) (command : Command) (now : ℕ) (given : List Part) → IsPlanned id command
+kind_by : (state : GroupState) → length state.names ≡ length state.disks → (number : ℕ) (id : Option (List ℕ)) (command : Command) (now : ℕ) (given : List Part) → IsPlanned id command → IsBackupOf command state.backup
     → Takes (asks_of state (record { number = number; id = id; command = command })) given → refusal_of state (record { number = number; id = id; command = command }) now given ≡ None → Kind state.names command (change_of state (record { number = number; id = id; command = command }) now given)
-kind_by state many number id (Pvcreate pv copies) now given planned takes none = create_kind state (unwrap_or id []) pv copies (Pvcreate pv copies) (number_named state.names pv) refl refl many none
-kind_by state many number id (Vgcreate vg extent_size pvs) now given planned takes none = commits_group (extended (empty_group (unwrap_or id []) vg extent_size) (added_of state pvs)) refl
-kind_by state many number id (Vgextend vg pvs) now given planned takes none = extend_kind state vg pvs now (Vgextend vg pvs) state.group none
-kind_by state many number id (Vgrename vg new) now given planned takes none = next_kind state number id (Vgrename vg new) now given planned refl takes none
-kind_by state many number id (Lvcreate new) now given planned takes none = next_kind state number id (Lvcreate new) now given planned refl takes none
-kind_by state many number id (Lvextend path growth pvs) now given planned takes none = next_kind state number id (Lvextend path growth pvs) now given planned refl takes none
-kind_by state many number id (Lvreduce path amount) now given planned takes none = next_kind state number id (Lvreduce path amount) now given planned refl takes none
-kind_by state many number id (Lvremove path) now given planned takes none = next_kind state number id (Lvremove path) now given planned refl takes none
-kind_by state many number id (Lvrename vg old new) now given planned takes none = next_kind state number id (Lvrename vg old new) now given planned refl takes none
-kind_by state many number id command now given planned takes none = absurd planned
+kind_by state many number id (Pvcreate pv copies) now given planned gives_back takes none = create_kind state (unwrap_or id []) pv copies (Pvcreate pv copies) (number_named state.names pv) refl refl many none
+kind_by state many number id (Vgcreate vg extent_size pvs) now given planned gives_back takes none = commits_group (extended (empty_group (unwrap_or id []) vg extent_size) (added_of state pvs)) refl
+kind_by state many number id (Vgextend vg pvs) now given planned gives_back takes none = extend_kind state vg pvs now (Vgextend vg pvs) state.group none
+kind_by state many number id (Vgreduce vg pv) now given planned gives_back takes none =
+    let left = leaves_next state vg pv now none in commits_group (without_pv left.old left.number) (ap (λ (c : Change). c.group) left.change_xl)
+kind_by state many number id (Vgremove vg) now given planned gives_back takes none = removes vg refl refl refl refl
+kind_by state many number id (Vgcfgrestore vg text) now given planned gives_back takes none =
+    let made = restores state vg now (some_backup vg text state.backup gives_back) none in commits_group (restored_group made.old made.said) (ap (λ (c : Change). c.group) made.change_xl)
+kind_by state many number id (Vgrename vg new) now given planned gives_back takes none = next_kind state number id (Vgrename vg new) now given planned refl takes none
+kind_by state many number id (Lvcreate new) now given planned gives_back takes none = next_kind state number id (Lvcreate new) now given planned refl takes none
+kind_by state many number id (Lvextend path growth pvs) now given planned gives_back takes none = next_kind state number id (Lvextend path growth pvs) now given planned refl takes none
+kind_by state many number id (Lvreduce path amount) now given planned gives_back takes none = next_kind state number id (Lvreduce path amount) now given planned refl takes none
+kind_by state many number id (Lvremove path) now given planned gives_back takes none = next_kind state number id (Lvremove path) now given planned refl takes none
+kind_by state many number id (Lvrename vg old new) now given planned gives_back takes none = next_kind state number id (Lvrename vg old new) now given planned refl takes none
+kind_by state many number id command now given planned gives_back takes none = absurd planned
 
-pub kind_of : (state : GroupState) → length state.names ≡ length state.disks → (line : Line) (now : ℕ) (given : List Part) → IsPlanned line.id line.command → Takes (asks_of state line) given → refusal_of state line now given ≡ None → Kind state.names line.command (change_of state line now given)
-kind_of state many line now given planned takes none = kind_by state many line.number line.id line.command now given planned takes none
+pub kind_of : (state : GroupState) → length state.names ≡ length state.disks → (line : Line) (now : ℕ) (given : List Part) → IsPlanned line.id line.command → IsBackupOf line.command state.backup → Takes (asks_of state line) given → refusal_of state line now given ≡ None → Kind state.names line.command (change_of state line now given)
+kind_of state many line now given planned gives_back takes none = kind_by state many line.number line.id line.command now given planned gives_back takes none

@@ -43,11 +43,11 @@ use Rattle.volume_history.specs.Single.{CommitLaw, DoneLaw, IsStill, StaysLaw, b
 use Rattle.line_history.proofs.Stays.{all_stay}
 use Rattle.lvm_script.specs.declared.command.Command.{Command}
 use Rattle.lvm_script.specs.declared.command.Command.TheVariants.{Lvcreate}
-use Rattle.line_history.proofs.Finding.{KeepsPlaces, can_carry_out, can_start, finds_before, finds_start, finds_zeroing, found_before, kept_after, kept_before, kept_zeroing, one_image, repaired_base, same_version, scan_zeroed, zeroed_base}
+use Rattle.line_history.proofs.Finding.{KeepsPlaces, can_carry_out, can_start, finds_before, finds_start, finds_zeroing, found_before, image_of_base, kept_after, kept_before, kept_zeroing, one_image, repaired_base, same_version, scan_zeroed, zeroed_base}
 use Rattle.line_history.proofs.Images.{IsAfter, IsBefore, after_zeros, before_start, begun_zeros, during, from_start, joined, line as line_of, none_zeroed, since_start, start_base, submitted_after, until_end, zeroed_base_is, zeroed_last, zeros_last}
 use Rattle.line_history.proofs.ChangedVolumes.{commit_changes_volumes}
 use Rattle.line_history.proofs.Untouched.{places_untouched}
-use Rattle.line_history.proofs.Origins.{origin, still}
+use Rattle.line_history.proofs.Origins.{origin, origin_of, still}
 use Rattle.line_history.proofs.Seen.{moment_seen, now_seen, record_before, record_drop, steps_more}
 use Rattle.line_history.specs.LineRun.{Given, RunsLine, Stage, batches_in, is_done, is_repaired, is_zeroed, zeros_begun}
 
@@ -141,21 +141,48 @@ module _ (scans : RepairedScans) (g : Given) (stage : Stage) (start ended : Told
     }
 
     abbrev pub change : Change
-    change = change_of (state_in (repaired_of g.found) g.names) g.line g.clock g.given
+    change = change_of (state_in (repaired_of g.found) g.names g.backup) g.line g.clock g.given
 
     -- ---- its zeros were begun
     module _ (zeros : zeros_begun stage ≡ true) where
       module _ (group : Group) (made : change.group ≡ Some group) where
-        changes : ChangesVolumes g.line.command version (Some (version_of group change))
+        pub changes : ChangesVolumes g.line.command version (Some (version_of group change))
         changes =
             subst (λ (v : Option Version). ChangesVolumes g.line.command v (Some (version_of group change))) (same_version scans g stage start ended r repaired)
-            (commit_changes_volumes (repaired_base g) g.sizes (repaired_of g.found) g.names g.line g.clock g.given (can_start scans g stage start ended r repaired zeros) group made)
+            (commit_changes_volumes (repaired_base g) g.sizes (repaired_of g.found) g.names g.backup g.line g.clock g.given (can_start scans g stage start ended r repaired zeros) group made)
 
         commits_it : commits g.line.command ≡ true
         commits_it = changes_commit g.line.command version (Some (version_of group change)) changes
 
         pub none_created : created_disk g.names g.line.command ≡ None
         none_created = (commit_kind g.names g.line.command commits_it).1
+
+      -- the line makes this version at a moment of a run that goes on so, if a read gave the base with all zeros then
+      module _ (told : Told) (m : ℕ) (next : Option Version) (creates_none : created_disk g.names g.line.command ≡ None) where
+        abbrev at : Origin
+        at = origin_at m (origin_of g.handed (length start.steps) g.sizes g.names g.clock version told)
+
+        -- no disk is left out once it was begun
+        none_left : (pv : ℕ) → left_out at (begun_entries at g.line) m pv ≡ false
+        none_left pv = ap (λ (d : Option ℕ). if names_disk d pv && wrote_disk at (begun_entries at g.line) m (length start.steps) 0 pv then true else false) creates_none
+
+        pub makes_then : now_at at m ≡ zeroed_base g → next ≡ version_made change → Makes at (begun_entries at g.line) m g.line next
+        makes_then now_there makes = record {
+          planned = r.given.planned;
+          before = record {
+            found = repaired_of g.found;
+            scan = subst (λ (i : Image). IsScanOf i g.sizes (repaired_of g.found)) (sym now_there) (scan_zeroed scans g stage start ended r repaired zeros);
+            left = λ pv within. none_unread (repaired_of g.found) (r.repaired_whole repaired) pv ∙ sym (none_left pv);
+            whole = (r.repaired_whole repaired).there;
+            version_xl = same_version scans g stage start ended r repaired;
+          };
+          given = g.given;
+          backup = g.backup;
+          given_back = r.given_back zeros;
+          takes = r.takes zeros;
+          accepted = r.passes zeros;
+          change = makes;
+        }
 
     -- ---- its zeros were written, and its batches begun
     module _ (zeroed : is_zeroed stage ≡ true) where
@@ -171,7 +198,7 @@ module _ (scans : RepairedScans) (g : Given) (stage : Stage) (start ended : Told
       ends : length r.zeroed.steps ≤ length ended.steps
       ends = zeroed_last g stage start ended r repaired zeroed
 
-      can : CanCarryOut (zeroed_base g) g.sizes (repaired_of g.found) g.names g.line g.clock g.given
+      can : CanCarryOut (zeroed_base g) g.sizes (repaired_of g.found) g.names g.backup g.line g.clock g.given
       can = can_carry_out scans g stage start ended r repaired zeros
 
       -- until the zeros are written an image shows the version that stood
@@ -183,12 +210,12 @@ module _ (scans : RepairedScans) (g : Given) (stage : Stage) (start ended : Told
       -- one from then on is on the way of the commit
       pub way_at : (m : ℕ) → length r.zeroed.steps ≤ m → m ≤ length ended.steps → (image : Image) → IsImage (at_moment m ended) image → FindsOnTheWay g.sizes image (repaired_of g.found) change change.group
       way_at m ge le image is =
-          images_scan (zeroed_base g) g.sizes (repaired_of g.found) g.names g.line g.clock g.given can image (after_zeros g stage start ended r repaired zeroed m ge le image is)
+          images_scan (zeroed_base g) g.sizes (repaired_of g.found) g.names g.backup g.line g.clock g.given can image (after_zeros g stage start ended r repaired zeroed m ge le image is)
 
       -- and each sector of the zeros has them
       pub zeros_stand : (m : ℕ) → length r.zeroed.steps ≤ m → m ≤ length ended.steps → (image : Image) → IsImage (at_moment m ended) image → (disk sector : ℕ) → in_spans change.zero disk sector ≡ true → image disk sector ≡ zero_sector
       zeros_stand m ge le image is disk sector among =
-          zeroes_kept (repaired_base g) g.sizes (repaired_of g.found) g.names g.line g.clock g.given (can_start scans g stage start ended r repaired zeros) image
+          zeroes_kept (repaired_base g) g.sizes (repaired_of g.found) g.names g.backup g.line g.clock g.given (can_start scans g stage start ended r repaired zeros) image
           (after_zeros g stage start ended r repaired zeroed m ge le image is) disk sector among
 
       -- so that nothing else may be left there
@@ -203,13 +230,13 @@ module _ (scans : RepairedScans) (g : Given) (stage : Stage) (start ended : Told
       done_image = with_batches (batches_in g) (zeroed_base g)
 
       pub done_finds : FindsAtEnd g.sizes done_image (repaired_of g.found) change change.group
-      done_finds = last_scans (zeroed_base g) g.sizes (repaired_of g.found) g.names g.line g.clock g.given can
+      done_finds = last_scans (zeroed_base g) g.sizes (repaired_of g.found) g.names g.backup g.line g.clock g.given can
 
-      done_base : is_done stage ≡ true → IsBase ended done_image
+      pub done_base : is_done stage ≡ true → IsBase ended done_image
       done_base done = line.lasting done (zeroed_base g) (zeroed_base_is g stage start ended r repaired zeroed)
 
       pub last_image : is_done stage ≡ true → (image : Image) → IsImage ended image → image ≡ done_image
-      last_image done image is = one_image image done_image (λ pv sector. let m = is pv sector in (done_base done pv sector).each m.0 (image pv sector) m.1)
+      last_image done image is = image_of_base ended done_image image (done_base done) is
 
       pub last_now : is_done stage ≡ true → now_at origin_repaired (end_of origin_repaired) ≡ done_image
       last_now done = now_seen ended ended [] refl ∙ one_image (now_after ended.opened ended.steps) done_image (now_base ended done_image r.record_is (done_base done))
@@ -222,11 +249,6 @@ module _ (scans : RepairedScans) (g : Given) (stage : Stage) (start ended : Told
         abbrev opened : ℕ
         opened = length r.zeroed.steps
 
-        -- no disk is left out once it was begun
-        none_left : (pv : ℕ) → left_out (origin_at opened origin_repaired) (begun_entries origin_repaired g.line) opened pv ≡ false
-        none_left pv =
-            ap (λ (d : Option ℕ). if names_disk d pv && wrote_disk (origin_at opened origin_repaired) (begun_entries origin_repaired g.line) opened (length start.steps) 0 pv then true else false) (none_created zeros group made)
-
         now_there : now_at (origin_at opened origin_repaired) opened ≡ zeroed_base g
         now_there =
             now_before origin_repaired opened opened (omega arith) ends
@@ -234,29 +256,13 @@ module _ (scans : RepairedScans) (g : Given) (stage : Stage) (start ended : Told
             ∙ one_image (now_after r.zeroed.opened r.zeroed.steps) (zeroed_base g)
             (now_base r.zeroed (zeroed_base g) (record_before r.zeroed ended line.since line.steps r.record_is) (zeroed_base_is g stage start ended r repaired zeroed))
 
-        makes : Makes (origin_at opened origin_repaired) (begun_entries origin_repaired g.line) opened g.line next
-        makes = record {
-          planned = r.given.planned;
-          before = record {
-            found = repaired_of g.found;
-            scan = subst (λ (i : Image). IsScanOf i g.sizes (repaired_of g.found)) (sym now_there) (scan_zeroed scans g stage start ended r repaired zeros);
-            left = λ pv within. none_unread (repaired_of g.found) (r.repaired_whole repaired) pv ∙ sym (none_left pv);
-            whole = (r.repaired_whole repaired).there;
-            version_xl = same_version scans g stage start ended r repaired;
-          };
-          given = g.given;
-          takes = r.takes zeros;
-          accepted = r.passes zeros;
-          change = sym (made_version change group made);
-        }
-
         makes_version : MakesVersion g.line.command version next
         makes_version = changes_make g.line.command version next (changes zeros group made)
 
         -- only zeros may be left where a volume begins that the line makes
         begins_zeroed : (m : ℕ) → opened ≤ m → m ≤ length ended.steps → ZeroesStand (origin_at m origin_repaired) g.line.command next
         begins_zeroed m ge le =
-            let starts : CanCarryOut (repaired_base g) g.sizes (repaired_of g.found) g.names g.line g.clock g.given = can_start scans g stage start ended r repaired zeros in
+            let starts : CanCarryOut (repaired_base g) g.sizes (repaired_of g.found) g.names g.backup g.line g.clock g.given = can_start scans g stage start ended r repaired zeros in
             ⊎_elim
             (λ none. zeroes_stand (origin_at m origin_repaired) g.line.command next none makes_version)
             (λ created.
@@ -265,8 +271,8 @@ module _ (scans : RepairedScans) (g : Given) (stage : Stage) (start ended : Told
             (new_zeroes_stand (origin_at m origin_repaired) created.0 next own
             (λ x within low.
             zeros_left m ge le (place_at own.0.places x)
-            (line_zeroed (repaired_of g.found) g.names g.clock g.given (r.repaired_shape repaired)
-            (is_state (repaired_base g) g.sizes (repaired_of g.found) g.names g.line g.clock g.given starts) (found_accepted (repaired_base g) g.sizes (repaired_of g.found) starts.scan) r.given.time g.line created.0 created.1 r.given.planned (r.takes zeros) (r.passes zeros) group made own.0
+            (line_zeroed (repaired_of g.found) g.names g.backup g.clock g.given (r.repaired_shape repaired)
+            (is_state (repaired_base g) g.sizes (repaired_of g.found) g.names g.backup g.line g.clock g.given starts) (found_accepted (repaired_base g) g.sizes (repaired_of g.found) starts.scan) r.given.time g.line created.0 created.1 r.given.planned (r.takes zeros) (r.passes zeros) group made own.0
             (own.2 ∙ ap (λ (v : Option Version). volumes_of v ++ own.0 ∷ []) (sym (same_version scans g stage start ended r repaired))) x within low))))
             (zero_cases g.line.command)
 
@@ -279,7 +285,7 @@ module _ (scans : RepairedScans) (g : Given) (stage : Stage) (start ended : Told
           keeps = makes_version;
           zeroed = begins_zeroed;
           before = λ m ge lt image is. before_commit m ge (omega (arith, lt)) image is;
-          makes = makes;
+          makes = makes_then zeros ended opened next (none_created zeros group made) now_there (sym (made_version change group made));
           between = λ m ge le image is.
               ⊎_elim
               (λ old. inl (subst (λ (v : Option Version). FindsVersion g.sizes image none_out v) (same_version scans g stage start ended r repaired) old))
@@ -294,7 +300,7 @@ module _ (scans : RepairedScans) (g : Given) (stage : Stage) (start ended : Told
           after = from_start g stage start ended r repaired zeroed (λ image. FindsVersion g.sizes image none_out version) (λ image is. finds_zeroing scans g stage start ended r repaired image is)
               (λ m ge le image is.
               subst (λ (v : Option Version). FindsVersion g.sizes image none_out v) (same_version scans g stage start ended r repaired)
-              (unpublished_scans (zeroed_base g) g.sizes (repaired_of g.found) g.names g.line g.clock g.given can image line.submitted less
+              (unpublished_scans (zeroed_base g) g.sizes (repaired_of g.found) g.names g.backup g.line g.clock g.given can image line.submitted less
               (submitted_after g stage start ended r repaired zeroed m ge le image is) group made));
         }
 

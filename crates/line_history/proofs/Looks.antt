@@ -1,6 +1,6 @@
 -- A run that only looks at its disks has its history.
 use Rattle.std.specs.Prelude.{is_some}
-use Rattle.std.proofs.Common.{◌≡◌, ◌≤◌, ℕ, zero, suc, ◌-◌, true, false, List, [], ◌∷◌, length, drop, take, Some, refl, sym, ap, subst, ◌∙◌, arith}
+use Rattle.std.proofs.Common.{◌≡◌, ◌≤◌, ℕ, zero, suc, ◌-◌, true, false, List, [], ◌∷◌, length, drop, take, Some, None, refl, sym, ap, subst, ◌∙◌, arith}
 use Rattle.disk_model.specs.CrashValues.{IsImage}
 use Rattle.disk_model.specs.Durability.{IsBase}
 use Rattle.disk_model.specs.Moments.{at_moment}
@@ -21,13 +21,13 @@ use Rattle.volume_history.specs.Quiet.{is_quiet}
 use Rattle.volume_history.specs.Laws.{Tells}
 use Rattle.volume_history.specs.Runs.{journal_of, lines_of}
 use Rattle.volume_history.specs.Single.{LeavesDisk, StaysLaw, answered_entries, taken_entries}
-use Rattle.line_history.proofs.Finding.{one_image}
+use Rattle.line_history.proofs.Finding.{image_of_base}
 use Rattle.line_history.proofs.Images.{quiet_base}
 use Rattle.line_history.proofs.Origins.{origin, still}
 use Rattle.line_history.proofs.Seen.{part, part_then, steps_more, told_then}
 use Rattle.line_history.proofs.Settled.{none_pending}
 use Rattle.line_history.proofs.Stays.{all_stay}
-use Rattle.line_history.specs.Histories.{HasRunHistory, IsFineOrBad, LooksAlone, journal_of_line}
+use Rattle.line_history.specs.Histories.{HasRunHistory, IsFineOrBad, LooksAlone, journal_of_line, took_if}
 
 -- older steps of some that write nothing do neither
 nothing_older : (k : ℕ) (steps : List Step) → WritesNothing steps → WritesNothing (drop k steps)
@@ -57,7 +57,7 @@ module _ (handed : Told) (sizes : List ℕ) (names : List Word) (clock : ℕ) (e
   finds_at : (m : ℕ) → length handed.steps ≤ m → m ≤ length ended.steps → (image : Image) → IsImage (at_moment m ended) image → FindsVersion sizes image none_out l.version
   finds_at m ge le image is =
       subst (λ (i : Image). FindsVersion sizes i none_out l.version)
-      (sym (one_image image l.base (λ pv sector. let v = is pv sector in (base_at m ge le pv sector).each v.0 (image pv sector) v.1))) l.finds
+      (sym (image_of_base (at_moment m ended) l.base image (base_at m ge le) is)) l.finds
 
   abbrev origin_is : Origin
   origin_is = origin handed handed ended [] l.since refl l.steps l.record_is l.base l.base l.base_is l.base_is sizes names clock l.version
@@ -87,7 +87,7 @@ module _ (handed : Told) (sizes : List ℕ) (names : List Word) (clock : ℕ) (e
     plain : is_data line.command ≡ false
     plain = (quiet_command line.command quiet).data_xl
 
-    undone : (said : Answer) → is_good said ≡ false → HasRunHistory handed l.base sizes names clock ended (journal_of_line (length handed.steps) (length ended.steps) said) ((line, Some said) ∷ [])
+    undone : (said : Answer) → is_good said ≡ false → HasRunHistory handed l.base sizes names clock ended (journal_of_line (length handed.steps) None (length ended.steps)) ((line, Some said) ∷ [])
     undone answer.Fine bad = cc
     undone (answer.Read sectors) bad = cc
     undone (answer.Listed volumes) bad = cc
@@ -99,7 +99,7 @@ module _ (handed : Told) (sizes : List ℕ) (names : List Word) (clock : ℕ) (e
     undone answer.Aborted bad = told_so (answered_entries origin_is line answer.Aborted) (undone_line origin_is line stays plain (leaves line) answer.Aborted bad) refl
     undone answer.NoMemory bad = told_so (answered_entries origin_is line answer.NoMemory) (undone_line origin_is line stays plain (leaves line) answer.NoMemory bad) refl
 
-    pub reports : (said : Answer) → IsFineOrBad said → HasRunHistory handed l.base sizes names clock ended (journal_of_line (length handed.steps) (length ended.steps) said) ((line, Some said) ∷ [])
+    pub reports : (said : Answer) → IsFineOrBad said → HasRunHistory handed l.base sizes names clock ended (journal_of_line (length handed.steps) (took_if said (length ended.steps)) (length ended.steps)) ((line, Some said) ∷ [])
     reports answer.Fine may = told_so (taken_entries origin_is line) (done_line origin_is line stays plain (leaves line) none) refl
     reports (answer.Read sectors) may = undone (answer.Read sectors) may
     reports (answer.Listed volumes) may = undone (answer.Listed volumes) may

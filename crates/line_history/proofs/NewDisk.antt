@@ -22,9 +22,9 @@ use Rattle.volume_history.proofs.Phases.{finds_with}
 use Rattle.volume_history.specs.Chronicles.{has_written, steps_upto}
 use Rattle.volume_history.specs.Commands.{created_disk}
 use Rattle.volume_history.specs.Single.{CreateLaw, CreatedLaw, is_half_made}
-use Rattle.line_history.proofs.Finding.{can_start, finds_start, one_image, repaired_base, same_version}
+use Rattle.line_history.proofs.Finding.{can_start, finds_start, image_of_base, repaired_base, same_version}
 use Rattle.line_history.proofs.Images.{all_zeros, begun_zeros, line as line_of, quiet_base, start_base}
-use Rattle.line_history.proofs.Lines.{change, done_finds, done_image, is_still, last_image, origin_repaired}
+use Rattle.line_history.proofs.Lines.{change, done_finds, done_image, is_still, origin_repaired}
 use Rattle.line_history.proofs.OneDisk.{AreOn, BatchesAreOn, first_on, label_on, older_on, unwritten}
 use Rattle.line_history.proofs.Seen.{part, part_then, told_then}
 use Rattle.line_history.specs.LineRun.{Given, RunsLine, Stage, batches_in, is_done, is_repaired, is_zeroed, zeros_in}
@@ -82,7 +82,7 @@ module _ (scans : RepairedScans) (g : Given) (stage : Stage) (start ended : Told
   new_way : (m : ℕ) → length start.steps ≤ m → m ≤ length ended.steps → (image : Image) → IsImage (at_moment m ended) image
       → FindsOnTheWay g.sizes image (repaired_of g.found) (change scans g stage start ended r repaired) (change scans g stage start ended r repaired).group
   new_way m ge le image is =
-      images_scan (repaired_base g) g.sizes (repaired_of g.found) g.names g.line g.clock g.given (can_start scans g stage start ended r repaired (begun_zeros stage zeroed)) image
+      images_scan (repaired_base g) g.sizes (repaired_of g.found) g.names g.backup g.line g.clock g.given (can_start scans g stage start ended r repaired (begun_zeros stage zeroed)) image
       (of_submitted line.submitted (batches_in g) (repaired_base g) image (line.every_image (repaired_base g) (start_base g stage start ended r repaired) m ge le image is))
 
   -- ---- at a moment from the start on
@@ -110,8 +110,8 @@ module _ (scans : RepairedScans) (g : Given) (stage : Stage) (start ended : Told
     finds_then false is image im =
         let nothing : WritesNothing steps = unwritten disk steps (older_on disk (length ended.steps - m) line.since since_on) is in
         let stays : IsBase (steps_on steps start) (repaired_base g) = quiet_base start (steps_on steps start) steps refl nothing (repaired_base g) (start_base g stage start ended r repaired) in
-        let same : image ≡ repaired_base g = one_image image (repaired_base g)
-        (λ pv sector. let v = (subst (λ (t : Told). IsImage t image) (told_then start ended line.since line.steps m ge le) im) pv sector in (stays pv sector).each v.0 (image pv sector) v.1) in
+        let same : image ≡ repaired_base g =
+        image_of_base (steps_on steps start) (repaired_base g) image stays (subst (λ (t : Told). IsImage t image) (told_then start ended line.since line.steps m ge le) im) in
         finds_with g.sizes image none_out (is_half_made (origin_repaired scans g stage start ended r repaired) disk m) version (λ pv. sym (half_made false is pv ∙ and_false (disk == pv)))
         (subst (λ (i : Image). FindsVersion g.sizes i none_out version) (sym same) (finds_start scans g stage start ended r repaired))
 
@@ -124,10 +124,10 @@ module _ (scans : RepairedScans) (g : Given) (stage : Stage) (start ended : Told
     between = λ m ge lt image im. finds_then m ge (omega (arith, lt, by)) (has_written (steps m ge (omega (arith, lt, by))) disk) refl image im;
   }
 
-  pub created_law : is_done stage ≡ true → CreatedLaw (origin_repaired scans g stage start ended r repaired)
-  created_law done = record {
+  pub created_law : IsBase ended (done_image scans g stage start ended r repaired zeroed) → CreatedLaw (origin_repaired scans g stage start ended r repaired)
+  created_law base_is = record {
     after = λ image im.
-        subst (λ (i : Image). FindsVersion g.sizes i none_out version) (sym (last_image scans g stage start ended r repaired zeroed done image im))
+        subst (λ (i : Image). FindsVersion g.sizes i none_out version) (sym (image_of_base ended (done_image scans g stage start ended r repaired zeroed) image base_is im))
         (subst (λ (v : Option Version). FindsVersion g.sizes (done_image scans g stage start ended r repaired zeroed) none_out v) (same_version scans g stage start ended r repaired)
         (subst (λ (o : Option Group). FindsAtEnd g.sizes (done_image scans g stage start ended r repaired zeroed) (repaired_of g.found) (change scans g stage start ended r repaired) o) none (done_finds scans g stage start ended r repaired zeroed)));
   }

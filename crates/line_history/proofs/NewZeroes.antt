@@ -37,6 +37,7 @@ use Rattle.volume_history.specs.Candidates.{place_at}
 use Rattle.volume_history.specs.Placed.{Place, PlacedVolume, no_place, on_disk, place_of, volumes_of}
 use Rattle.line_history.proofs.KeptVolumes.{KeepsDisks}
 use Rattle.line_history.proofs.LongerVolumes.{new_placed, volumes_more}
+use Rattle.group_ops.specs.declared.backup.Backup.{Backup}
 
 -- ---- lists
 
@@ -92,9 +93,9 @@ module _ (old : Group) (disk_of : List ℕ) (accepted : IsAccepted old) (id : Li
 
 -- ---- the line
 
-module _ (found : Found) (names : List (List ℕ)) (now : ℕ) (given : List Part) (shape : HasShape found) (state_is : IsState (state_in found names)) (accepted : (group : Group) → found.group ≡ Some group → IsAccepted group) (time : now < 2 ^ 48) where
+module _ (found : Found) (names : List (List ℕ)) (backup : Option Backup) (now : ℕ) (given : List Part) (shape : HasShape found) (state_is : IsState (state_in found names backup)) (accepted : (group : Group) → found.group ≡ Some group → IsAccepted group) (time : now < 2 ^ 48) where
   abbrev state : GroupState
-  state = state_in found names
+  state = state_in found names backup
 
   -- the volume that the change puts behind the others of this version
   abbrev ZeroesLast : Option Version → Change → Type 0

@@ -73,5 +73,9 @@ by_group base found told shape is same accepted (Some group) there =
     subst (λ (l : List ℕ). AllUntouched base (volumes_of (Some (record { group = group; disk_of = l }))) told) listed
     (volumes_untouched base told is group (accepted group there) found.disk_of (λ image has. same image has group there))
 
+-- what an image has at the places of the volumes that were found in another one
+pub places_kept : (base mid : Image) (sizes : List ℕ) (found : Found) (told : Told) → IsScanOf base sizes found → HasShape found → IsRecord told.steps → AllHave mid found told → AllUntouched mid (volumes_of (version_in found)) told
+places_kept base mid sizes found told scan shape is same = by_group mid found told shape is same (found_accepted base sizes found scan) found.group refl
+
 pub places_untouched : (base : Image) (sizes : List ℕ) (found : Found) (told : Told) → IsScanOf base sizes found → HasShape found → IsRecord told.steps → AllHave base found told → AllUntouched base (volumes_of (version_in found)) told
-places_untouched base sizes found told scan shape is same = by_group base found told shape is same (found_accepted base sizes found scan) found.group refl
+places_untouched base sizes found told scan shape is same = places_kept base base sizes found told scan shape is same

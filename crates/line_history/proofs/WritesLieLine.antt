@@ -28,10 +28,11 @@ use Rattle.image_scans.proofs.Front.{AnyWrites, any_append, any_if, written_of}
 use Rattle.image_scans.proofs.Lines.{LineMakes, line_makes, makes_nothing, makes_pv, makes_version}
 use Rattle.line_history.specs.Places.{BatchesWrite, AtHeader, AtLabel, InArea, IsLinePlace}
 use Rattle.line_history.proofs.WritesLieAny.{any_writes, area_write, written_of_flat}
+use Rattle.group_ops.specs.declared.backup.Backup.{Backup}
 
-module _ (base : Image) (sizes : List ℕ) (found : Found) (names : List (List ℕ)) (line : Line) (now : ℕ) (given : List Part) (p : CanCarryOut base sizes found names line now given) (pv sector : ℕ) where
+module _ (base : Image) (sizes : List ℕ) (found : Found) (names : List (List ℕ)) (backup : Option Backup) (line : Line) (now : ℕ) (given : List Part) (p : CanCarryOut base sizes found names backup line now given) (pv sector : ℕ) where
   abbrev state : GroupState
-  state = state_in found names
+  state = state_in found names backup
 
   abbrev change : Change
   change = change_of state line now given
@@ -48,8 +49,8 @@ module _ (base : Image) (sizes : List ℕ) (found : Found) (names : List (List �
   commit_lies : Commits found state change → (value : List ℕ) → AnyWrites (batches_of state line now given) pv sector value → IsPlace
   commit_lies c value by =
       ⊎_elim (at_label value) (λ area. InArea c.group c.makes.made (area_write pv sector (printed (tree_of c.group now)) (areas_of change state.areas) value area))
-      (writes state (is_state base sizes found names line now given p) change c.group c.makes (printed (tree_of c.group now)) ((can base sizes found names line now given p).commit c.group c.makes.made)
-      (can base sizes found names line now given p).labels (lies base sizes found names line now given p).differ base pv sector value
+      (writes state (is_state base sizes found names backup line now given p) change c.group c.makes (printed (tree_of c.group now)) ((can base sizes found names backup line now given p).commit c.group c.makes.made)
+      (can base sizes found names backup line now given p).labels (lies base sizes found names backup line now given p).differ base pv sector value
       (subst (λ (g : Option Group). AnyWrites (batches_with g) pv sector value) c.makes.made by))
 
   at_header : change.group ≡ None → (value : List ℕ) → IsWrittenBy (flat_map area_puts change.labels) pv sector value → IsPlace
@@ -75,4 +76,4 @@ module _ (base : Image) (sizes : List ℕ) (found : Found) (names : List (List �
   by_line (makes_nothing none labels) value by = none_lies none value by
 
   pub line_writes_lie : BatchesWrite (batches_of state line now given) pv sector → IsPlace
-  line_writes_lie is = let w = any_writes pv sector (batches_of state line now given) is in by_line (line_makes base sizes found names line now given p) w.0 w.1
+  line_writes_lie is = let w = any_writes pv sector (batches_of state line now given) is in by_line (line_makes base sizes found names backup line now given p) w.0 w.1

@@ -13,13 +13,14 @@ use Rattle.vg_change.specs.Batches.{label_put}
 use Rattle.vg_repair.specs.Batches.{repair_batches, stray_areas, stray_labels}
 use Rattle.vg_repair.specs.Stale.{stale_areas, text_of}
 use Rattle.repair_scans.specs.Laws.{CanRepair}
-use Rattle.repair_scans.proofs.RepairOnTheWay.{IsClearWrite, writes}
+use Rattle.repair_scans.proofs.RepairOnTheWay.{writes}
+use Rattle.image_scans.proofs.ClearWrites.{IsClearWrite}
 use Rattle.line_history.specs.Places.{BatchesWrite, AtStray, AtStrayHeader, InStale, IsRepairPlace}
 use Rattle.image_scans.proofs.Front.{written_of}
 use Rattle.line_history.proofs.WritesLieAny.{any_writes, area_write}
 
 module _ (base : Image) (sizes : List ℕ) (found : Found) (p : CanRepair base sizes found) (pv sector : ℕ) where
-  at_header : (value : List ℕ) → IsClearWrite base sizes found p pv sector value → IsRepairPlace found pv sector
+  at_header : (value : List ℕ) → IsClearWrite (stray_areas found) pv sector value → IsRepairPlace found pv sector
   at_header value w =
       AtStrayHeader
       (list_any_at (λ (area : Area × Option Locn). covers (header_span area.0) pv sector) (stray_areas found) w.number no_area w.among

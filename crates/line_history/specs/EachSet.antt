@@ -1,28 +1,36 @@
 -- No set of disks finds an older version of the group once a commit is done.
-use Rattle.std.specs.Prelude.{◌≡◌, ℕ, true, List, Option, Some, option_map}
+use Rattle.std.specs.Prelude.{◌≡◌, ℕ, true, List, Option, None, Some, option_map}
 use Rattle.disk_batch.specs.InTurn.{with_batches}
 use Rattle.disk_model.specs.CrashValues.{IsImage}
 use Rattle.disk_model.specs.Steps.{Image, Told}
 use Rattle.extent_alloc.specs.declared.part.Part.{Part}
+use Rattle.lvm_script.specs.declared.command.Command.TheVariants.{Vgremove}
 use Rattle.lvm_script.specs.declared.line.Line.{Line}
 use Rattle.meta_model.specs.declared.group.Group.{Group}
 use Rattle.vg_found.specs.declared.found.Found.{Found}
 use Rattle.vg_scan.specs.Scans.{IsScanOf}
 use Rattle.group_ops.specs.Laws.{state_in}
 use Rattle.group_ops.specs.Planning.{change_of}
-use Rattle.vg_change.specs.Batches.{batches_of}
+use Rattle.vg_change.specs.Batches.{batches_of, clears_of}
 use Rattle.image_scans.specs.Laws.{CanCarryOut, none_out}
 use Rattle.image_scans.specs.Versions.{FindsVersion, Version}
 use Rattle.volume_history.specs.Commands.{commits}
-use Rattle.line_history.specs.LineRun.{Given, RunsLine, Done}
+use Rattle.line_history.specs.LineRun.{ClearsLine, Given}
+use Rattle.group_ops.specs.declared.backup.Backup.{Backup}
 
--- once all of a line's batches are written, a scan of any of the disks, the others taken as empty, finds no group or the one
--- that was committed
+-- once all of a line's batches are written, and disks are cleared behind them, a scan of any of the disks, the others taken as
+-- empty, finds no group or the one that was committed
 abbrev pub EachSetFinds : Type 0
 EachSetFinds =
-    (base : Image) (sizes : List ℕ) (found : Found) (names : List (List ℕ)) (line : Line) (now : ℕ) (given : List Part) (group : Group) → CanCarryOut base sizes found names line now given
-    → (change_of (state_in found names) line now given).group ≡ Some group
-    → (some : Found) (other : Group) → IsScanOf (with_batches (batches_of (state_in found names) line now given) base) sizes some → some.group ≡ Some other → other ≡ group
+    (base : Image) (sizes : List ℕ) (found : Found) (names : List (List ℕ)) (backup : Option Backup) (line : Line) (now : ℕ) (given : List Part) (group : Group) → CanCarryOut base sizes found names backup line now given
+    → (change_of (state_in found names backup) line now given).group ≡ Some group
+    → (some : Found) (other : Group) → IsScanOf (with_batches (clears_of (state_in found names backup) line now given) (with_batches (batches_of (state_in found names backup) line now given) base)) sizes some → some.group ≡ Some other → other ≡ group
+
+-- and once a vgremove has cleared its disks, it finds none
+abbrev pub EachSetRemoved : Type 0
+EachSetRemoved =
+    (base : Image) (sizes : List ℕ) (found : Found) (names : List (List ℕ)) (backup : Option Backup) (line : Line) (now : ℕ) (given : List Part) (vg : List ℕ) → CanCarryOut base sizes found names backup line now given → line.command ≡ Vgremove vg
+    → (some : Found) → IsScanOf (with_batches (clears_of (state_in found names backup) line now given) base) sizes some → some.group ≡ None
 
 -- in every image that a crash may leave then, a scan of any of the disks finds no group or that of the version which a scan of
 -- all of them finds
@@ -31,6 +39,6 @@ SetsAgree sizes told =
     (image : Image) → IsImage told image → (version : Option Version) → FindsVersion sizes image none_out version
     → (some : Found) (group : Group) → IsScanOf image sizes some → some.group ≡ Some group → option_map (λ (v : Version). v.group) version ≡ Some group
 
--- so it is at the end of a run whose line has committed a group
+-- so it is at the end of a run whose line has committed a group, or removed it
 abbrev pub DoneSetsAgree : Type 0
-DoneSetsAgree = (g : Given) (start ended : Told) → RunsLine g Done start ended → commits g.line.command ≡ true → SetsAgree g.sizes ended
+DoneSetsAgree = (g : Given) (start ended : Told) → ClearsLine g true start ended → commits g.line.command ≡ true → SetsAgree g.sizes ended

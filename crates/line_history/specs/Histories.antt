@@ -1,5 +1,6 @@
 -- The history of a run of one line: its journal and its answers, by what the line came to.
-use Rattle.std.specs.Prelude.{◌≡◌, ℕ, true, false, List, [], ◌∷◌, ◌++◌, flat_map, is_some, length, Option, Some}
+use Rattle.std.specs.Prelude.{◌≡◌, ℕ, Bool, true, false, List, [], ◌∷◌, ◌++◌, flat_map, is_some, length, Option, Some, None}
+use Rattle.disk_batch.specs.InTurn.{Put}
 use Rattle.disk_model.specs.Durability.{IsBase}
 use Rattle.disk_model.specs.Order.{WritesNothing}
 use Rattle.disk_model.specs.Record.{IsRecord}
@@ -8,7 +9,8 @@ use Rattle.disk_model.specs.Steps.{Image, Step, Told, steps_on}
 use Rattle.extent_alloc.specs.declared.part.Part.{Part}
 use Rattle.group_ops.specs.Allocating.{Takes}
 use Rattle.group_ops.specs.Laws.{state_in}
-use Rattle.group_ops.specs.Planning.{asks_of}
+use Rattle.group_ops.specs.declared.backup.Backup.{Backup}
+use Rattle.group_ops.specs.Planning.{IsBackupOf, asks_of, change_of}
 use Rattle.image_scans.specs.Laws.{none_out}
 use Rattle.image_scans.specs.Versions.{FindsVersion, Version}
 use Rattle.line_table.specs.declared.journal.EntryKind.{EntryKind}
@@ -18,7 +20,7 @@ use Rattle.lvm_script.specs.Options.{Word}
 use Rattle.lvm_script.specs.declared.answer.Answer.{Answer}
 use Rattle.lvm_script.specs.declared.answer.Answer.TheVariants as answer
 use Rattle.lvm_script.specs.declared.line.Line.{Line}
-use Rattle.vg_change.specs.Batches.{batches_of, zeros_of}
+use Rattle.vg_change.specs.Batches.{batches_of, clears_of, zeros_of}
 use Rattle.vg_found.specs.declared.found.Found.{Found}
 use Rattle.vg_repair.specs.Batches.{repair_batches}
 use Rattle.vg_repair.specs.Repaired.{repaired_of}
@@ -27,7 +29,7 @@ use Rattle.volume_history.specs.Chronicles.{pending}
 use Rattle.volume_history.specs.Commands.{commits, is_good}
 use Rattle.volume_history.specs.Quiet.{is_quiet}
 use Rattle.volume_history.specs.Runs.{HasHistory, Run, zero_piece}
-use Rattle.line_history.specs.LineRun.{Given, RunsLine, Stage, Repaired, Zeroing, Writing, Done}
+use Rattle.line_history.specs.LineRun.{ClearsLine, Given, RunsLine, Stage, Repaired, Zeroing, Writing, Done}
 
 -- the run of disks of these sizes and names, from when they were handed in, as far as this is told
 abbrev pub run_from : Told → List ℕ → List Word → ℕ → Told → Run
@@ -37,28 +39,53 @@ run_from handed sizes names clock ended = record { told = ended; first = length 
 abbrev pub entry : EntryKind → ℕ → JournalEntry
 entry what moment = record { kind = what; line = 0; piece = zero_piece 0; moment = moment }
 
--- the journal of a line that was begun at the one moment and answered so at the other: where it was done, it took place then
-abbrev pub journal_of_line : ℕ → ℕ → Answer → List JournalEntry
-journal_of_line begun answered answer.Fine = entry kind.Begun begun ∷ entry kind.Took answered ∷ entry kind.Answered answered ∷ []
-journal_of_line begun answered _ = entry kind.Begun begun ∷ entry kind.Answered answered ∷ []
+-- the journal of a line that was begun at the one moment and answered at the other, and that took place at the moment between
+-- them, or not at all
+abbrev pub journal_of_line : ℕ → Option ℕ → ℕ → List JournalEntry
+journal_of_line begun None answered = entry kind.Begun begun ∷ entry kind.Answered answered ∷ []
+journal_of_line begun (Some took) answered = entry kind.Begun begun ∷ entry kind.Took took ∷ entry kind.Answered answered ∷ []
 
--- what a line may answer that came so far
+-- what a line may answer that came so far and wasn't done
 abbrev pub MayAnswer : Stage → Answer → Type 0
 MayAnswer Repaired (answer.Refused refusal) = Unit {0}
 MayAnswer Zeroing (answer.PvFailed pv) = Unit {0}
 MayAnswer Writing (answer.PvFailed pv) = Unit {0}
-MayAnswer Done answer.Fine = Unit {0}
 MayAnswer _ _ = ⊥
 
--- all was submitted that the repair of what a scan of the base finds and this line write
+-- what one may answer whose batches were written, by whether all went well while disks were cleared
+abbrev pub MayEnd : Bool → Answer → Type 0
+MayEnd true answer.Fine = Unit {0}
+MayEnd false (answer.PvFailed pv) = Unit {0}
+MayEnd _ _ = ⊥
+
+-- the moment at which such a line took place: where it commits a group, that at which its batches were written; else its end, if
+-- all went well
+abbrev pub took_of : Bool → Bool → ℕ → ℕ → Option ℕ
+took_of true well made ended = Some made
+took_of false true made ended = Some ended
+took_of false false made ended = None
+
+-- whether the line commits a group
+abbrev pub commits_in : Given → Bool
+commits_in g = is_some (change_of (state_in (repaired_of g.found) g.names g.backup) g.line g.clock g.given).group
+
+-- the batches that end what a line makes, where it commits a group: the others; and else those that clear disks too
+abbrev pub making : Bool → List (List Put) → List (List Put) → List (List Put)
+making true batches clears = batches
+making false batches clears = batches ++ clears
+
+-- all was submitted that the repair of what a scan of the base finds and this line write until the line is made
 pub record HasSubmittedAll (handed : Told) (base : Image) (sizes : List ℕ) (names : List Word) (clock : ℕ) (line : Line) (ended : Told) : Type 0 where
   pub found : Found
   pub scan : IsScanOf base sizes found
   pub since : List Step
   pub steps : ended ≡ steps_on since handed
   pub given : List Part
-  pub takes : Takes (asks_of (state_in (repaired_of found) names) line) given
-  pub writes : writes_submitted since ≡ flat_map (λ batch. batch) (repair_batches found ++ zeros_of (state_in (repaired_of found) names) line clock given ++ batches_of (state_in (repaired_of found) names) line clock given)
+  pub backup : Option Backup
+  pub given_back : IsBackupOf line.command backup
+  pub takes : Takes (asks_of (state_in (repaired_of found) names backup) line) given
+  pub writes : writes_submitted since ≡ flat_map (λ batch. batch) (repair_batches found ++ zeros_of (state_in (repaired_of found) names backup) line clock given ++
+      making (is_some (change_of (state_in (repaired_of found) names backup) line clock given).group) (batches_of (state_in (repaired_of found) names backup) line clock given) (clears_of (state_in (repaired_of found) names backup) line clock given))
 
 -- a run of one line had come to its last batch
 abbrev pub IsAtLast : Told → Image → List ℕ → List Word → ℕ → List (Line × Option Answer) → Told → Type 0
@@ -76,11 +103,17 @@ pub record HasRunHistory (handed : Told) (base : Image) (sizes : List ℕ) (name
 abbrev pub HasHistoryOf : Given → Told → List JournalEntry → List (Line × Option Answer) → Type 0
 HasHistoryOf g ended journal lines = HasRunHistory g.handed g.base g.sizes g.names g.clock ended journal lines
 
--- a run whose line was begun has its history
+-- a run whose line was begun has its history, where the line wasn't done
 abbrev pub LinesHaveHistories : Type 0
 LinesHaveHistories =
     (g : Given) (stage : Stage) (start ended : Told) (said : Answer) → RunsLine g stage start ended → MayAnswer stage said
-    → HasHistoryOf g ended (journal_of_line (length start.steps) (length ended.steps) said) ((g.line, Some said) ∷ [])
+    → HasHistoryOf g ended (journal_of_line (length start.steps) None (length ended.steps)) ((g.line, Some said) ∷ [])
+
+-- and where its batches were written, and disks cleared as far as that came
+abbrev pub ClearsHaveHistories : Type 0
+ClearsHaveHistories =
+    (g : Given) (well : Bool) (start ended : Told) (said : Answer) (c : ClearsLine g well start ended) → MayEnd well said
+    → HasHistoryOf g ended (journal_of_line (length start.steps) (took_of (commits_in g) well (length c.made.steps) (length ended.steps)) (length ended.steps)) ((g.line, Some said) ∷ [])
 
 -- nothing of the line was written
 abbrev pub IsBeforeLine : Stage → Type 0
@@ -116,9 +149,14 @@ abbrev pub IsFineOrBad : Answer → Type 0
 IsFineOrBad answer.Fine = Unit {0}
 IsFineOrBad said = is_good said ≡ false
 
+-- the moment at which such a line took place, if it was answered ok
+abbrev pub took_if : Answer → ℕ → Option ℕ
+took_if answer.Fine ended = Some ended
+took_if _ ended = None
+
 -- so has one whose line commits nothing
 abbrev pub ReportsHaveHistories : Type 0
 ReportsHaveHistories =
     (handed : Told) (sizes : List ℕ) (names : List Word) (clock : ℕ) (ended : Told) (line : Line) (said : Answer) (l : LooksAlone handed sizes ended)
     → is_quiet line.command ≡ true → commits line.command ≡ false → IsFineOrBad said
-    → HasRunHistory handed l.base sizes names clock ended (journal_of_line (length handed.steps) (length ended.steps) said) ((line, Some said) ∷ [])
+    → HasRunHistory handed l.base sizes names clock ended (journal_of_line (length handed.steps) (took_if said (length ended.steps)) (length ended.steps)) ((line, Some said) ∷ [])

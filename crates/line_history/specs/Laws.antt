@@ -1,5 +1,5 @@
 -- What a line and the images on its way give of histories.
-use Rattle.std.specs.Prelude.{◌≡◌, ℕ, List, Some}
+use Rattle.std.specs.Prelude.{◌≡◌, ℕ, List, Some, Option}
 use Rattle.sector_base.specs.declared.places.At.{At}
 use Rattle.disk_model.specs.CrashValues.{IsImage}
 use Rattle.disk_model.specs.Record.{IsRecord}
@@ -19,13 +19,14 @@ use Rattle.image_scans.specs.Versions.{version_in}
 use Rattle.volume_history.specs.Placed.{volumes_of}
 use Rattle.volume_history.specs.Quiet.{AllUntouched}
 use Rattle.volume_history.specs.Changing.{ChangesVolumes}
+use Rattle.group_ops.specs.declared.backup.Backup.{Backup}
 
 -- the version that a line commits has the volumes that its command makes of those that were found
 abbrev pub CommitChangesVolumes : Type 0
 CommitChangesVolumes =
-    (base : Image) (sizes : List ℕ) (found : Found) (names : List (List ℕ)) (line : Line) (now : ℕ) (given : List Part) (group : Group) → CanCarryOut base sizes found names line now given
-    → (change_of (state_in found names) line now given).group ≡ Some group
-    → ChangesVolumes line.command (version_in found) (Some (version_of group (change_of (state_in found names) line now given)))
+    (base : Image) (sizes : List ℕ) (found : Found) (names : List (List ℕ)) (backup : Option Backup) (line : Line) (now : ℕ) (given : List Part) (group : Group) → CanCarryOut base sizes found names backup line now given
+    → (change_of (state_in found names backup) line now given).group ≡ Some group
+    → ChangesVolumes line.command (version_in found) (Some (version_of group (change_of (state_in found names backup) line now given)))
 
 -- where every image that a crash may leave has at each primary place of the found group what the base has, the places of its
 -- volumes are untouched

@@ -1,6 +1,6 @@
 -- A run of one line that changes something: the disks are opened, what was found is repaired, and the line is carried out, its
--- zeros first, each part as far as it came.
-use Rattle.std.specs.Prelude.{◌≡◌, ◌<◌, ℕ, ◌^◌, Bool, true, false, IsTrue, if◌then◌else◌, List, [], length, All, None}
+-- zeros first, and disks are cleared last, each part as far as it came.
+use Rattle.std.specs.Prelude.{◌≡◌, ◌<◌, ℕ, ◌^◌, Bool, true, false, IsTrue, if◌then◌else◌, List, [], length, All, None, Option}
 use Rattle.disk_batch.specs.InTurn.{Put, WritesInTurn}
 use Rattle.disk_model.specs.Durability.{IsBase}
 use Rattle.disk_model.specs.Order.{WritesNothing}
@@ -12,8 +12,9 @@ use Rattle.lvm_script.specs.Values.{is_disk_name}
 use Rattle.lvm_script.specs.declared.line.Line.{Line}
 use Rattle.group_ops.specs.Allocating.{Takes}
 use Rattle.group_ops.specs.Laws.{state_in}
-use Rattle.group_ops.specs.Planning.{IsPlanned, asks_of, refusal_of}
-use Rattle.vg_change.specs.Batches.{batches_of, zeros_of}
+use Rattle.group_ops.specs.declared.backup.Backup.{Backup}
+use Rattle.group_ops.specs.Planning.{IsBackupOf, IsPlanned, asks_of, refusal_of}
+use Rattle.vg_change.specs.Batches.{batches_of, clears_of, zeros_of}
 use Rattle.vg_change.specs.CarryingOut.{KeepsImages}
 use Rattle.vg_found.specs.Shape.{HasShape}
 use Rattle.vg_found.specs.Whole.{IsWhole}
@@ -36,6 +37,7 @@ pub data Stage : Type 0 where
   Zeroing : Stage
   -- the line's batches behind them were begun, and an operation of it failed
   Writing : Stage
+  -- these were written too
   Done : Stage
 
 -- its repair was begun
@@ -62,7 +64,7 @@ is_zeroed Writing = true
 is_zeroed Done = true
 is_zeroed _ = false
 
--- the line was done
+-- all batches of the line were written
 abbrev pub is_done : Stage → Bool
 is_done Done = true
 is_done _ = false
@@ -79,6 +81,7 @@ pub record Given : Type 0 where
   pub sizes : List ℕ
   pub found : Found
   pub names : List Word
+  pub backup : Option Backup
   pub line : Line
   pub clock : ℕ
   pub given : List Part
@@ -89,11 +92,15 @@ repairs_in g = repair_batches g.found
 
 -- those of the line's zeros, by what is found once it is done
 abbrev pub zeros_in : Given → List (List Put)
-zeros_in g = zeros_of (state_in (repaired_of g.found) g.names) g.line g.clock g.given
+zeros_in g = zeros_of (state_in (repaired_of g.found) g.names g.backup) g.line g.clock g.given
 
 -- and those behind them
 abbrev pub batches_in : Given → List (List Put)
-batches_in g = batches_of (state_in (repaired_of g.found) g.names) g.line g.clock g.given
+batches_in g = batches_of (state_in (repaired_of g.found) g.names g.backup) g.line g.clock g.given
+
+-- those that clear disks last
+abbrev pub clears_in : Given → List (List Put)
+clears_in g = clears_of (state_in (repaired_of g.found) g.names g.backup) g.line g.clock g.given
 
 -- each sector has one possible value, that of the base, of which the scan was taken; it found something whole; and the line can
 -- be planned
@@ -129,7 +136,15 @@ pub record RunsLine (g : Given) (stage : Stage) (start ended : Told) : Type 0 wh
   -- and then its other batches, or the run ended
   pub written : IsTrue (is_zeroed stage) → WritesInTurn zeroed (batches_in g) (is_done stage) ended
   pub unzeroed : is_zeroed stage ≡ false → ended ≡ zeroed
-  pub takes : IsTrue (zeros_begun stage) → Takes (asks_of (state_in (repaired_of g.found) g.names) g.line) g.given
-  pub passes : IsTrue (zeros_begun stage) → refusal_of (state_in (repaired_of g.found) g.names) g.line g.clock g.given ≡ None
-  pub keeps : IsTrue (zeros_begun stage) → KeepsImages (state_in (repaired_of g.found) g.names) g.line g.clock g.given
+  pub given_back : IsTrue (zeros_begun stage) → IsBackupOf g.line.command g.backup
+  pub takes : IsTrue (zeros_begun stage) → Takes (asks_of (state_in (repaired_of g.found) g.names g.backup) g.line) g.given
+  pub passes : IsTrue (zeros_begun stage) → refusal_of (state_in (repaired_of g.found) g.names g.backup) g.line g.clock g.given ≡ None
+  pub keeps : IsTrue (zeros_begun stage) → KeepsImages (state_in (repaired_of g.found) g.names g.backup) g.line g.clock g.given
+  pub record_is : IsRecord ended.steps
+
+-- the line's batches were written, until the disks had this record, and then disks were cleared, as far as that came
+pub record ClearsLine (g : Given) (well : Bool) (start ended : Told) : Type 0 where
+  pub made : Told
+  pub line : RunsLine g Done start made
+  pub clears : WritesInTurn made (clears_in g) well ended
   pub record_is : IsRecord ended.steps

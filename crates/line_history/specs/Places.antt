@@ -1,6 +1,8 @@
 -- Where the writes of a line and of a repair lie on the disks.
 use Rattle.std.specs.Prelude.{◌≡◌, ℕ, ◌/◌, Bool, IsTrue, List, map, flat_map, Option, None, Some}
+use Rattle.std.specs.FinSet as set
 use Rattle.std.specs.List.{list_any}
+use Rattle.std.specs.Ordering.{nat_cmp}
 use Rattle.sector_base.specs.Spans.{covers}
 use Rattle.disk_batch.specs.InTurn.{Put}
 use Rattle.disk_batch.specs.Writes.{write_work}
@@ -14,16 +16,20 @@ use Rattle.mda_ring.specs.declared.area.Area.{Area}
 use Rattle.meta_model.specs.declared.group.Group.{Group}
 use Rattle.pv_header.specs.declared.extent_list.Extent.{Extent}
 use Rattle.vg_commit.specs.Written.{header_span, in_areas}
+use Rattle.vg_found.specs.declared.disk.Disk.{Disk}
 use Rattle.vg_found.specs.declared.found.Found.{Found}
+use Rattle.group_ops.specs.Cleared.{cleared_areas, unused_labels}
 use Rattle.group_ops.specs.Laws.{state_in}
 use Rattle.group_ops.specs.Planning.{change_of}
 use Rattle.group_ops.specs.declared.state.Change.{Change}
+use Rattle.group_ops.specs.declared.state.GroupState.{GroupState}
 use Rattle.group_ops.specs.declared.state.NewLabel.{NewLabel}
-use Rattle.vg_change.specs.Batches.{areas_of, batches_of, zeros_of}
+use Rattle.vg_change.specs.Batches.{areas_of, batches_of, clears_of, zeros_of}
 use Rattle.vg_repair.specs.Batches.{repair_batches, stray_areas, stray_labels}
 use Rattle.vg_repair.specs.Stale.{stale_areas}
 use Rattle.image_scans.specs.Laws.{CanCarryOut, IsFree}
 use Rattle.repair_scans.specs.Laws.{CanRepair}
+use Rattle.group_ops.specs.declared.backup.Backup.{Backup}
 
 -- a write of one of the batches covers this sector of this disk
 abbrev pub BatchesWrite : List (List Put) → ℕ → ℕ → Type 0
@@ -60,20 +66,31 @@ pub data IsRepairPlace (found : Found) (pv sector : ℕ) : Type 0 where
   -- the header of a metadata area of a stray
   AtStrayHeader : IsTrue (in_headers (stray_areas found) pv sector) → IsRepairPlace found pv sector
 
+-- where a line may write that clears these disks: the label sector of one of them, or the header of a metadata area there
+pub data IsClearPlace (cleared : set.FinSet nat_cmp) (disks : List Disk) (areas : List (Area × Option Locn)) (pv sector : ℕ) : Type 0 where
+  AtUnused : IsTrue (in_labels (unused_labels cleared disks) pv sector) → IsClearPlace cleared disks areas pv sector
+  AtCleared : IsTrue (in_headers (cleared_areas cleared areas) pv sector) → IsClearPlace cleared disks areas pv sector
+
 -- ---- the laws
 
 -- each write of a line behind its zeros lies where a line may write
 abbrev pub LineWritesLie : Type 0
 LineWritesLie =
-    (base : Image) (sizes : List ℕ) (found : Found) (names : List (List ℕ)) (line : Line) (now : ℕ) (given : List Part) → CanCarryOut base sizes found names line now given
-    → (pv sector : ℕ) → BatchesWrite (batches_of (state_in found names) line now given) pv sector
-    → IsLinePlace (change_of (state_in found names) line now given) (state_in found names).areas pv sector
+    (base : Image) (sizes : List ℕ) (found : Found) (names : List (List ℕ)) (backup : Option Backup) (line : Line) (now : ℕ) (given : List Part) → CanCarryOut base sizes found names backup line now given
+    → (pv sector : ℕ) → BatchesWrite (batches_of (state_in found names backup) line now given) pv sector
+    → IsLinePlace (change_of (state_in found names backup) line now given) (state_in found names backup).areas pv sector
 
 -- each write of its zeros lies in the extents of the group that was found, at no primary place of a volume
 abbrev pub ZeroWritesLie : Type 0
 ZeroWritesLie =
-    (base : Image) (sizes : List ℕ) (found : Found) (names : List (List ℕ)) (line : Line) (now : ℕ) (given : List Part) → CanCarryOut base sizes found names line now given
-    → (pv sector : ℕ) → BatchesWrite (zeros_of (state_in found names) line now given) pv sector → (group : Group) × (found.group ≡ Some group) × IsFree group found.disk_of pv sector
+    (base : Image) (sizes : List ℕ) (found : Found) (names : List (List ℕ)) (backup : Option Backup) (line : Line) (now : ℕ) (given : List Part) → CanCarryOut base sizes found names backup line now given
+    → (pv sector : ℕ) → BatchesWrite (zeros_of (state_in found names backup) line now given) pv sector → (group : Group) × (found.group ≡ Some group) × IsFree group found.disk_of pv sector
+
+-- each write that clears a disk lies on one that the group lets go
+abbrev pub ClearWritesLie : Type 0
+ClearWritesLie =
+    (state : GroupState) (line : Line) (now : ℕ) (given : List Part) (pv sector : ℕ) → BatchesWrite (clears_of state line now given) pv sector
+    → IsClearPlace (change_of state line now given).cleared state.disks state.areas pv sector
 
 -- each write of a repair lies where a repair may write
 abbrev pub RepairWritesLie : Type 0

@@ -1,20 +1,22 @@
 //! What some of the disks tell once a commit is done.
-ghost use Rattle.line_history.specs.EachSet.{DoneSetsAgree, EachSetFinds};
+ghost use Rattle.line_history.specs.EachSet.{DoneSetsAgree, EachSetFinds, EachSetRemoved};
 
 use repair_scans::repair_scans;
 use vg_scan::one_reading;
 use volume_history::scans_are_one;
 
-/// Once a commit is done, a scan of any of the disks, the others taken as empty, finds no group or the one that was
-/// committed, and never an older version of it.
+/// Once a commit is done, and the disks are cleared that the group lets go, a scan of any of the disks, the others taken as
+/// empty, finds no group or the one that was committed, and never an older version of it; and none at all once a group is
+/// removed.
 pub fn each_set_finds()
-    ensures { EachSetFinds }
+    ensures finds { EachSetFinds }
+    ensures removed { EachSetRemoved }
 {
     one_reading();
 }
 
-/// So at the end of a run whose line has committed a group, in every image that a crash may leave, no set of the disks finds
-/// an older version of the group than all of them do.
+/// So at the end of a run whose line has committed a group or removed it, in every image that a crash may leave, no set of the
+/// disks finds an older version of the group than all of them do.
 pub fn done_sets_agree()
     ensures { DoneSetsAgree }
 {

@@ -1,5 +1,5 @@
 //! Laws of runs of one line: each function does nothing, and its clauses are proved.
-ghost use Rattle.line_history.specs.Histories.{EndsHaveHistories, LinesHaveHistories, LooksHaveHistories, ReportsHaveHistories};
+ghost use Rattle.line_history.specs.Histories.{ClearsHaveHistories, EndsHaveHistories, LinesHaveHistories, LooksHaveHistories, ReportsHaveHistories};
 ghost use Rattle.line_history.specs.Laws.{CommitChangesVolumes, PlacesUntouched};
 
 use repair_scans::repair_scans;
@@ -19,6 +19,7 @@ pub fn places_untouched()
 /// moment since the disks were handed in, scanning them finds one whole version of the group with its volumes' contents.
 pub fn line_histories()
     ensures lines { LinesHaveHistories }
+    ensures clears { ClearsHaveHistories }
     ensures ends { EndsHaveHistories }
     ensures looks { LooksHaveHistories }
     ensures reports { ReportsHaveHistories }

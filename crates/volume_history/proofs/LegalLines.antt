@@ -10,7 +10,7 @@ use Rattle.volume_history.specs.Chronicles.{Begun, Changed, Entry, GivenUp, Orig
 use Rattle.volume_history.specs.Commands.{commits, failed_pv, is_data, is_good, is_move, is_refused, is_wait}
 use Rattle.volume_history.specs.Legal.{AllFaithful, AllOrdered, FindsNow, GivesMachine, IsFaithful, IsOrdered, Makes, is_new_piece, is_pending, key_named, may_answer, may_answer_command, may_answer_data}
 use Rattle.volume_history.specs.Runs.{zero_piece}
-use Rattle.volume_history.specs.Single.{answered_entries, begun_entries, taken_entries, done_entries, end_of, fenced_entries, given_up_entries, open_entries}
+use Rattle.volume_history.specs.Single.{MayEnd, answered_entries, begun_entries, taken_entries, end_of, fenced_entries, given_up_entries, made_entries, open_entries}
 use Rattle.lvm_script.specs.declared.answer.Answer.TheVariants as answer
 
 or_true : (b : Bool) → (b || true) ≡ true
@@ -110,19 +110,20 @@ module _ (o : Origin) (line : Line) (quiet_data : is_data line.command ≡ false
     opened_ordered : commits line.command ≡ true → AllOrdered o.start (open_entries o line opened version)
     opened_ordered commit = (record { moments = from; order = ap (λ (b : Bool). b && true) commit; makes = tt }, begun_ordered)
 
-    -- and is done
-    pub done_ordered : commits line.command ≡ true → AllOrdered o.start (done_entries o line opened version)
-    done_ordered commit = (
-      record {
-        moments = omega arith;
-        order = answer_of (Changed (end_of o) 0 version ∷ open_entries o line opened version) line answer.Fine quiet_data (not_or_true (is_wait line.command)) refl;
-        makes = tt;
-      },
+    -- and is made at another
+    pub made_ordered : (made : ℕ) → opened ≤ made → made ≤ end_of o → (said : Answer) → MayEnd said → commits line.command ≡ true → AllOrdered o.start (made_entries o line opened made version said)
+    made_ordered made on ends said may commit = (
+      record { moments = ends; order = ended said may; makes = tt },
       (
-        record { moments = to; order = refl; makes = refl },
+        record { moments = on; order = refl; makes = refl },
         opened_ordered commit,
       ),
     )
+      where
+        ended : (said : Answer) → MayEnd said → may_answer (Changed made 0 version ∷ open_entries o line opened version) 0 (Some (line, 0)) said ≡ true
+        ended answer.Fine may = answer_of (Changed made 0 version ∷ open_entries o line opened version) line answer.Fine quiet_data (not_or_true (is_wait line.command)) refl
+        ended (answer.PvFailed pv) may = answer_of (Changed made 0 version ∷ open_entries o line opened version) line (answer.PvFailed pv) quiet_data (not_or_true (is_wait line.command)) refl
+        ended other may = absurd may
 
     -- or given up
     pub given_up_ordered : (pv : ℕ) → commits line.command ≡ true → AllOrdered o.start (given_up_entries o line opened version pv)
@@ -153,8 +154,10 @@ module _ (o : Origin) (line : Line) (quiet_data : is_data line.command ≡ false
       opened_faithful : AllFaithful o (open_entries o line opened version)
       opened_faithful = (makes, (begun_faithful, tt))
 
-      pub done_faithful : FindsNow (origin_at (end_of o) o) (open_entries o line opened version) (end_of o) version → AllFaithful o (done_entries o line opened version)
-      done_faithful finds = (tt, (finds, opened_faithful))
+      pub made_faithful : (made : ℕ) (said : Answer) → MayEnd said → FindsNow (origin_at made o) (open_entries o line opened version) made version → AllFaithful o (made_entries o line opened made version said)
+      made_faithful made answer.Fine may finds = (tt, (finds, opened_faithful))
+      made_faithful made (answer.PvFailed pv) may finds = (tt, (finds, opened_faithful))
+      made_faithful made other may finds = absurd may
 
       pub given_up_faithful : (pv : ℕ) → AllFaithful o (given_up_entries o line opened version pv)
       given_up_faithful pv = (tt, (tt, opened_faithful))

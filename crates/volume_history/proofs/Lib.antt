@@ -8,6 +8,7 @@ pub mod Consistent
 pub mod Quiet
 pub mod Reshaped
 pub mod Made
+pub mod RestoredVersions
 pub mod MadeVersions
 pub mod ZeroedVolume
 pub mod Places
@@ -22,5 +23,6 @@ pub mod OneVersion
 mod Viewed
 mod SmallGroups
 mod Examples
+mod RestoreExamples
 mod SmallRun
 mod WrongRuns

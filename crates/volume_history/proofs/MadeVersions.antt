@@ -14,8 +14,9 @@ use Rattle.lvm_script.specs.declared.amount.Growth.{Growth}
 use Rattle.lvm_script.specs.declared.command.NewVolume.{NewVolume}
 use Rattle.lvm_script.specs.declared.command.Path.{Path}
 use Rattle.volume_history.proofs.Made.{come_both, come_changed, come_kept, come_without, found_key, key_from, none_equal, other_equal, places_changed, plain_at}
-use Rattle.volume_history.proofs.Bits.{and_both, eq_to, lt_false, lt_true}
+use Rattle.volume_history.proofs.Bits.{and_both, eq_to, itself, lt_false, lt_true}
 use Rattle.volume_history.proofs.Quiet.{value_on, values_length}
+use Rattle.volume_history.proofs.RestoredVersions.{restored_version}
 use Rattle.volume_history.specs.Candidates.{is_born, no_image, place_at}
 use Rattle.volume_history.specs.Commands.{commits, zero_sector}
 use Rattle.volume_history.specs.Changing.{ChangesVolumes, cut_to, grown_by, has_named, named_so}
@@ -126,10 +127,6 @@ le_true : (a x : ℕ) → a ≤ x → nat_le a x ≡ true
 le_true a x le = grind (arith, nat_tests)
 
 -- ---- what is created
-
-itself : (bs : List ℕ) → bytes_eq bs bs ≡ true
-itself [] = refl
-itself (b ∷ bs) = and_both (b == b) (bytes_eq bs bs) (eq_to b b refl) (itself bs)
 
 places_last : (name : List ℕ) (vs : List PlacedVolume) (v : PlacedVolume) → has_named name vs ≡ false → bytes_eq v.name name ≡ true → places_named (vs ++ v ∷ []) name ≡ v.places
 places_last name [] v none named = ap (λ (b : Bool). if b then v.places else []) named
@@ -330,6 +327,7 @@ changes_make (command.Lvextend path growth pvs) before after is = extended befor
 changes_make (command.Lvcreate new) before after is = created before after new is
 changes_make (command.Vgremove vg) before after is =
     kept (command.Vgremove vg) before after (ap (λ (v : Option Version). volumes_of v) is.1 ∙ no_volumes ∙ sym is.0) (λ o i. refl) (λ o i k x. refl) (λ o i. ap (λ (v : Option Version). group_name v) is.1)
+changes_make (command.Vgcfgrestore vg text) before after is = restored_version before after vg text is.0 is.1 is.2
 changes_make _ before after is = absurd is
 
 -- it commits a version
@@ -344,4 +342,5 @@ changes_commit (command.Lvreduce path amount) before after is = refl
 changes_commit (command.Lvextend path growth pvs) before after is = refl
 changes_commit (command.Lvcreate new) before after is = refl
 changes_commit (command.Vgremove vg) before after is = refl
+changes_commit (command.Vgcfgrestore vg text) before after is = refl
 changes_commit _ before after is = absurd is

@@ -82,38 +82,90 @@ phase_before o still m ge le last =
     opening_phase o still [] m ge last (λ key x. refl) refl refl
     (λ image is. inl (finds_with o.sizes image none_out (left_out (origin_at m o) [] (length (origin_at m o).told.steps)) o.version (λ pv. refl) (still.before m ge le image is))) tt
 
-module _ (o : Origin) (still : IsStill o) (late middle early : List Entry) (opened : ℕ) (from : o.start ≤ opened) (to : opened ≤ end_of o) (at_end : AllAt (end_of o) late) (at_opened : AllAt opened middle) (at_start : AllAt o.start early)
-    (begun : (m : ℕ) → o.start ≤ m → m < opened → IsPhase o early m) (between : (m : ℕ) → opened ≤ m → m < end_of o → IsPhase o (middle ++ early) m) (after : IsPhase o (late ++ (middle ++ early)) (end_of o)) where
-  abbrev whole : Chronicle
-  whole = record { origin = o; entries = late ++ (middle ++ early) }
+-- The moments of a line that begins at the start, opens its commit at one moment, makes it at another, and is answered at the end:
+-- its entries of each, and what makes each phase consistent.
+pub record HasPhases (o : Origin) (late behind middle early : List Entry) (opened made : ℕ) : Type 0 where
+  pub from : o.start ≤ opened
+  pub on : opened ≤ made
+  pub to : made ≤ end_of o
+  pub at_end : AllAt (end_of o) late
+  pub at_made : AllAt made behind
+  pub at_opened : AllAt opened middle
+  pub at_start : AllAt o.start early
+  pub begun : (m : ℕ) → o.start ≤ m → m < opened → IsPhase o early m
+  pub running : (m : ℕ) → opened ≤ m → m < made → IsPhase o (middle ++ early) m
+  pub kept : (m : ℕ) → made ≤ m → m < end_of o → IsPhase o (behind ++ (middle ++ early)) m
+  pub after : IsPhase o (late ++ (behind ++ (middle ++ early))) (end_of o)
 
-  phase_is : (m : ℕ) (es : List Entry) → upto m (late ++ (middle ++ early)) ≡ es → IsPhase o es m → IsConsistentMoment whole m
+module _ (o : Origin) (still : IsStill o) (late behind middle early : List Entry) (opened made : ℕ) (p : HasPhases o late behind middle early opened made) where
+  abbrev whole : Chronicle
+  whole = record { origin = o; entries = late ++ (behind ++ (middle ++ early)) }
+
+  phase_is : (m : ℕ) (es : List Entry) → upto m whole.entries ≡ es → IsPhase o es m → IsConsistentMoment whole m
   phase_is m es e is =
       subst (λ (l : List Entry). IsConsistentNow (record { origin = origin_at m o; entries = l })) (sym e)
       (parts_make_consistent (record { origin = origin_at m o; entries = es }) is.scans is.primaries is.name is.next)
 
+  early_upto : (m : ℕ) → o.start ≤ m → AreUpto m early
+  early_upto m started = at_upto m o.start early p.at_start started
+
+  middle_upto : (m : ℕ) → opened ≤ m → AreUpto m (middle ++ early)
+  middle_upto m on = both_upto m middle early (at_upto m opened middle p.at_opened on) (early_upto m (let from = p.from in omega (arith, from, on)))
+
+  behind_upto : (m : ℕ) → made ≤ m → AreUpto m (behind ++ (middle ++ early))
+  behind_upto m on = both_upto m behind (middle ++ early) (at_upto m made behind p.at_made on) (middle_upto m (let opens = p.on in omega (arith, opens, on)))
+
+  -- before the end, before it was made, before it was opened
+  unanswered : (m : ℕ) → m < end_of o → upto m whole.entries ≡ upto m (behind ++ (middle ++ early))
+  unanswered m lt = upto_over m (end_of o) late (behind ++ (middle ++ early)) p.at_end lt
+
+  unmade : (m : ℕ) → m < end_of o → m < made → upto m whole.entries ≡ upto m (middle ++ early)
+  unmade m lt before = unanswered m lt ∙ upto_over m made behind (middle ++ early) p.at_made before
+
+  unopened : (m : ℕ) → m < end_of o → m < made → m < opened → upto m whole.entries ≡ upto m early
+  unopened m lt before first = unmade m lt before ∙ upto_over m opened middle early p.at_opened first
+
   -- each moment is consistent
-  pub all_moments : (m : ℕ) → o.first ≤ m → m ≤ end_of o → IsConsistentMoment whole m
-  all_moments m ge le =
+  pub each_moment : (m : ℕ) → o.first ≤ m → m ≤ end_of o → IsConsistentMoment whole m
+  each_moment m ge le =
       ⊎_elim
       (λ (lt : m < end_of o).
-      let passed : upto m (late ++ (middle ++ early)) ≡ upto m (middle ++ early) = upto_over m (end_of o) late (middle ++ early) at_end lt in
       ⊎_elim
-      (λ (unopened : m < opened).
-      let none : upto m (late ++ (middle ++ early)) ≡ upto m early = passed ∙ upto_over m opened middle early at_opened unopened in
+      (λ (before : m < made).
       ⊎_elim
-      (λ (early_on : m < o.start). phase_is m [] (none ∙ upto_none m o.start early at_start early_on) (phase_before o still m ge (omega (arith, early_on)) le))
-      (λ (on : o.start ≤ m). phase_is m early (none ∙ all_upto m early (at_upto m o.start early at_start on)) (begun m on unopened))
+      (λ (first : m < opened).
+      ⊎_elim
+      (λ (early_on : m < o.start). phase_is m [] (unopened m lt before first ∙ upto_none m o.start early p.at_start early_on) (phase_before o still m ge (omega (arith, early_on)) le))
+      (λ (on : o.start ≤ m). phase_is m early (unopened m lt before first ∙ all_upto m early (early_upto m on)) (p.begun m on first))
       (cases_lt m o.start))
-      (λ (on : opened ≤ m).
-      let started : o.start ≤ m = omega (arith, from, on) in
-      phase_is m (middle ++ early) (passed ∙ all_upto m (middle ++ early) (both_upto m middle early (at_upto m opened middle at_opened on) (at_upto m o.start early at_start started))) (between m on lt))
+      (λ (on : opened ≤ m). phase_is m (middle ++ early) (unmade m lt before ∙ all_upto m (middle ++ early) (middle_upto m on)) (p.running m on before))
       (cases_lt m opened))
+      (λ (on : made ≤ m). phase_is m (behind ++ (middle ++ early)) (unanswered m lt ∙ all_upto m (behind ++ (middle ++ early)) (behind_upto m on)) (p.kept m on lt))
+      (cases_lt m made))
       (λ (on : end_of o ≤ m).
       let e : end_of o ≡ m = omega (arith, on, le) in
-      let began : opened ≤ m = omega (arith, to, on) in
-      let started : o.start ≤ m = omega (arith, from, began) in
-      phase_is m (late ++ (middle ++ early))
-      (all_upto m (late ++ (middle ++ early)) (both_upto m late (middle ++ early) (at_upto m (end_of o) late at_end on) (both_upto m middle early (at_upto m opened middle at_opened began) (at_upto m o.start early at_start started))))
-      (subst (λ (k : ℕ). IsPhase o (late ++ (middle ++ early)) k) e after))
+      let to = p.to in
+      phase_is m (late ++ (behind ++ (middle ++ early)))
+      (all_upto m (late ++ (behind ++ (middle ++ early))) (both_upto m late (behind ++ (middle ++ early)) (at_upto m (end_of o) late p.at_end on) (behind_upto m (omega (arith, to, on)))))
+      (subst (λ (k : ℕ). IsPhase o (late ++ (behind ++ (middle ++ early))) k) e p.after))
       (cases_lt m (end_of o))
+
+-- where nothing is made before the end
+pub all_moments : (o : Origin) → IsStill o → (late middle early : List Entry) (opened : ℕ) → o.start ≤ opened → opened ≤ end_of o → AllAt (end_of o) late → AllAt opened middle → AllAt o.start early → ((m : ℕ) → o.start ≤ m → m < opened → IsPhase o early m)
+    → ((m : ℕ) → opened ≤ m → m < end_of o → IsPhase o (middle ++ early) m) → IsPhase o (late ++ (middle ++ early)) (end_of o) → (m : ℕ) → o.first ≤ m → m ≤ end_of o
+    → IsConsistentMoment (record { origin = o; entries = late ++ (middle ++ early) }) m
+all_moments o still late middle early opened from to at_end at_opened at_start begun running after =
+    each_moment o still late [] middle early opened (end_of o)
+    (record {
+      from = from;
+      on = to;
+      to = omega arith;
+      at_end = at_end;
+      at_made = tt;
+      at_opened = at_opened;
+      at_start = at_start;
+      begun = begun;
+      running = running;
+      kept = λ m ge lt. absurd (omega (arith, ge, lt));
+      after = after;
+    })

@@ -1,6 +1,7 @@
 -- The histories of single lines.
 use Rattle.std.proofs.Common.{◌≡◌, ◌≤◌, ◌<◌, ℕ, ◌+◌, ◌-◌, ◌==◌, ◌&&◌, Bool, true, false, not, if◌then◌else◌, List, [], ◌∷◌, length, take, Option, Some, None, inl, inr, ⊎_elim, refl, sym, ap, subst, ◌∙◌, arith}
 use Rattle.disk_model.specs.CrashValues.{IsImage}
+use Rattle.disk_model.specs.Moments.{at_moment}
 use Rattle.disk_model.specs.Steps.{Image, Step, Told}
 use Rattle.image_scans.specs.Versions.{FindsVersion, Version}
 use Rattle.line_table.specs.Machine.{PlainState, PlainStep, plain_after, sector_of}
@@ -8,23 +9,23 @@ use Rattle.lvm_script.specs.declared.answer.Answer.{Answer}
 use Rattle.lvm_script.specs.declared.line.Line.{Line}
 use Rattle.volume_history.proofs.Bits.{eq_of}
 use Rattle.volume_history.proofs.CommandKinds.{commit_kind, created_quiet, quiet_command, undata}
-use Rattle.volume_history.proofs.LegalLines.{answered_faithful, created_faithful, created_ordered, done_faithful, done_ordered, fenced_faithful, fenced_ordered, gives_nothing, given_up_faithful, given_up_ordered, undone_ordered}
+use Rattle.volume_history.proofs.LegalLines.{answered_faithful, created_faithful, created_ordered, fenced_faithful, fenced_ordered, gives_nothing, given_up_faithful, given_up_ordered, made_faithful, made_ordered, undone_ordered}
 use Rattle.volume_history.proofs.Past.{now_before}
-use Rattle.volume_history.proofs.Phases.{IsPhase, all_moments, finds_with, opening_phase, told_at_end, untouched_then}
+use Rattle.volume_history.proofs.Phases.{HasPhases, IsPhase, all_moments, each_moment, finds_with, opening_phase, told_at_end, untouched_then}
 use Rattle.volume_history.proofs.Quiet.{took_nothing}
 use Rattle.volume_history.proofs.Reshaped.{HasNoBase, made_primaries, next_places}
 use Rattle.volume_history.proofs.Written.{since_seen, since_seen_now, since_start, unwritten_by}
-use Rattle.volume_history.specs.Candidates.{IsConsistentMoment, is_born, no_image, pending_step, writes_line}
+use Rattle.volume_history.specs.Candidates.{IsConsistentMoment, base, is_born, no_image, pending_step, writes_line}
 use Rattle.volume_history.specs.Chronicles.{Answered, Changed, Entry, GivenUp, Opened, Origin, Took, has_written, in_force, left_out, names_disk, now_at, origin_at, pending, piece_covers, steps_upto}
 use Rattle.volume_history.specs.Commands.{commits, created_disk, is_data, is_fine, is_good}
 use Rattle.volume_history.specs.Laws.{DoneCreate, FailedCreate, NoLine, Tells}
 use Rattle.volume_history.specs.Legal.{AllFaithful, AllOrdered, FindsNow, last_moment}
-use Rattle.volume_history.specs.Parts.{FindsPending, NextPart, NextPlaces, ScansPart}
+use Rattle.volume_history.specs.Parts.{FindsPending, NextPart, NextPlaces, Primaries, ScansPart}
 use Rattle.volume_history.specs.Placed.{group_name, volumes_of}
 use Rattle.volume_history.specs.Quiet.{AllUntouched}
 use Rattle.volume_history.specs.Replay.{command_step, opening_state, plain_state}
 use Rattle.volume_history.specs.Runs.{zero_piece}
-use Rattle.volume_history.specs.Single.{AllFind, CommitLaw, CreateLaw, DoneLaw, GivenUpLaw, IsStill, LeavesDisk, StaysLaw, answered_entries, begun_entries, taken_entries, done_entries, end_of, fenced_entries, given_up_entries, is_half_made, none_out, open_entries}
+use Rattle.volume_history.specs.Single.{AllFind, CommitLaw, CreateLaw, DoneLaw, GivenUpLaw, IsStill, MadeLaw, MayEnd, LeavesDisk, StaysLaw, answered_entries, begun_entries, taken_entries, done_entries, end_of, fenced_entries, given_up_entries, made_entries, is_half_made, none_out, open_entries}
 use Rattle.lvm_script.specs.declared.answer.Answer.TheVariants as answer
 
 -- the run has a history with these entries, where it is legal and each moment is consistent
@@ -196,64 +197,110 @@ module _ (o : Origin) (line : Line) (opened : ℕ) (version : Option Version) (l
       opening_phase o law.still (open_entries o line opened version) m (let b = begins in omega (arith, b, ge)) le (λ key x. refl) refl refl
       (either_found m (open_entries o line opened version) refl refl ge le (λ pv. out_none _ _ pv)) (next_part m (open_entries o line opened version) ge le (λ key x. refl) refl refl)
 
-  -- at the end
-  abbrev at : Origin
-  at = origin_at (end_of o) o
+  -- ---- it was made at a moment
 
-  abbrev state : PlainState
-  state = opening_state at
+  module _ (made : ℕ) (law_made : MadeLaw o opened made version) where
+    abbrev made_so : List Entry
+    made_so = Changed made 0 version ∷ open_entries o line opened version
 
-  abbrev image : Image
-  image = now_at at (end_of o)
+    by_birth : (b c : Bool) (all rest : List Entry) → b ≡ c → c ≡ true → (if b then all else rest) ≡ all
+    by_birth true c all rest e is = refl
+    by_birth false c all rest e is = absurd (let f : false ≡ true = e ∙ is in cc)
 
-  abbrev step : Image → PlainStep
-  step shown = command_step line.command o.version version state shown
+    by_none : (b c : Bool) (all rest : List Entry) → b ≡ c → c ≡ false → (if b then all else rest) ≡ rest
+    by_none true c all rest e is = absurd (let f : true ≡ false = e ∙ is in cc)
+    by_none false c all rest e is = refl
 
-  pub done_commit : DoneLaw o version → Tells o (done_entries o line opened version)
-  done_commit done =
-      tells o (done_entries o line opened version) law.still (omega arith)
-      (done_ordered o line kind_of.0 law.still.until opened law.from law.until version law.commits_xl) (done_faithful o line kind_of.0 law.still.until opened law.from law.until version law.makes found)
-      (all_moments o law.still (Answered (end_of o) 0 answer.Fine ∷ Changed (end_of o) 0 version ∷ []) (Opened opened 0 version ∷ []) (begun_entries o line) opened law.from law.until (refl, (refl, tt)) (refl, tt) (refl, tt)
-      is_begun_line (λ m ge lt. is_open m ge (omega (arith, lt))) is_done)
-    where
-      found : FindsNow at (open_entries o line opened version) (end_of o) version
-      found =
-          subst (λ (i : Image). FindsVersion o.sizes i (left_out at (open_entries o line opened version) (end_of o)) version)
-          (sym (now_before o (end_of o) (end_of o) (omega arith) (omega arith)))
-          (finds_with o.sizes (now_at o (end_of o)) (left_out o [] (end_of o)) (left_out at (open_entries o line opened version) (end_of o)) version (λ pv. out_none _ _ pv) done.found)
+    -- a moment from then on
+    module _ (m : ℕ) (ge : made ≤ m) (le : m ≤ end_of o) where
+      abbrev at : Origin
+      at = origin_at m o
 
-      by_birth : (b c : Bool) (all rest : List Entry) → b ≡ c → c ≡ true → (if b then all else rest) ≡ all
-      by_birth true c all rest e is = refl
-      by_birth false c all rest e is = absurd (let f : false ≡ true = e ∙ is in cc)
+      abbrev state : PlainState
+      state = opening_state at
 
-      by_none : (b c : Bool) (all rest : List Entry) → b ≡ c → c ≡ false → (if b then all else rest) ≡ rest
-      by_none true c all rest e is = absurd (let f : true ≡ false = e ∙ is in cc)
-      by_none false c all rest e is = refl
+      abbrev image : Image
+      image = now_at at made
 
-      opening_image : Image
-      opening_image = now_at at o.first
+      abbrev step : Image → PlainStep
+      step shown = command_step line.command o.version version state shown
 
       births : (key x : ℕ) → is_born (step no_image) state key x ≡ is_born (step image) state key x
       births key x = sym (law.keeps.births (now_at at o.first) image key x)
 
       untouched : AllUntouched image (volumes_of version) at.told
-      untouched =
-          subst (λ (i : Image). AllUntouched i (volumes_of version) at.told) (sym (now_before o (end_of o) (end_of o) (omega arith) (omega arith)))
-          (subst (λ (t : Told). AllUntouched (now_at o (end_of o)) (volumes_of version) t) (sym (told_at_end o)) done.untouched)
+      untouched = subst (λ (i : Image). AllUntouched i (volumes_of version) at.told) (sym (now_before o made m ge le)) (law_made.untouched m ge le)
 
-      is_done : IsPhase o (done_entries o line opened version) (end_of o)
-      is_done = record {
-        scans = λ shown is. inl (finds_with o.sizes shown none_out (left_out at (done_entries o line opened version) (length at.told.steps)) version
-            (λ pv. out_none _ _ pv) (done.after shown (subst (λ (t : Told). IsImage t shown) (told_at_end o) is)));
-        primaries =
-            made_primaries at (open_entries o line opened version) (λ key x. refl) (untouched_then o law.still (end_of o) (let b = begins in let c = law.until in omega (arith, b, c)) (omega arith)) (done_entries o line opened version) (step image) image
-            (λ key x born. ap (λ (b : List Entry). sector_of (plain_state at b) key x)
-            (by_birth (is_born (step no_image) state key x) (is_born (step image) state key x) (Changed (end_of o) 0 version ∷ open_entries o line opened version) [] (births key x) born))
-            (λ key x old. by_none (is_born (step no_image) state key x) (is_born (step image) state key x) (Changed (end_of o) 0 version ∷ open_entries o line opened version) [] (births key x) old)
-            (volumes_of version) (plain_after state (step image)).volumes (law.keeps.volumes (now_at at o.first) image) untouched (law.zeroed (end_of o) law.until (omega arith) image);
-        name = law.keeps.named (now_at at o.first) image;
-        next = tt;
-      }
+      -- with these entries, which leave no disk out and move no base
+      made_phase : (es : List Entry) → in_force at es ≡ version → plain_state at es ≡ plain_after state (step image) → pending es ≡ None → ((pv : ℕ) → none_out pv ≡ left_out at es (length at.told.steps) pv)
+          → ((key x : ℕ) → base at es key x ≡ (if is_born (step no_image) state key x then made_so else [])) → IsPhase o es m
+      made_phase es force plain waits none based =
+          let on = law_made.from in
+          let began = begins in
+          record {
+            scans = λ shown is. inl (subst (λ (v : Option Version). FindsVersion o.sizes shown (left_out at es (length at.told.steps)) v) (sym force)
+                (finds_with o.sizes shown none_out (left_out at es (length at.told.steps)) version none (law_made.after m ge le shown is)));
+            primaries =
+                subst (λ (v : Option Version). Primaries at es (volumes_of v) (plain_state at es).volumes) (sym force)
+                (subst (λ (s : PlainState). Primaries at es (volumes_of version) s.volumes) (sym plain)
+                (made_primaries at (open_entries o line opened version) (λ key x. refl) (untouched_then o law.still m (omega (arith, began, on, ge)) le) es (step image) image
+                (λ key x born. ap (λ (b : List Entry). sector_of (plain_state at b) key x) (based key x ∙ by_birth (is_born (step no_image) state key x) (is_born (step image) state key x) made_so [] (births key x) born))
+                (λ key x old. based key x ∙ by_none (is_born (step no_image) state key x) (is_born (step image) state key x) made_so [] (births key x) old)
+                (volumes_of version) (plain_after state (step image)).volumes (law.keeps.volumes (now_at at o.first) image) untouched (law.zeroed m (omega (arith, on, ge)) le image)));
+            name = ap (λ (v : Option Version). group_name v) force ∙ law.keeps.named (now_at at o.first) image ∙ sym (ap (λ (s : PlainState). s.group) plain);
+            next = subst (NextPart at es) (sym waits) tt;
+          }
+
+    made_found : FindsNow (origin_at made o) (open_entries o line opened version) made version
+    made_found =
+        subst (λ (i : Image). FindsVersion o.sizes i (left_out (origin_at made o) (open_entries o line opened version) made) version) (sym (now_before o made made (omega arith) law_made.until))
+        (finds_with o.sizes (now_at o made) (left_out o [] made) (left_out (origin_at made o) (open_entries o line opened version) made) version (λ pv. out_none _ _ pv) law_made.found)
+
+    made_moments : (said : Answer) → IsPhase o (made_entries o line opened made version said) (end_of o) → HasPhases o (Answered (end_of o) 0 said ∷ []) (Changed made 0 version ∷ []) (Opened opened 0 version ∷ []) (begun_entries o line) opened made
+    made_moments said after =
+        let until = law_made.until in
+        record {
+          from = law.from;
+          on = law_made.from;
+          to = until;
+          at_end = (refl, tt);
+          at_made = (refl, tt);
+          at_opened = (refl, tt);
+          at_start = (refl, tt);
+          begun = is_begun_line;
+          running = λ m ge lt. is_open m ge (omega (arith, lt, until));
+          kept = λ m ge lt. made_phase m ge (omega (arith, lt)) made_so refl refl refl (λ pv. out_none _ _ pv) (λ key x. refl);
+          after = after;
+        }
+
+    pub made_commit : (said : Answer) → MayEnd said → Tells o (made_entries o line opened made version said)
+    made_commit said may =
+        tells o (made_entries o line opened made version said) law.still (omega arith)
+        (made_ordered o line kind_of.0 law.still.until opened law.from law.until version made law_made.from law_made.until said may law.commits_xl)
+        (made_faithful o line kind_of.0 law.still.until opened law.from law.until version law.makes made said may made_found)
+        (each_moment o law.still (Answered (end_of o) 0 said ∷ []) (Changed made 0 version ∷ []) (Opened opened 0 version ∷ []) (begun_entries o line) opened made (made_moments said (ended said may)))
+      where
+        ended : (said : Answer) → MayEnd said → IsPhase o (made_entries o line opened made version said) (end_of o)
+        ended answer.Fine may = made_phase (end_of o) law_made.until (omega arith) (made_entries o line opened made version answer.Fine) refl refl refl (λ pv. out_none _ _ pv) (λ key x. refl)
+        ended (answer.PvFailed pv) may = made_phase (end_of o) law_made.until (omega arith) (made_entries o line opened made version (answer.PvFailed pv)) refl refl refl (λ k. out_none _ _ k) (λ key x. refl)
+        ended other may = absurd may
+
+  -- and the line answered at once
+  pub done_commit : DoneLaw o version → Tells o (done_entries o line opened version)
+  done_commit done =
+      made_commit (end_of o)
+      (record {
+        from = law.until;
+        until = omega arith;
+        after = λ m ge le. at_the_end (λ (told : Told). AllFind o.sizes none_out version told) m ge le done.after;
+        found = done.found;
+        untouched = λ m ge le. at_the_end (λ (told : Told). AllUntouched (now_at o (end_of o)) (volumes_of version) told) m ge le done.untouched;
+      }) answer.Fine tt
+    where
+      at_the_end : (P : Told → Type 0) (m : ℕ) → end_of o ≤ m → m ≤ end_of o → P o.told → P (at_moment m o.told)
+      at_the_end P m ge le is =
+          let e : end_of o ≡ m = omega (arith, ge, le) in
+          subst (λ (k : ℕ). P (at_moment k o.told)) e (subst P (sym (told_at_end o)) is)
 
   pub given_up_commit : (pv : ℕ) → GivenUpLaw o → Tells o (given_up_entries o line opened version pv)
   given_up_commit pv given_up =

@@ -11,6 +11,7 @@ use Rattle.meta_model.specs.declared.group.Group.{Group}
 use Rattle.meta_model.specs.declared.lv.Lv.{Lv}
 use Rattle.meta_model.specs.declared.pv.Pv.{Pv}
 use Rattle.meta_model.specs.declared.segment.SegKind.TheVariants.{Striped}
+use Rattle.meta_model.specs.declared.segment.Segment.{Segment}
 use Rattle.meta_model.specs.declared.segment.On.TheVariants as on
 use Rattle.lvm_script.specs.declared.command.Command.TheVariants as command
 
@@ -73,6 +74,21 @@ version_6 = version_of 3 ((6 ∷ [], (volume_5 0 10).1) ∷ [])
 
 abbrev pub version_7 : Version
 version_7 = version_of 4 (volume_5 0 10 ∷ [])
+
+-- a linear segment behind so many extents of its volume, of so many from this one on
+abbrev pub linear : ℕ → ℕ → ℕ → Segment
+linear start first count = record { start = start; count = count; kind = Striped 0 (record { on = on.Pv 0; first = first } ∷ []) }
+
+-- a visible volume of this name and id
+abbrev pub volume_of : ℕ → ℕ → List Segment → List ℕ × Lv
+volume_of name id segments = (name ∷ [], record (volume_5 0 0).1 { id = id ∷ []; segments = segments })
+
+-- with volumes 5 and 6; and as a text has them, where 7 is new, 6 is gone, and 5 is named 8 and lies elsewhere in part
+abbrev pub version_8 : Version
+version_8 = version_of 3 (volume_of 5 50 (linear 0 0 4 ∷ []) ∷ volume_of 6 60 (linear 0 10 2 ∷ []) ∷ [])
+
+abbrev pub version_9 : Version
+version_9 = version_of 4 (volume_of 7 70 (linear 0 10 1 ∷ []) ∷ volume_of 8 50 (linear 0 0 2 ∷ linear 2 20 2 ∷ []) ∷ [])
 
 -- the volume by its group's name and its own
 abbrev pub path : Path

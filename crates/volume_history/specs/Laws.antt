@@ -16,7 +16,7 @@ use Rattle.volume_history.specs.Candidates.{base, candidates, IsConsistentMoment
 use Rattle.volume_history.specs.Parts.{NextPart, PlaceHolds, Primaries, ScansPart}
 use Rattle.volume_history.specs.Quiet.{IsQuietMoment}
 use Rattle.volume_history.specs.Runs.{HasHistory, Run, journal_of, lines_of}
-use Rattle.volume_history.specs.Single.{CommitLaw, CreateLaw, CreatedLaw, DoneLaw, GivenUpLaw, LeavesDisk, StaysLaw, taken_entries, done_entries, end_of, fenced_entries, given_up_entries, answered_entries}
+use Rattle.volume_history.specs.Single.{CommitLaw, CreateLaw, CreatedLaw, DoneLaw, GivenUpLaw, LeavesDisk, MadeLaw, MayEnd, StaysLaw, taken_entries, done_entries, end_of, fenced_entries, given_up_entries, made_entries, answered_entries}
 use Rattle.volume_history.specs.Sources.{HoldsFrom, IsSource, MovesNone, Source, value_of}
 
 -- an earlier moment stays what it was, whatever is told or entered later
@@ -104,6 +104,12 @@ DoneLine =
 -- a commit that was done
 abbrev pub DoneCommit : Type 0
 DoneCommit = (o : Origin) (line : Line) (opened : ℕ) (version : Option Version) → CommitLaw o line opened version → DoneLaw o version → Tells o (done_entries o line opened version)
+
+-- one that was made at a moment, and then answered ok, or failed on what came behind it
+abbrev pub MadeCommit : Type 0
+MadeCommit =
+    (o : Origin) (line : Line) (opened made : ℕ) (version : Option Version) (said : Answer) → CommitLaw o line opened version → MadeLaw o opened made version → MayEnd said
+    → Tells o (made_entries o line opened made version said)
 
 -- one that was given up
 abbrev pub GivenUpCommit : Type 0

@@ -5,7 +5,8 @@ use Rattle.sector_base.specs.declared.places.Piece.{Piece}
 use Rattle.extent_alloc.specs.declared.part.Part.{Part}
 use Rattle.group_ops.specs.Allocating.{Takes}
 use Rattle.group_ops.specs.Laws.{state_in}
-use Rattle.group_ops.specs.Planning.{IsPlanned, asks_of, change_of, refusal_of}
+use Rattle.group_ops.specs.Planning.{IsBackupOf, IsPlanned, asks_of, change_of, refusal_of}
+use Rattle.group_ops.specs.declared.backup.Backup.{Backup}
 use Rattle.group_ops.specs.declared.state.Change.{Change}
 use Rattle.image_scans.specs.Versions.{FindsVersion, Version}
 use Rattle.line_table.specs.Machine.{PlainState, key_of, list_of, sector_of}
@@ -171,15 +172,18 @@ version_made change = option_version change.group
     option_version None = None
     option_version (Some group) = Some (record { group = group; disk_of = change.disk_of })
 
--- the line makes one version of another: it is one that can be planned, a scan of what a read gives finds the one, by it, by the
--- time and by some parts that the line takes no refusal of it holds, and its change is the other
+-- the line makes one version of another: it is one that can be planned, a scan of what a read gives finds the one, by it, by
+-- the time, by what its text gives, if it restores a group, and by some parts that the line takes no refusal of it holds, and its
+-- change is the other
 pub record Makes (o : Origin) (es : List Entry) (moment : ℕ) (line : Line) (after : Option Version) : Type 0 where
   pub planned : IsPlanned line.id line.command
   pub before : FindsNow o es moment (in_force o es)
   pub given : List Part
-  pub takes : Takes (asks_of (state_in before.found o.names) line) given
-  pub accepted : refusal_of (state_in before.found o.names) line o.clock given ≡ None
-  pub change : after ≡ version_made (change_of (state_in before.found o.names) line o.clock given)
+  pub backup : Option Backup
+  pub given_back : IsBackupOf line.command backup
+  pub takes : Takes (asks_of (state_in before.found o.names backup) line) given
+  pub accepted : refusal_of (state_in before.found o.names backup) line o.clock given ≡ None
+  pub change : after ≡ version_made (change_of (state_in before.found o.names backup) line o.clock given)
 
 -- the same of a line that was begun
 abbrev pub MakesFrom : Origin → List Entry → ℕ → Option (Line × ℕ) → Option Version → Type 0

@@ -36,9 +36,13 @@ answered_entries o line answer = Answered (end_of o) 0 answer ∷ begun_entries 
 abbrev pub open_entries : Origin → Line → ℕ → Option Version → List Entry
 open_entries o line opened version = Opened opened 0 version ∷ begun_entries o line
 
+-- it was made at a moment, and the line answered so at the end
+abbrev pub made_entries : Origin → Line → ℕ → ℕ → Option Version → Answer → List Entry
+made_entries o line opened made version said = Answered (end_of o) 0 said ∷ Changed made 0 version ∷ open_entries o line opened version
+
 -- it was made, and the line answered
 abbrev pub done_entries : Origin → Line → ℕ → Option Version → List Entry
-done_entries o line opened version = Answered (end_of o) 0 answer.Fine ∷ Changed (end_of o) 0 version ∷ open_entries o line opened version
+done_entries o line opened version = made_entries o line opened (end_of o) version answer.Fine
 
 -- it was given up, since an operation on this disk failed before it was published
 abbrev pub given_up_entries : Origin → Line → ℕ → Option Version → ℕ → List Entry
@@ -108,6 +112,21 @@ pub record DoneLaw (o : Origin) (version : Option Version) : Type 0 where
   pub after : AllFind o.sizes none_out version o.told
   pub found : FindsNow o [] (end_of o) version
   pub untouched : AllUntouched (now_at o (end_of o)) (volumes_of version) o.told
+
+-- it was made at a moment: from then on every image shows the next version, and so did a scan then; and each place of its volumes
+-- has one value
+pub record MadeLaw (o : Origin) (opened made : ℕ) (version : Option Version) : Type 0 where
+  pub from : opened ≤ made
+  pub until : made ≤ end_of o
+  pub after : (m : ℕ) → made ≤ m → m ≤ end_of o → AllFind o.sizes none_out version (at_moment m o.told)
+  pub found : FindsNow o [] made version
+  pub untouched : (m : ℕ) → made ≤ m → m ≤ end_of o → AllUntouched (now_at o made) (volumes_of version) (at_moment m o.told)
+
+-- what may be answered once it was made: ok, or that an operation failed behind it
+abbrev pub MayEnd : Answer → Type 0
+MayEnd answer.Fine = Unit {0}
+MayEnd (answer.PvFailed pv) = Unit {0}
+MayEnd _ = ⊥
 
 -- it was given up: at the end every image shows the version in force
 pub record GivenUpLaw (o : Origin) : Type 0 where

@@ -1,7 +1,7 @@
 //! Laws of histories: each function does nothing, and its clauses are proved.
 ghost use Rattle.volume_history.specs.Laws.{AnswersKeep, BasesStay, HistoriesGrow, PastStays, ReplayStays, SourcesAreCandidates};
 ghost use Rattle.volume_history.specs.Laws.{PartsMakeConsistent, QuietIsConsistent, ScansAreOne, VolumesAreViewed};
-ghost use Rattle.volume_history.specs.Laws.{DoneCommit, DoneCreate, DoneLine, FailedCreate, FencedCommit, GivenUpCommit, NoLine, UndoneLine};
+ghost use Rattle.volume_history.specs.Laws.{DoneCommit, DoneCreate, DoneLine, FailedCreate, FencedCommit, GivenUpCommit, MadeCommit, NoLine, UndoneLine};
 
 use vg_scan::one_reading;
 use volume_view::places_stand;
@@ -49,6 +49,7 @@ pub fn single_commands()
     ensures undone { UndoneLine }
     ensures line { DoneLine }
     ensures done { DoneCommit }
+    ensures made { MadeCommit }
     ensures given_up { GivenUpCommit }
     ensures fenced { FencedCommit }
     ensures created { DoneCreate }

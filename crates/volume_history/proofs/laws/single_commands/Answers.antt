@@ -1,4 +1,4 @@
-use Rattle.volume_history.proofs.SingleLines.{done_commit, done_create, done_line, failed_create, fenced_commit, given_up_commit, no_line, undone_line}
+use Rattle.volume_history.proofs.SingleLines.{done_commit, done_create, done_line, failed_create, fenced_commit, given_up_commit, made_commit, no_line, undone_line}
 use Rattle.volume_history.proofs.laws.single_commands.Goals as goal
 
 pub returns-clause-no_line : goal.returns-clause-no_line
@@ -12,6 +12,9 @@ returns-clause-line c = λ o line law quiet alone none. done_line o line law qui
 
 pub returns-clause-done : goal.returns-clause-done
 returns-clause-done c = λ o line opened version law done. done_commit o line opened version law done
+
+pub returns-clause-made : goal.returns-clause-made
+returns-clause-made c = λ o line opened made version said law law_made may. made_commit o line opened version law made law_made said may
 
 pub returns-clause-given_up : goal.returns-clause-given_up
 returns-clause-given_up c = λ o line opened version pv law given_up. given_up_commit o line opened version law pv given_up

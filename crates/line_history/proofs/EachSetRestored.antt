@@ -1,0 +1,63 @@
+-- The group of a text that takes the place of the one that was found lists each id that this lists.
+use Rattle.std.proofs.Common.{◌≡◌, ℕ, Bool, true, false, not, ◌||◌, cond, List, [], ◌∷◌, map, Option, Some, None, ⊎_elim, refl, subst}
+use Rattle.std.specs.Prelude.{filter, is_some}
+use Rattle.std.specs.List.{list_any}
+use Rattle.std.specs.Option.{option_map_or}
+use Rattle.std.proofs.lemmas.Bool.{or_cases}
+use Rattle.lvm_script.specs.declared.op_refusal.OpRefusal.TheVariants.{UnknownGroup}
+use Rattle.meta_model.specs.declared.group.Group.{Group}
+use Rattle.meta_model.specs.declared.pv.Pv.{Pv}
+use Rattle.scan_rules.proofs.Scanning.{same_bytes_tells}
+use Rattle.scan_rules.specs.Decision.{lists, same_bytes}
+use Rattle.vg_found.specs.Disks.{disks_of}
+use Rattle.group_edits.specs.RestoredGroup.{restored_group}
+use Rattle.group_ops.proofs.Chained.{back_passes, front_passes}
+use Rattle.group_ops.proofs.Passed.{both_false}
+use Rattle.group_ops.proofs.Restoring.{Restores}
+use Rattle.group_ops.proofs.Rows.{none_holds, test_fails}
+use Rattle.group_ops.proofs.SoundBackup.{no_least, no_some}
+use Rattle.group_ops.specs.Committing.{length_row_on, named_rows, rows_where_found}
+use Rattle.group_ops.specs.Ids.{has_pv_id}
+use Rattle.group_ops.specs.Judging.{first_refusal}
+use Rattle.group_ops.specs.Vgcfgrestore.{id_lacked, ids_lacked, least_of, restore_rows, sound_rows, sound_tests, vgcfgrestore_change, vgcfgrestore_rows}
+use Rattle.group_ops.specs.declared.backup.Backup.{Backup}
+use Rattle.group_ops.specs.declared.backup.Backup.TheVariants.{Sound}
+use Rattle.group_ops.specs.declared.state.GroupState.{GroupState}
+
+-- ---- no id is lacked
+
+module _ (said : Group) (id : List ℕ) where
+  abbrev has_it : List ℕ × Pv → Bool
+  has_it pv = same_bytes pv.1.id id
+
+  abbrev lacked : List (List ℕ × Pv) → List (List ℕ × Pv)
+  lacked pvs = filter (λ (row : List ℕ × Pv). not (has_pv_id said row.1.id)) pvs
+
+  none_lacked : (pvs : List (List ℕ × Pv)) → least_of None (ids_lacked said pvs) ≡ None → list_any has_it pvs ≡ true → lists said id ≡ true
+  none_lacked [] none any = absurd cc
+  none_lacked (pv ∷ pvs) none any = by (none_lacked pvs) (has_pv_id said pv.1.id) refl none
+    where
+      by : (least_of None (ids_lacked said pvs) ≡ None → list_any has_it pvs ≡ true → lists said id ≡ true) → (b : Bool) → has_pv_id said pv.1.id ≡ b
+          → least_of None (map (λ (row : List ℕ × Pv). row.1.id) (cond (not b) (pv ∷ lacked pvs) (lacked pvs))) ≡ None → lists said id ≡ true
+      by later true has none =
+          ⊎_elim (λ here. subst (λ (own : List ℕ). lists said own ≡ true) (same_bytes_tells pv.1.id id here) has) (later none) (or_cases (has_it pv) (list_any has_it pvs) any)
+      by later false has none = absurd (no_least (map (λ (row : List ℕ × Pv). row.1.id) (lacked pvs)) pv.1.id none)
+
+-- ---- a restore that no row refuses
+
+module _ (state : GroupState) (vg : List ℕ) (now : ℕ) (made : Restores state (vgcfgrestore_change state) now) (passes : first_refusal (vgcfgrestore_rows state vg now) ≡ None) where
+  sound : first_refusal (sound_tests state made.old made.said) ≡ None
+  sound =
+      back_passes (sound_tests state made.old made.said) (length_row_on state (disks_of made.said state.disks) (restored_group made.old made.said) now ∷ [])
+      (front_passes (named_rows made.old vg) (sound_rows state made.old made.said now)
+      (subst (λ (o : Option Group). first_refusal (option_map_or (restore_rows state vg (Sound made.said) now) o (Some (UnknownGroup vg) ∷ [])) ≡ None) made.there
+      (subst (λ (o : Option Backup). first_refusal (option_map_or (λ (backup : Backup). rows_where_found state.group vg (restore_rows state vg backup now)) o []) ≡ None) made.gives passes)))
+
+  pub still_listed : (id : List ℕ) → lists made.old id ≡ true → lists made.said id ≡ true
+  still_listed id listed =
+      let rows = none_holds (sound_tests state made.old made.said) sound in
+      let none =
+      both_false (is_some (id_lacked made.old made.said)) (is_some (id_lacked made.said made.old))
+      (test_fails (is_some (id_lacked made.old made.said) || is_some (id_lacked made.said made.old)) _ rows.1.1.1.1.1.1.1.0)
+      in
+      none_lacked made.said id made.old.pvs (no_some (id_lacked made.said made.old) none.1) listed
