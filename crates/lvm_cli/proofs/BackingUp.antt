@@ -26,7 +26,7 @@ use Rattle.lvm_cli.specs.declared.outcome.Outcome.{Outcome}
 use Rattle.lvm_cli.specs.declared.outcome.Outcome.TheVariants.{Ended, Answered, Reported}
 use Rattle.lvm_cli.specs.declared.scan_refusal.ScanRefusal.TheVariants.{Disks, Partial}
 use Rattle.lvm_cli.specs.Backup.{IsBackedUp, IsGroupBackedUp, IsWholeBackedUp}
-use Rattle.lvm_cli.specs.CommandSpec.{Context, Finds, Refuses, Lacks, group_in}
+use Rattle.lvm_cli.specs.CommandSpec.{Context, Finds, Refuses, Lacks, group_in, no_inputs}
 use Rattle.lvm_cli.specs.Commands.Vgcfgbackup.{vgcfgbackup}
 use Rattle.lvm_cli.specs.Meets.{DoesToDisks, IsScanned, IsTaken, Meets}
 use Rattle.lvm_cli.specs.Scan.{FindsWhole}
@@ -40,11 +40,11 @@ module _ (names : List Word) (id : Option (List ℕ)) (vg : List ℕ) (time : �
   abbrev context : Context
   context = record { names = names; sizes = old.sizes; id = id; now = time }
 
-  does : (outcome : Outcome) → BetweenTold (DoesToDisks (vgcfgbackup vg) context [] outcome) old.told new.told
+  does : (outcome : Outcome) → BetweenTold (DoesToDisks (vgcfgbackup vg) context no_inputs outcome) old.told new.told
   does = scan_reads (vgcfgbackup vg) context old new refl (λ image spans few. few) told
 
   without_memory : Meets (vgcfgbackup vg) context old (Ended NoMemory) new
-  without_memory = record { given = []; cause = tt; told = does (Ended NoMemory); again = again }
+  without_memory = record { given = no_inputs; cause = tt; told = does (Ended NoMemory); again = again }
 
   -- the ending where the scan was refused
   pub backup_ends : (why : ScanRefusal) (unread : set.FinSet nat_cmp) (ending : Ending) → IsScanRefused old why unread new → IsEndingOf why unread ending → Meets (vgcfgbackup vg) context old (Ended ending) new
@@ -52,7 +52,7 @@ module _ (names : List Word) (id : Option (List ℕ)) (vg : List ℕ) (time : �
   backup_ends why unread (ScanRefused (Disks refusal) whole) is ends =
       let r = refused_is old new why unread ends.1 is in
       let meets : Meets (vgcfgbackup vg) context old (Ended (ScanRefused (Disks why) whole)) new = record {
-        given = [];
+        given = no_inputs;
         cause = (unread, record { failed = r.1; all = ends.2 }, r.0);
         told = does (Ended (ScanRefused (Disks why) whole));
         again = again;
@@ -64,7 +64,7 @@ module _ (names : List Word) (id : Option (List ℕ)) (vg : List ℕ) (time : �
     -- what was found isn't whole
     not_whole : (why : NotWhole) → IsNotWhole found why → Meets (vgcfgbackup vg) context old (Ended (partial_ending found why)) new
     not_whole (ReadFailed pv) unread = record {
-      given = [];
+      given = no_inputs;
       cause = (
         λ judged. absurd (cc),
         (
@@ -77,7 +77,7 @@ module _ (names : List Word) (id : Option (List ℕ)) (vg : List ℕ) (time : �
       again = again;
     }
     not_whole IsPartial missing = record {
-      given = [];
+      given = no_inputs;
       cause = (
         found.unread,
         record { failed = is.faults; all = (λ yes. missing.0, λ none. refl) },
@@ -101,13 +101,13 @@ module _ (names : List Word) (id : Option (List ℕ)) (vg : List ℕ) (time : �
       -- the group in force
       of_group : (group : Group) → found.group ≡ Some group → HasTree group → (outcome : Outcome) → IsBackedUp group vg time outcome → Meets (vgcfgbackup vg) context old outcome new
       of_group group there stands (Answered line (Refused (UnknownGroup name))) up = record {
-        given = [];
+        given = no_inputs;
         cause = (up.0, no_faults, (Some found, taken, refl, rw (there, up.2, up.1) refl));
         told = does (Answered line (Refused (UnknownGroup name)));
         again = again;
       }
       of_group group there stands (Reported text all) up = record {
-        given = [];
+        given = no_inputs;
         cause = (
           refl,
           (
@@ -122,14 +122,14 @@ module _ (names : List Word) (id : Option (List ℕ)) (vg : List ℕ) (time : �
         told = does (Reported text all);
         again = again;
       }
-      of_group group there stands (Answered line answer.NoMemory) up = record { given = []; cause = (up, tt); told = does (Answered line answer.NoMemory); again = again }
+      of_group group there stands (Answered line answer.NoMemory) up = record { given = no_inputs; cause = (up, tt); told = does (Answered line answer.NoMemory); again = again }
       of_group group there stands _ up = absurd up
 
       of_found : (group : Option Group) → found.group ≡ group → (outcome : Outcome) → IsGroupBackedUp group vg time outcome → Meets (vgcfgbackup vg) context old outcome new
       of_found (Some group) there outcome up = of_group group there up.0 outcome up.1
       of_found None there outcome up =
           let meets : Meets (vgcfgbackup vg) context old (Answered 1 (Refused (UnknownGroup vg))) new = record {
-            given = [];
+            given = no_inputs;
             cause = (refl, no_faults, (Some found, taken, refl, rw there refl));
             told = does (Answered 1 (Refused (UnknownGroup vg)));
             again = again;

@@ -1,7 +1,7 @@
 -- Which commands change something.
 use Rattle.std.proofs.Common.{◌≡◌, true, refl}
 use Rattle.lvm_script.specs.declared.command.Command.{Command}
-use Rattle.lvm_script.specs.declared.command.Command.TheVariants.{Lvcreate, Lvextend, Lvreduce, Lvremove, Lvrename, Lvs, Pvcreate, Pvck, Pvs, Vgcfgbackup, Vgck, Vgcreate, Vgextend, Vgrename, Vgs}
+use Rattle.lvm_script.specs.declared.command.Command.TheVariants.{Lvcreate, Lvextend, Lvreduce, Lvremove, Lvrename, Lvs, Pvcreate, Pvck, Pvs, Vgcfgbackup, Vgcfgrestore, Vgck, Vgcreate, Vgextend, Vgreduce, Vgremove, Vgrename, Vgs}
 use Rattle.lvm_script.specs.Lines.{changes}
 use Rattle.lvm_cli.specs.Changing.{changing}
 use Rattle.lvm_cli.specs.Commands.{is_built, spec_of}
@@ -11,7 +11,10 @@ pub spec_of_changing : (command : Command) → is_built command ≡ true → cha
 spec_of_changing (Pvcreate pv copies) built change = refl
 spec_of_changing (Vgcreate vg extent_size pvs) built change = refl
 spec_of_changing (Vgextend vg pvs) built change = refl
+spec_of_changing (Vgreduce vg pv) built change = refl
+spec_of_changing (Vgremove vg) built change = refl
 spec_of_changing (Vgrename vg new) built change = refl
+spec_of_changing (Vgcfgrestore vg text) built change = refl
 spec_of_changing (Lvcreate new) built change = refl
 spec_of_changing (Lvextend path growth pvs) built change = refl
 spec_of_changing (Lvreduce path amount) built change = refl

@@ -6,7 +6,6 @@ use Rattle.std.specs.FinSet as set
 use Rattle.std.specs.Ordering.{nat_cmp}
 use Rattle.std.specs.Prelude.{IsTrue}
 use Rattle.sector_base.specs.declared.spans.Span.{Span}
-use Rattle.extent_alloc.specs.declared.part.Part.{Part}
 use Rattle.disk_batch.specs.InTurn.{Put, WritesInTurn}
 use Rattle.disk_model.specs.State.{State}
 use Rattle.disk_model.specs.Faults.{HasSameFaults}
@@ -16,7 +15,7 @@ use Rattle.disk_model.proofs.KeptSectors.{kept_images}
 use Rattle.vg_found.specs.declared.found.Found.{Found}
 use Rattle.vg_scan.specs.Scans.{FailedOn, HoldsNow}
 use Rattle.lvm_cli.specs.declared.outcome.Outcome.{Outcome}
-use Rattle.lvm_cli.specs.CommandSpec.{CommandSpec, Context, Finds}
+use Rattle.lvm_cli.specs.CommandSpec.{CommandSpec, Context, Finds, Inputs}
 use Rattle.lvm_cli.specs.Meets.{ChangesDisks, DoesToDisks, ReadsDisks, batches_if, is_done, is_repaired, is_taken, line_begun, repair_begun}
 use Rattle.lvm_cli.specs.Scan.{OpensDisks}
 
@@ -63,32 +62,47 @@ unpassed sizes old new o = record {
   few = o.few;
 }
 
--- the line ended with its look
-pub looks : (spec : CommandSpec) (context : Context) (given : List Part) (outcome : Outcome) → repair_begun outcome ≡ false → line_begun outcome ≡ false → is_done outcome ≡ false
-    → (found : Option Found) (old new : Told) → (IsTrue (is_taken outcome) → spec.scan context (now_after old.opened old.steps) set.empty (Finds found))
-    → OpensDisks context.sizes old (is_taken outcome) new → ChangesDisks spec context given outcome old new
-looks spec context given outcome unrepaired unlined undone found old new scanned opens = record {
+-- nothing behind the zeros of a line was written
+pub unwritten : (spec : CommandSpec) (context : Context) (given : Inputs) (outcome : Outcome) → is_done outcome ≡ false → (found : Option Found) (old opened start zeroed : Told)
+    → (IsTrue (is_taken outcome) → spec.scan context (now_after old.opened old.steps) set.empty (Finds found)) → OpensDisks context.sizes old (is_taken outcome) opened
+    → WritesInTurn opened (batches_if (repair_begun outcome) (spec.repairs found)) (is_repaired outcome) start → (IsTrue (line_begun outcome) → spec.takes context found given)
+    → WritesInTurn start (batches_if (line_begun outcome) (spec.zeros context found given)) false zeroed → ChangesDisks spec context given outcome old zeroed
+unwritten spec context given outcome undone found old opened start zeroed scanned opening repair takes zeros = record {
   found = found;
   scanned = scanned;
-  opened = new;
-  opening = opens;
-  start = new;
-  repair = none_begun (repair_begun outcome) (is_repaired outcome) (spec.repairs found) new unrepaired;
-  takes = λ begun. absurd (untrue (line_begun outcome) unlined begun);
-  zeroed = new;
+  opened = opened;
+  opening = opening;
+  start = start;
+  repair = repair;
+  takes = takes;
+  zeroed = zeroed;
   ready = false;
-  zeros = none_begun (line_begun outcome) false (spec.zeros context found given) new unlined;
-  line = none_in_turn new (is_done outcome);
+  zeros = zeros;
   begun = λ ready. absurd (cc);
-  all = λ done. absurd (untrue (is_done outcome) undone done);
+  made = zeroed;
+  written = false;
+  line = none_in_turn zeroed false;
+  ready_then = λ written. absurd (cc);
   keeps = λ ready. absurd (cc);
-  found_after = λ done. absurd (untrue (is_done outcome) undone done);
+  found_after = λ written. absurd (cc);
+  clears = none_in_turn zeroed (is_done outcome);
+  all = λ done. absurd (untrue (is_done outcome) undone done);
+  clearing = λ written. absurd (cc);
+  cleared_after = λ done. absurd (untrue (is_done outcome) undone done);
 }
+
+-- the line ended with its look
+pub looks : (spec : CommandSpec) (context : Context) (given : Inputs) (outcome : Outcome) → repair_begun outcome ≡ false → line_begun outcome ≡ false → is_done outcome ≡ false
+    → (found : Option Found) (old new : Told) → (IsTrue (is_taken outcome) → spec.scan context (now_after old.opened old.steps) set.empty (Finds found))
+    → OpensDisks context.sizes old (is_taken outcome) new → ChangesDisks spec context given outcome old new
+looks spec context given outcome unrepaired unlined undone found old new scanned opens =
+    unwritten spec context given outcome undone found old new new new scanned opens (none_begun (repair_begun outcome) (is_repaired outcome) (spec.repairs found) new unrepaired)
+    (λ begun. absurd (untrue (line_begun outcome) unlined begun)) (none_begun (line_begun outcome) false (spec.zeros context found given) new unlined)
 
 -- ---- reads alone
 
 -- the line reads, as far as it came
-pub reads_disks : (spec : CommandSpec) (context : Context) (given : List Part) → spec.flushes ≡ false → (outcome : Outcome) (old new : Told) (read unread : List Span)
+pub reads_disks : (spec : CommandSpec) (context : Context) (given : Inputs) → spec.flushes ≡ false → (outcome : Outcome) (old new : Told) (read unread : List Span)
     → OnlyReads old read new → spec.reads context (now_after old.opened old.steps) (read ++ unread) → DoesToDisks spec context given outcome old new
 reads_disks spec context given alone outcome old new read unread reads spans =
     subst (λ (b : Bool). MatchBool b (ChangesDisks spec context given outcome old new) (ReadsDisks spec context old new)) (sym alone)

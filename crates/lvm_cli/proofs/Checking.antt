@@ -22,7 +22,7 @@ use Rattle.lvm_script.specs.declared.op_refusal.OpRefusal.TheVariants.{UnknownPv
 use Rattle.lvm_cli.specs.declared.ending.Ending.TheVariants.{NoMemory, ScanReadFailed}
 use Rattle.lvm_cli.specs.declared.outcome.Outcome.{Outcome}
 use Rattle.lvm_cli.specs.declared.outcome.Outcome.TheVariants.{Ended, Answered, Reported}
-use Rattle.lvm_cli.specs.CommandSpec.{Context, Finds, number_in}
+use Rattle.lvm_cli.specs.CommandSpec.{Context, Finds, no_inputs, number_in}
 use Rattle.lvm_cli.specs.Commands.Pvck.{pvck}
 use Rattle.lvm_cli.specs.Meets.{DoesToDisks, IsScanned, IsTaken, Meets}
 use Rattle.lvm_cli.proofs.ChangedDisks.{between_reading, holds_now_anyway, none_failed, reads_disks}
@@ -47,12 +47,12 @@ module _ (names : List Word) (id : Option (List ℕ)) (pv : List ℕ) (time : �
   -- no disk has the name
   pub meets_unknown : number_named names pv ≡ None → old.in_flight ≡ [] → Meets (pvck pv) context old (Answered 1 (Refused (UnknownPv pv))) old
   meets_unknown unknown idle = record {
-    given = [];
+    given = no_inputs;
     cause = (refl, λ disk. refl, (None, taken, refl, rw unknown refl));
     told = λ told e. (
       told,
       e,
-      reads_disks (pvck pv) context [] refl (Answered 1 (Refused (UnknownPv pv))) told told [] (label_span (number_in context pv) ∷ [])
+      reads_disks (pvck pv) context no_inputs refl (Answered 1 (Refused (UnknownPv pv))) told told [] (label_span (number_in context pv) ∷ [])
           (record { since = []; steps = refl; reads = tt; spans_are = refl }) ([], inl refl, refl),
     );
     again = record { idle = idle; sizes = refl };
@@ -61,12 +61,12 @@ module _ (names : List Word) (id : Option (List ℕ)) (pv : List ℕ) (time : �
   -- memory was wanting before anything was done
   pub meets_undone : old.in_flight ≡ [] → Meets (pvck pv) context old (Ended NoMemory) old
   meets_undone idle = record {
-    given = [];
+    given = no_inputs;
     cause = λ disk. refl;
     told = λ told e. (
       told,
       e,
-      reads_disks (pvck pv) context [] refl (Ended NoMemory) told told [] (label_span (number_in context pv) ∷ [])
+      reads_disks (pvck pv) context no_inputs refl (Ended NoMemory) told told [] (label_span (number_in context pv) ∷ [])
           (record { since = []; steps = refl; reads = tt; spans_are = refl }) ([], inl refl, refl),
     );
     again = record { idle = idle; sizes = refl };
@@ -76,7 +76,7 @@ module _ (names : List Word) (id : Option (List ℕ)) (pv : List ℕ) (time : �
     number_is : number_in context pv ≡ disk
     number_is = ap (λ (o : Option ℕ). unwrap_or o 0) known
 
-    passes : (pvck pv).refusal context None [] ≡ None
+    passes : (pvck pv).refusal context None no_inputs ≡ None
     passes = rw known refl
 
     abbrev ReadsOn : ℕ → Image → List Span → Type 0
@@ -85,24 +85,24 @@ module _ (names : List Word) (id : Option (List ℕ)) (pv : List ℕ) (time : �
     reads_named : (image : Image) (spans : List Span) → ReadsOn disk image spans → (pvck pv).reads context image spans
     reads_named image spans reads = subst (λ (n : ℕ). ReadsOn n image spans) (sym number_is) reads
 
-    told_all : (outcome : Outcome) → ReadsAllOf disk (slice_index_or old.sizes disk 0) old new → BetweenTold (DoesToDisks (pvck pv) context [] outcome) old.told new.told
+    told_all : (outcome : Outcome) → ReadsAllOf disk (slice_index_or old.sizes disk 0) old new → BetweenTold (DoesToDisks (pvck pv) context no_inputs outcome) old.told new.told
     told_all outcome r =
         let spans = label_span disk ∷ area_spans disk (areas_found r.found) in
-        between_reading (DoesToDisks (pvck pv) context [] outcome) old.told new.told spans disk (λ sector_at. IsFound sector_at (slice_index_or old.sizes disk 0) r.found) r.reads r.is
-        (λ before after reads is. reads_disks (pvck pv) context [] refl outcome before after spans [] reads
+        between_reading (DoesToDisks (pvck pv) context no_inputs outcome) old.told new.told spans disk (λ sector_at. IsFound sector_at (slice_index_or old.sizes disk 0) r.found) r.reads r.is
+        (λ before after reads is. reads_disks (pvck pv) context no_inputs refl outcome before after spans [] reads
         (reads_named (now_after before.opened before.steps) (spans ++ [])
         (areas_found r.found, areas_of_found (now_after before.opened before.steps disk) (slice_index_or old.sizes disk 0) r.found is, append-nil spans)))
 
-    told_first : (outcome : Outcome) → ReadsFirstOf disk (slice_index_or old.sizes disk 0) old new → BetweenTold (DoesToDisks (pvck pv) context [] outcome) old.told new.told
+    told_first : (outcome : Outcome) → ReadsFirstOf disk (slice_index_or old.sizes disk 0) old new → BetweenTold (DoesToDisks (pvck pv) context no_inputs outcome) old.told new.told
     told_first outcome r =
-        between_reading (DoesToDisks (pvck pv) context [] outcome) old.told new.told r.read disk (λ sector_at. AreAreasOf sector_at (slice_index_or old.sizes disk 0) r.areas) r.reads r.are
-        (λ before after reads are. reads_disks (pvck pv) context [] refl outcome before after r.read r.rest reads
+        between_reading (DoesToDisks (pvck pv) context no_inputs outcome) old.told new.told r.read disk (λ sector_at. AreAreasOf sector_at (slice_index_or old.sizes disk 0) r.areas) r.reads r.are
+        (λ before after reads are. reads_disks (pvck pv) context no_inputs refl outcome before after r.read r.rest reads
         (reads_named (now_after before.opened before.steps) (r.read ++ r.rest) (r.areas, are, r.front)))
 
     pub meets_reported : (text : List ℕ) (all : Bool) → all ≡ true → HasSameFaults old new → IsIdleAgain old new → ReadsAllOf disk (slice_index_or old.sizes disk 0) old new
         → IfSome old.told (λ told. IsReport (now_after told.opened told.steps disk) (slice_index_or old.sizes disk 0) text) → Meets (pvck pv) context old (Reported text all) new
     meets_reported text all whole same again reads report = record {
-      given = [];
+      given = no_inputs;
       cause = (
         refl,
         (
@@ -121,7 +121,7 @@ module _ (names : List Word) (id : Option (List ℕ)) (pv : List ℕ) (time : �
     pub meets_read_failed : (pv' : ℕ) (span : Span) → pv' ≡ disk → IsLastFault old new disk (Reading span) → IsIdleAgain old new → ReadsFirstOf disk (slice_index_or old.sizes disk 0) old new
         → Meets (pvck pv) context old (Ended (ScanReadFailed pv')) new
     meets_read_failed pv' span is fault again reads = record {
-      given = [];
+      given = no_inputs;
       cause = (λ e. passes, (span, subst (λ (n : ℕ). IsLastFault old new n (Reading span)) (sym is) fault));
       told = told_first (Ended (ScanReadFailed pv')) reads;
       again = again;
@@ -129,7 +129,7 @@ module _ (names : List Word) (id : Option (List ℕ)) (pv : List ℕ) (time : �
 
     pub meets_without_memory : HasSameFaults old new → IsIdleAgain old new → ReadsFirstOf disk (slice_index_or old.sizes disk 0) old new → Meets (pvck pv) context old (Answered 1 answer.NoMemory) new
     meets_without_memory same again reads = record {
-      given = [];
+      given = no_inputs;
       cause = (refl, same);
       told = told_first (Answered 1 answer.NoMemory) reads;
       again = again;

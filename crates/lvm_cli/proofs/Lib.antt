@@ -1,4 +1,5 @@
 pub mod AskedLines
+pub mod AskedTasks
 pub mod BackingUp
 pub mod BuiltCommands
 pub mod CarriedOut
@@ -15,6 +16,7 @@ pub mod PromisedReports
 pub mod Refusals
 pub mod Reporting
 pub mod ScannedEntries
+pub mod SourcedLines
 pub mod StraysApart
 pub mod Undone
 pub mod ValuesWritten

@@ -21,7 +21,7 @@ use Rattle.lvm_cli.specs.declared.ending.Ending.TheVariants.{NoMemory, ScanRefus
 use Rattle.lvm_cli.specs.declared.outcome.Outcome.{Outcome}
 use Rattle.lvm_cli.specs.declared.outcome.Outcome.TheVariants.{Answered, Ended, Reported}
 use Rattle.lvm_cli.specs.declared.scan_refusal.ScanRefusal.TheVariants.{Disks}
-use Rattle.lvm_cli.specs.CommandSpec.{CommandSpec, Context}
+use Rattle.lvm_cli.specs.CommandSpec.{CommandSpec, Context, no_inputs}
 use Rattle.lvm_cli.specs.Meets.{DoesToDisks, Meets}
 use Rattle.lvm_cli.specs.ScanEndings.{IsEndingOf}
 use Rattle.lvm_cli.specs.ScanReport.{IsReported, command_of, scan_report, text_of}
@@ -32,12 +32,12 @@ use Rattle.lvm_cli.proofs.Refusals.{refused_is}
 -- what a scan reads is what the command may read
 pub scan_reads : (spec : CommandSpec) (context : Context) (old new : State) → spec.flushes ≡ false
     → ((image : Image) (spans : List Span) → AreFewReads image old.sizes spans → spec.reads context image spans)
-    → BetweenTold (ReadsFew old.sizes) old.told new.told → (outcome : Outcome) → BetweenTold (DoesToDisks spec context [] outcome) old.told new.told
+    → BetweenTold (ReadsFew old.sizes) old.told new.told → (outcome : Outcome) → BetweenTold (DoesToDisks spec context no_inputs outcome) old.told new.told
 scan_reads spec context old new alone may told outcome before e =
     let r = told before e in (
       r.0,
       r.1,
-      reads_disks spec context [] alone outcome before r.0 (spans_read r.2.since) []
+      reads_disks spec context no_inputs alone outcome before r.0 (spans_read r.2.since) []
           (record { since = r.2.since; steps = r.2.steps; reads = r.2.reads; spans_are = refl })
           (may (now_after before.opened before.steps) (spans_read r.2.since ++ [])
           (subst (λ (l : List Span). AreFewReads (now_after before.opened before.steps) old.sizes l) (sym (append-nil (spans_read r.2.since))) r.2.few)),
@@ -54,12 +54,12 @@ module _ (report : ScanReport) (names : List Word) (id : Option (List ℕ)) (tim
   abbrev context : Context
   context = record { names = names; sizes = old.sizes; id = id; now = time }
 
-  does : (outcome : Outcome) → BetweenTold (DoesToDisks (scan_report report) context [] outcome) old.told new.told
+  does : (outcome : Outcome) → BetweenTold (DoesToDisks (scan_report report) context no_inputs outcome) old.told new.told
   does = scan_reads (scan_report report) context old new (reads_alone report) (λ image spans few. few) told
 
   without_memory : Meets (scan_report report) context old (Ended NoMemory) new
   without_memory = record {
-    given = [];
+    given = no_inputs;
     cause = tt;
     told = does (Ended NoMemory);
     again = again;
@@ -68,7 +68,7 @@ module _ (report : ScanReport) (names : List Word) (id : Option (List ℕ)) (tim
   -- the report on what was found
   pub report_meets : (found : Found) (outcome : Outcome) → IsScan old found new → IsReported report found names outcome → Meets (scan_report report) context old outcome new
   report_meets found (Reported text whole) is reported = record {
-    given = [];
+    given = no_inputs;
     cause = (
       reads_alone report,
       (
@@ -83,14 +83,14 @@ module _ (report : ScanReport) (names : List Word) (id : Option (List ℕ)) (tim
     told = does (Reported text whole);
     again = again;
   }
-  report_meets found (Answered line answer.NoMemory) is reported = record { given = []; cause = (reported, tt); told = does (Answered line answer.NoMemory); again = again }
+  report_meets found (Answered line answer.NoMemory) is reported = record { given = no_inputs; cause = (reported, tt); told = does (Answered line answer.NoMemory); again = again }
   report_meets found _ is reported = absurd reported
 
   refused_meets : (why : ScanRefusal) (unread : set.FinSet nat_cmp) (whole : Bool)
       → HoldsNow old.told (λ image. IsRefusalOfScan image old.sizes unread why) → FailedOn unread old new → IsTrue whole ↔ (unread ≡ set.empty)
       → Meets (scan_report report) context old (Ended (ScanRefused (Disks why) whole)) new
   refused_meets why unread whole now failed all = record {
-    given = [];
+    given = no_inputs;
     cause = (unread, record { failed = failed; all = all }, now);
     told = does (Ended (ScanRefused (Disks why) whole));
     again = again;

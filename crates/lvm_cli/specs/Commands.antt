@@ -9,7 +9,7 @@ use Rattle.std.specs.Prelude.{◌≡◌, Bool, true, false, [], None}
 use Rattle.lvm_script.specs.declared.command.Command.{Command}
 use Rattle.lvm_script.specs.declared.command.Command.TheVariants as command
 use Rattle.lvm_cli.specs.Changing.{changing}
-use Rattle.lvm_cli.specs.CommandSpec.{CommandSpec, AtNothing}
+use Rattle.lvm_cli.specs.CommandSpec.{CommandSpec, AtNothing, no_inputs}
 use Rattle.lvm_cli.specs.Commands.Lvs.{lvs}
 use Rattle.lvm_cli.specs.Commands.Pvck.{pvck}
 use Rattle.lvm_cli.specs.Commands.Pvs.{pvs}
@@ -23,6 +23,8 @@ is_built (command.Pvcreate pv metadata_copies) = true
 is_built (command.Pvck pv) = true
 is_built (command.Vgcreate vg extent_size names) = true
 is_built (command.Vgextend vg names) = true
+is_built (command.Vgreduce vg pv) = true
+is_built (command.Vgremove vg) = true
 is_built (command.Vgrename vg new) = true
 is_built (command.Lvcreate new) = true
 is_built (command.Lvextend path growth names) = true
@@ -30,6 +32,7 @@ is_built (command.Lvreduce path amount) = true
 is_built (command.Lvremove path) = true
 is_built (command.Lvrename vg old new) = true
 is_built (command.Vgcfgbackup vg) = true
+is_built (command.Vgcfgrestore vg text) = true
 is_built command.Pvs = true
 is_built command.Vgs = true
 is_built command.Lvs = true
@@ -42,15 +45,18 @@ unbuilt = record {
   flushes = false;
   looks = AtNothing;
   scan = λ context image unread scanned. ⊥;
-  takes = λ context found given. given ≡ [];
+  takes = λ context found given. given ≡ no_inputs;
   refusal = λ context found given. None;
   repairs = λ found. [];
   stuck = λ found. None;
   zeros = λ context found given. [];
   batches = λ context found given. [];
+  clears = λ context found given. [];
   keeps = λ context found given base image. ⊥;
   reads = λ context image spans. ⊥;
   finds = λ context found given image. ⊥;
+  clearing = λ context found given base image. ⊥;
+  cleared = λ context found given image. ⊥;
   reports = λ context found image text. ⊥;
 }
 
@@ -60,6 +66,8 @@ spec_of (command.Pvcreate pv metadata_copies) = changing (command.Pvcreate pv me
 spec_of (command.Pvck pv) = pvck pv
 spec_of (command.Vgcreate vg extent_size names) = changing (command.Vgcreate vg extent_size names)
 spec_of (command.Vgextend vg names) = changing (command.Vgextend vg names)
+spec_of (command.Vgreduce vg pv) = changing (command.Vgreduce vg pv)
+spec_of (command.Vgremove vg) = changing (command.Vgremove vg)
 spec_of (command.Vgrename vg new) = changing (command.Vgrename vg new)
 spec_of (command.Lvcreate new) = changing (command.Lvcreate new)
 spec_of (command.Lvextend path growth names) = changing (command.Lvextend path growth names)
@@ -67,6 +75,7 @@ spec_of (command.Lvreduce path amount) = changing (command.Lvreduce path amount)
 spec_of (command.Lvremove path) = changing (command.Lvremove path)
 spec_of (command.Lvrename vg old new) = changing (command.Lvrename vg old new)
 spec_of (command.Vgcfgbackup vg) = vgcfgbackup vg
+spec_of (command.Vgcfgrestore vg text) = changing (command.Vgcfgrestore vg text)
 spec_of command.Pvs = pvs
 spec_of command.Vgs = vgs
 spec_of command.Lvs = lvs

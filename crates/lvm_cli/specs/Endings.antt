@@ -8,7 +8,7 @@ use Rattle.scan_rules.specs.declared.decision.ScanRefusal.{ScanRefusal as Refusa
 use Rattle.scan_rules.specs.declared.decision.ScanRefusal.TheVariants as scan
 use Rattle.lvm_script.specs.Options.{Word}
 use Rattle.lvm_cli.specs.declared.ending.Ending.{Ending}
-use Rattle.lvm_cli.specs.declared.ending.Ending.TheVariants.{WordsRefused, NoMemory, OpenFailed, ScanReadFailed, ScanRefused, RepairFailed, RepairRefused}
+use Rattle.lvm_cli.specs.declared.ending.Ending.TheVariants.{WordsRefused, NoMemory, SourceFailed, ScriptTooLong, OpenFailed, ScanReadFailed, ScanRefused, RepairFailed, RepairRefused}
 use Rattle.lvm_cli.specs.declared.scan_refusal.ScanRefusal.{ScanRefusal}
 use Rattle.lvm_cli.specs.declared.scan_refusal.ScanRefusal.TheVariants.{Disks, Partial}
 
@@ -47,6 +47,8 @@ repair_values names pv need room = named names pv ∷ number need ∷ number roo
 abbrev pub ending_text : List Word → Ending → List ℕ
 ending_text names WordsRefused = codes "words refused\n"
 ending_text names NoMemory = []
+ending_text names SourceFailed = codes "source failed\n"
+ending_text names ScriptTooLong = codes "script too long\n"
 ending_text names (OpenFailed pv) = codes "open failed " ++ slice_index_or names pv [] ++ codes "\n"
 ending_text names (ScanReadFailed pv) = codes "scan refused ReadFailed " ++ slice_index_or names pv [] ++ codes "\n"
 ending_text names (ScanRefused refusal whole) = codes "scan refused " ++ shown_text (shown_scan names refusal) ++ codes "\n"
@@ -58,6 +60,8 @@ ending_text names (RepairRefused pv need room) =
 abbrev pub status_of_ending : Ending → ℕ
 status_of_ending WordsRefused = 3
 status_of_ending NoMemory = 2
+status_of_ending SourceFailed = 4
+status_of_ending ScriptTooLong = 5
 status_of_ending (OpenFailed pv) = 6
 status_of_ending (ScanReadFailed pv) = 6
 status_of_ending (ScanRefused refusal true) = 5

@@ -12,4 +12,5 @@ pub mod Scan
 pub mod ScanEndings
 pub mod ScanReport
 pub mod Seed
+pub mod Sourced
 pub mod Startup

@@ -12,16 +12,15 @@ use Rattle.disk_batch.specs.InTurn.{Put, WritesInTurn}
 use Rattle.disk_model.specs.Since.{BetweenTold, OnlyReads}
 use Rattle.disk_model.specs.State.{State}
 use Rattle.disk_model.specs.Steps.{Image, Reading, Flushing, Told, now_after}
-use Rattle.extent_alloc.specs.declared.part.Part.{Part}
 use Rattle.vg_found.specs.declared.found.Found.{Found}
 use Rattle.vg_scan.specs.Scans.{FailedOn, HoldsNow}
 use Rattle.lvm_script.specs.declared.op_refusal.OpRefusal.{OpRefusal}
 use Rattle.lvm_script.specs.declared.answer.Answer.TheVariants.{Fine, Refused, PvFailed}
 use Rattle.lvm_script.specs.declared.answer.Answer.TheVariants as answer
-use Rattle.lvm_cli.specs.declared.ending.Ending.TheVariants.{WordsRefused, NoMemory, OpenFailed, ScanReadFailed, ScanRefused, RepairFailed, RepairRefused}
+use Rattle.lvm_cli.specs.declared.ending.Ending.TheVariants.{WordsRefused, NoMemory, SourceFailed, ScriptTooLong, OpenFailed, ScanReadFailed, ScanRefused, RepairFailed, RepairRefused}
 use Rattle.lvm_cli.specs.declared.outcome.Outcome.{Outcome}
 use Rattle.lvm_cli.specs.declared.outcome.Outcome.TheVariants.{Ended, Answered, Reported}
-use Rattle.lvm_cli.specs.CommandSpec.{CommandSpec, Context, Looks, AtNothing, AtDisks, Scanned, Finds, Refuses, Lacks}
+use Rattle.lvm_cli.specs.CommandSpec.{CommandSpec, Context, Inputs, Looks, AtNothing, AtDisks, Scanned, Finds, Refuses, Lacks, no_inputs}
 use Rattle.lvm_cli.specs.Scan.{IsUnreadBy, OpensDisks}
 
 -- ---- causes
@@ -35,14 +34,14 @@ pub record IsTaken (spec : CommandSpec) (context : Context) (old : State) (found
   pub scanned : IsScanned spec context set.empty old (Finds found)
   pub stuck_xl : spec.stuck found ≡ stuck
 
--- what was found can be repaired, and judged by that and by these extents, which it takes, the line has this refusal or none
-abbrev pub IsJudged : CommandSpec → Context → List Part → State → Option OpRefusal → Type 0
+-- what was found can be repaired, and judged by that and by what it takes, which is this, the line has this refusal or none
+abbrev pub IsJudged : CommandSpec → Context → Inputs → State → Option OpRefusal → Type 0
 IsJudged spec context given old refusal =
     (found : Option Found) × IsTaken spec context old found None × spec.takes context found given × (spec.refusal context found given ≡ refusal)
 
 -- no refusal comes before a read, where the command reads for itself
 abbrev pub IsJudgedFirst : CommandSpec → Context → Type 0
-IsJudgedFirst spec context = spec.looks ≡ AtNothing → spec.refusal context None [] ≡ None
+IsJudgedFirst spec context = spec.looks ≡ AtNothing → spec.refusal context None no_inputs ≡ None
 
 -- a read of the disk failed: in a scan that isn't taken without it, and any other read that fails is the last step
 abbrev pub IsReadFault : CommandSpec → Context → Looks → State → State → ℕ → Type 0
@@ -55,9 +54,11 @@ FailedForWant AtDisks old new = Unit {0}
 FailedForWant _ old new = HasSameFaults old new
 
 -- the cause of each outcome of line 1
-abbrev pub IsCause : CommandSpec → Context → List Part → State → State → Outcome → Type 0
+abbrev pub IsCause : CommandSpec → Context → Inputs → State → State → Outcome → Type 0
 IsCause spec context given old new (Ended WordsRefused) = ⊥
 IsCause spec context given old new (Ended NoMemory) = FailedForWant spec.looks old new
+IsCause spec context given old new (Ended SourceFailed) = ⊥
+IsCause spec context given old new (Ended ScriptTooLong) = ⊥
 IsCause spec context given old new (Ended (OpenFailed pv)) = IsTrue spec.flushes × IsLastFault old new pv (Flushing pv)
 IsCause spec context given old new (Ended (ScanReadFailed pv)) = IsJudgedFirst spec context × IsReadFault spec context spec.looks old new pv
 IsCause spec context given old new (Ended (ScanRefused refusal whole)) =
@@ -77,7 +78,7 @@ IsCause spec context given old new (Answered line _) = ⊥
 IsCause spec context given old new (Reported text whole) =
     (spec.flushes ≡ false)
     × ((unread : set.FinSet nat_cmp) × (found : Option Found) × IsUnreadBy whole unread old new × IsScanned spec context unread old (Finds found)
-    × (spec.refusal context found [] ≡ None) × HoldsNow old.told (λ image. spec.reports context found image text))
+    × (spec.refusal context found no_inputs ≡ None) × HoldsNow old.told (λ image. spec.reports context found image text))
 
 -- ---- how far a command that changes something comes
 
@@ -117,10 +118,10 @@ batches_if begun batches = if begun then batches else []
 -- ---- what is done to the disks, where they tell their record
 
 -- A command that changes something: each disk is flushed and then read a little, and where all that passes, the repair's
--- batches are written, then its zeros, and then its other batches, by the extents that it takes; each part as far as it came,
--- and nothing else. Batches are written in turn: at every moment a crash leaves the first so many of them whole, of the next one each sector old or new,
--- and each other sector as it was; once all went well it leaves all of them.
-pub record ChangesDisks (spec : CommandSpec) (context : Context) (given : List Part) (outcome : Outcome) (old new : Told) : Type 0 where
+-- batches are written, then its zeros, its other batches, and those that clear disks, by what it takes; each part as far as it
+-- came, and nothing else. Batches are written in turn: at every moment a crash leaves the first so many of them whole, of the
+-- next one each sector old or new, and each other sector as it was; once all went well it leaves all of them.
+pub record ChangesDisks (spec : CommandSpec) (context : Context) (given : Inputs) (outcome : Outcome) (old new : Told) : Type 0 where
   pub found : Option Found
   pub scanned : IsTrue (is_taken outcome) → spec.scan context (now_after old.opened old.steps) set.empty (Finds found)
   pub opened : Told
@@ -132,13 +133,21 @@ pub record ChangesDisks (spec : CommandSpec) (context : Context) (given : List P
   pub zeroed : Told
   pub ready : Bool
   pub zeros : WritesInTurn start (batches_if (line_begun outcome) (spec.zeros context found given)) ready zeroed
-  -- the other batches are begun where all zeros were written
-  pub line : WritesInTurn zeroed (batches_if ready (spec.batches context found given)) (is_done outcome) new
   pub begun : IsTrue ready → IsTrue (line_begun outcome)
-  pub all : IsTrue (is_done outcome) → IsTrue ready
-  -- what every image from them on keeps of what the disks held then, and what a reader finds afterwards
-  pub keeps : IsTrue ready → (base : Image) → IsBase zeroed base → EveryImageSince (length zeroed.steps) new (spec.keeps context found given base)
-  pub found_after : IsTrue (is_done outcome) → spec.finds context found given (now_after new.opened new.steps)
+  -- the other batches are begun where all zeros were written, and written says whether all of them were
+  pub made : Told
+  pub written : Bool
+  pub line : WritesInTurn zeroed (batches_if ready (spec.batches context found given)) written made
+  pub ready_then : IsTrue written → IsTrue ready
+  -- what every image from the zeros on keeps of what the disks held then, and what a reader finds afterwards
+  pub keeps : IsTrue ready → (base : Image) → IsBase zeroed base → EveryImageSince (length zeroed.steps) made (spec.keeps context found given base)
+  pub found_after : IsTrue written → spec.finds context found given (now_after made.opened made.steps)
+  -- disks are cleared where all of these were written
+  pub clears : WritesInTurn made (batches_if written (spec.clears context found given)) (is_done outcome) new
+  pub all : IsTrue (is_done outcome) → IsTrue written
+  -- the same of these
+  pub clearing : IsTrue written → (base : Image) → IsBase made base → EveryImageSince (length made.steps) new (spec.clearing context found given base)
+  pub cleared_after : IsTrue (is_done outcome) → spec.cleared context found given (now_after new.opened new.steps)
 
 -- A command that changes nothing submits reads alone, of its spans, as far as it came.
 pub record ReadsDisks (spec : CommandSpec) (context : Context) (old new : Told) : Type 0 where
@@ -148,12 +157,12 @@ pub record ReadsDisks (spec : CommandSpec) (context : Context) (old new : Told) 
   pub spans : spec.reads context (now_after old.opened old.steps) (read ++ unread)
 
 -- the one or the other
-abbrev pub DoesToDisks : CommandSpec → Context → List Part → Outcome → Told → Told → Type 0
+abbrev pub DoesToDisks : CommandSpec → Context → Inputs → Outcome → Told → Told → Type 0
 DoesToDisks spec context given outcome old new = MatchBool spec.flushes (ChangesDisks spec context given outcome old new) (ReadsDisks spec context old new)
 
--- a line of this command, judged against this context and by the extents that it takes, came to this outcome
+-- a line of this command, judged against this context and by what it takes, came to this outcome
 pub record Meets (spec : CommandSpec) (context : Context) (old : State) (outcome : Outcome) (new : State) : Type 0 where
-  pub given : List Part
+  pub given : Inputs
   pub cause : IsCause spec context given old new outcome
   pub told : BetweenTold (DoesToDisks spec context given outcome) old.told new.told
   pub again : IsIdleAgain old new

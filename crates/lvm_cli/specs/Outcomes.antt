@@ -6,7 +6,8 @@ use Rattle.lvm_script.specs.Options.{Word}
 use Rattle.lvm_script.specs.Streams.{WritesText}
 use Rattle.lvm_script.specs.declared.answer.Answer.{Answer}
 use Rattle.lvm_script.specs.declared.answer.Answer.TheVariants.{Refused, ReadFailed, PvFailed, Fenced, Stopped, NoMemory}
-use Rattle.lvm_cli.specs.declared.ending.Ending.TheVariants.{WordsRefused}
+use Rattle.lvm_cli.specs.declared.ending.Ending.TheVariants.{SourceFailed, WordsRefused}
+use Rattle.lvm_cli.specs.declared.ending.Ending.TheVariants as ending
 use Rattle.lvm_cli.specs.declared.outcome.Outcome.{Outcome}
 use Rattle.lvm_cli.specs.declared.outcome.Outcome.TheVariants.{Ended, Answered, Reported}
 use Rattle.lvm_cli.specs.declared.output.Output.{Output}
@@ -44,10 +45,18 @@ status_of (Answered line answer) = status_of_answer answer
 status_of (Reported text true) = 0
 status_of (Reported text false) = 6
 
--- the exit status where the sink failed: words without a meaning come first
+-- the exit status where the sink failed: words without a meaning, want of memory and a source that failed come first
 abbrev pub status_unprinted : Outcome → ℕ
 status_unprinted (Ended WordsRefused) = 3
+status_unprinted (Ended ending.NoMemory) = 2
+status_unprinted (Ended SourceFailed) = 4
+status_unprinted (Answered line NoMemory) = 2
 status_unprinted _ = 7
+
+-- whether it is a report
+abbrev pub is_report : Outcome → Bool
+is_report (Reported text whole) = true
+is_report _ = false
 
 -- the exit status, by whether the output was printed
 abbrev pub status_printed : Outcome → Bool → ℕ

@@ -13,7 +13,7 @@ use Rattle.lvm_cli.specs.declared.commands.scan_report.ScanReport.{ScanReport}
 use Rattle.lvm_cli.specs.declared.commands.scan_report.ScanReport.TheVariants.{Pvs, Vgs, Lvs, Vgck}
 use Rattle.lvm_cli.specs.declared.outcome.Outcome.{Outcome}
 use Rattle.lvm_cli.specs.declared.outcome.Outcome.TheVariants.{Answered, Reported}
-use Rattle.lvm_cli.specs.CommandSpec.{CommandSpec, AtDisks}
+use Rattle.lvm_cli.specs.CommandSpec.{CommandSpec, AtDisks, no_inputs}
 use Rattle.lvm_cli.specs.Scan.{FindsAnything}
 
 -- the command of a report
@@ -36,15 +36,18 @@ scan_report report = record {
   flushes = changes (command_of report);
   looks = AtDisks;
   scan = λ context image unread scanned. FindsAnything image context.sizes unread scanned;
-  takes = λ context found given. given ≡ [];
+  takes = λ context found given. given ≡ no_inputs;
   refusal = λ context found given. None;
   repairs = λ found. [];
   stuck = λ found. None;
   zeros = λ context found given. [];
   batches = λ context found given. [];
+  clears = λ context found given. [];
   keeps = λ context found given base image. ⊥;
   reads = λ context image spans. AreFewReads image context.sizes spans;
   finds = λ context found given image. ⊥;
+  clearing = λ context found given base image. ⊥;
+  cleared = λ context found given image. ⊥;
   reports = λ context scanned image text. (found : Found) × (scanned ≡ Some found) × (text ≡ text_of report found context.names);
 }
 

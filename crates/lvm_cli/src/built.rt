@@ -6,7 +6,7 @@ use lvm_script::Command;
 
 /// Which commands run so far, as it is told to a user.
 pub const BUILT: &str =
-    "So far pvs, vgs, lvs, vgck, pvck, vgcfgbackup, pvcreate, vgcreate, vgextend, vgrename, lvcreate, lvextend, lvreduce, lvremove and lvrename run.\n";
+    "So far pvs, vgs, lvs, vgck, pvck, vgcfgbackup, vgcfgrestore, pvcreate, vgcreate, vgextend, vgreduce, vgremove, vgrename, lvcreate, lvextend, lvreduce, lvremove and lvrename run.\n";
 
 /// Whether the command is built. Words that ask for another are refused until it is.
 pub fn is_built(command: &Command) -> bool
@@ -18,6 +18,8 @@ pub fn is_built(command: &Command) -> bool
             | Command::Pvck { .. }
             | Command::Vgcreate { .. }
             | Command::Vgextend { .. }
+            | Command::Vgreduce { .. }
+            | Command::Vgremove { .. }
             | Command::Vgrename { .. }
             | Command::Lvcreate(_)
             | Command::Lvextend { .. }
@@ -25,6 +27,7 @@ pub fn is_built(command: &Command) -> bool
             | Command::Lvremove { .. }
             | Command::Lvrename { .. }
             | Command::Vgcfgbackup { .. }
+            | Command::Vgcfgrestore { .. }
             | Command::Pvs
             | Command::Vgs
             | Command::Lvs

@@ -15,6 +15,10 @@ pub enum Ending {
     WordsRefused,
     /// Memory was wanting. It prints nothing.
     NoMemory,
+    /// A read of the source failed.
+    SourceFailed,
+    /// The source gives more than 16,777,216 bytes.
+    ScriptTooLong,
     /// The opening flush of the disk with this number failed.
     OpenFailed(u32),
     /// A read of the disk with this number failed.
@@ -36,8 +40,9 @@ impl Ending {
         match self {
             Ending::WordsRefused => 3,
             Ending::NoMemory => 2,
+            Ending::SourceFailed => 4,
             Ending::OpenFailed(_) | Ending::ScanReadFailed(_) | Ending::RepairFailed(_) => 6,
-            Ending::RepairRefused { .. } => 5,
+            Ending::ScriptTooLong | Ending::RepairRefused { .. } => 5,
             Ending::ScanRefused { whole, .. } => { if *whole { 5 } else { 6 } }
         }
     }
@@ -50,6 +55,8 @@ impl Ending {
         match self {
             Ending::WordsRefused => write_bytes(out, b"words refused\n"),
             Ending::NoMemory => write_bytes(out, b""),
+            Ending::SourceFailed => write_bytes(out, b"source failed\n"),
+            Ending::ScriptTooLong => write_bytes(out, b"script too long\n"),
             Ending::OpenFailed(pv) => write_line(out, b"open failed ", names.bytes_of(*pv)),
             Ending::ScanReadFailed(pv) => {
                 write_line(out, b"scan refused ReadFailed ", names.bytes_of(*pv))

@@ -63,13 +63,13 @@ impl Entered {
         Ok(Entered { journal, answers })
     }
 
-    /// Enters line 1, which was begun after so many steps of the disks, where the run came to this outcome after so many, and
-    /// gives what is to be printed.
-    pub fn enter(&mut self, begun: u64, ended: u64, outcome: Outcome) -> Output
+    /// Enters line 1, which was begun after so many steps of the disks and took place after so many, or not at all, where the
+    /// run came to this outcome after so many, and gives what is to be printed.
+    pub fn enter(&mut self, begun: u64, took: Option<u64>, ended: u64, outcome: Outcome) -> Output
         requires nothing { IsNothing self.old }
         requires room { said_of outcome ≢ None → HasRoom self.old }
         requires first { IsOfLineOne outcome }
-        ensures journal { self.new.journal.items ≡ journal_by begun ended outcome }
+        ensures journal { self.new.journal.items ≡ journal_by begun took ended outcome }
         ensures answers { self.new.answers.items ≡ option_map_or (λ (said : AnswerRecord). (1, Some said) ∷ []) (said_of outcome) [] }
         ensures output { (names : List Word) → text_of names self.new.answers.items result ≡ output_of names outcome }
     {
@@ -77,26 +77,26 @@ impl Entered {
             Outcome::Ended(ending) => Output::Ending(ending),
             Outcome::Answered(line, Answer::NoMemory) => Output::NoMemory(line),
             Outcome::Answered(_, answer) => {
-                self.enter_answered(begun, ended, answer);
+                self.enter_answered(begun, took, ended, answer);
                 Output::Answers
             }
             Outcome::Reported { text, whole: _ } => {
-                self.enter_answered(begun, ended, Answer::Fine);
+                self.enter_answered(begun, took, ended, Answer::Fine);
                 Output::Report(text)
             }
         }
     }
 
     // The same of a line that was answered.
-    fn enter_answered(&mut self, begun: u64, ended: u64, answer: Answer)
+    fn enter_answered(&mut self, begun: u64, took: Option<u64>, ended: u64, answer: Answer)
         requires nothing { IsNothing self.old }
         requires room { HasRoom self.old }
-        ensures journal { self.new.journal.items ≡ journal_of_line begun ended answer }
+        ensures journal { self.new.journal.items ≡ journal_of_line begun took ended }
         ensures answers { self.new.answers.items ≡ (1, Some answer) ∷ [] }
     {
         self.journal.push_reserved(entry(EntryKind::Begun, begun));
-        if let Answer::Fine = &answer {
-            self.journal.push_reserved(entry(EntryKind::Took, ended));
+        if let Some(took) = took {
+            self.journal.push_reserved(entry(EntryKind::Took, took));
         }
         self.journal
             .push_reserved(entry(EntryKind::Answered, ended));

@@ -22,6 +22,7 @@ mod ran;
 mod scan_refusal;
 mod scanned;
 mod seed;
+mod sourced;
 mod startup;
 #[cfg(test)]
 mod tests;

@@ -1,6 +1,6 @@
 //! What a run comes to.
 ghost use Rattle.std.specs.Prelude.{◌≡◌};
-ghost use Rattle.lvm_cli.specs.Outcomes.{status_of, status_of_answer, status_unprinted};
+ghost use Rattle.lvm_cli.specs.Outcomes.{is_report, status_of, status_of_answer, status_unprinted};
 
 use crate::ending::Ending;
 use lvm_script::Answer;
@@ -18,6 +18,13 @@ pub enum Outcome {
 }
 
 impl Outcome {
+    /// Whether it is a report.
+    pub fn is_report(&self) -> bool
+        ensures { result ≡ is_report self.now }
+    {
+        matches!(self, Outcome::Reported { .. })
+    }
+
     /// The exit status where the output was printed whole.
     pub fn status(&self) -> u8
         ensures { result ≡ status_of self.now }
@@ -29,12 +36,15 @@ impl Outcome {
         }
     }
 
-    /// The exit status where the sink failed: 7, but 3 all the same for words without a meaning.
+    /// The exit status where the sink failed: 7, but all the same 3 for words without a meaning, 2 for want of memory, and 4
+    /// where the source failed.
     pub fn status_unprinted(&self) -> u8
         ensures { result ≡ status_unprinted self.now }
     {
         match self {
             Outcome::Ended(Ending::WordsRefused) => 3,
+            Outcome::Ended(Ending::NoMemory) | Outcome::Answered(_, Answer::NoMemory) => 2,
+            Outcome::Ended(Ending::SourceFailed) => 4,
             _ => 7,
         }
     }

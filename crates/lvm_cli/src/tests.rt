@@ -20,7 +20,10 @@ use table_lock::OpenGate;
 mod backups;
 mod groups;
 mod journals;
+mod members;
 mod reports;
+mod restores;
+mod sources;
 mod volumes;
 
 /// Creates a physical volume without a metadata area.
@@ -112,6 +115,25 @@ fn run_drawing<T: Threads + Wait + Sync + Abort>(
     requires disks { AreDisks count (⟦<MemShelf as Shelf>⟧.state shelf) }
     requires time { now < 2 ^ 48 }
 {
+    let mut script = MemSource::new(Vec::new(alloc), Vec::new(alloc));
+    run_sourced(rt, alloc, drawn, now, words, &mut script, count, shelf, out)
+}
+
+// The same with this source.
+fn run_sourced<T: Threads + Wait + Sync + Abort>(
+    rt: &T,
+    alloc: Global,
+    drawn: &[u64],
+    now: u64,
+    words: &[&str],
+    script: &mut MemSource,
+    count: u32,
+    shelf: MemShelf,
+    out: &mut MemSink,
+) -> Result<Ended<MemShelf>, AllocError>
+    requires disks { AreDisks count (⟦<MemShelf as Shelf>⟧.state shelf) }
+    requires time { now < 2 ^ 48 }
+{
     let mut list = Vec::new(alloc);
     for word in words {
         list.push(String::from_str(alloc, word)?)?;
@@ -120,27 +142,17 @@ fn run_drawing<T: Threads + Wait + Sync + Abort>(
     let mut numbers = Vec::new(alloc);
     numbers.extend_from_slice(drawn)?;
     let mut ids = MemWords::new(numbers);
-    let mut script = MemSource::new(Vec::new(alloc), Vec::new(alloc));
     Ok(lvm_run(
-        rt,
-        alloc,
-        &list,
-        &mut script,
-        out,
-        shelf,
-        &mut ids,
-        now,
-        &OpenGate,
+        rt, alloc, &list, script, out, shelf, &mut ids, now, &OpenGate,
     ))
 }
 
 #[test]
 fn words_that_ask_for_nothing_built_are_refused(rt: HostRuntime) -> Result<(), Fail> {
     let alloc = rt.alloc();
-    let refused: [&[&str]; 11] = [
+    let refused: [&[&str]; 10] = [
         &["-d", "a", "lvcreate", "vg0"],
-        &["-d", "a", "vgremove", "vg0"],
-        &["-d", "a", "vgreduce", "vg0", "a"],
+        &["-d", "a", "pvmove", "a"],
         &["-d", "a", "session", "--workers", "1", "vg0"],
         &["-d", "a", "demo", "1", "1", "1"],
         &["-d", "a", "lvs", "--help"],

@@ -12,7 +12,7 @@ use Rattle.lvm_script.specs.Options.{Word}
 use Rattle.lvm_script.specs.declared.command.Command.TheVariants as command
 use Rattle.lvm_script.specs.declared.op_refusal.OpRefusal.{OpRefusal}
 use Rattle.lvm_script.specs.declared.op_refusal.OpRefusal.TheVariants.{UnknownGroup}
-use Rattle.lvm_cli.specs.CommandSpec.{CommandSpec, AtDisks, group_in}
+use Rattle.lvm_cli.specs.CommandSpec.{CommandSpec, AtDisks, group_in, no_inputs}
 use Rattle.lvm_cli.specs.Scan.{FindsWhole}
 
 -- no group is in force that has the name
@@ -25,14 +25,17 @@ vgcfgbackup vg = record {
   flushes = changes (command.Vgcfgbackup vg);
   looks = AtDisks;
   scan = λ context image unread scanned. FindsWhole image context.sizes unread scanned;
-  takes = λ context found given. given ≡ [];
+  takes = λ context found given. given ≡ no_inputs;
   refusal = λ context found given. unknown_group (group_in found) vg;
   repairs = λ found. [];
   stuck = λ found. None;
   zeros = λ context found given. [];
   batches = λ context found given. [];
+  clears = λ context found given. [];
   keeps = λ context found given base image. ⊥;
   reads = λ context image spans. AreFewReads image context.sizes spans;
   finds = λ context found given image. ⊥;
+  clearing = λ context found given base image. ⊥;
+  cleared = λ context found given image. ⊥;
   reports = λ context found image text. (group : Group) × (group_in found ≡ Some group) × HasTree group × (text ≡ printed (backup_of group context.now));
 }

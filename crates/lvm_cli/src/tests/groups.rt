@@ -2,10 +2,10 @@
 ghost use Rattle.std.specs.Prelude.{◌≡◌, ◌≤◌, ◌^◌, length, IfOk};
 ghost use Rattle.lvm_cli.specs.Disks.{AreDisks};
 
-use super::run_drawing;
+use super::run_sourced;
 use crate::lvm_run::Ended;
 use dev_shelf::{Fail as Failure, Images, MemShelf, Shelf, ShelfPlan};
-use lvm_script::MemSink;
+use lvm_script::{MemSink, MemSource};
 use sector_base::Sectors;
 use std::alloc::{AllocError, Global};
 use std::process::Abort;
@@ -91,9 +91,27 @@ pub(super) fn run_on_three<T: Threads + Wait + Sync + Abort>(
 ) -> Result<Ended<MemShelf>, Fail>
     requires { AreDisks 3 (⟦<MemShelf as Shelf>⟧.state shelf) }
 {
+    run_sourced_on_three(rt, alloc, shelf, words, "", id, out)
+}
+
+// The same with this source.
+pub(super) fn run_sourced_on_three<T: Threads + Wait + Sync + Abort>(
+    rt: &T,
+    alloc: Global,
+    shelf: MemShelf,
+    words: &[&str],
+    source: &str,
+    id: u64,
+    out: &mut MemSink,
+) -> Result<Ended<MemShelf>, Fail>
+    requires { AreDisks 3 (⟦<MemShelf as Shelf>⟧.state shelf) }
+{
     let mut all = vec![in alloc; "-d", "a", "-d", "b", "-d", "c"]?;
     all.extend_from_slice(words)?;
-    Ok(run_drawing(rt, alloc, &[id, 0, 0, 0], 0, &all, 3, shelf, out)?)
+    let bytes = Vec::from_slice(alloc, source.as_bytes())?;
+    let mut script = MemSource::new(bytes, Vec::new(alloc));
+    let drawn = [id, 0, 0, 0];
+    Ok(run_sourced(rt, alloc, &drawn, 0, &all, &mut script, 3, shelf, out)?)
 }
 
 // The same, and checks what it prints and its status.
@@ -108,8 +126,24 @@ pub(super) fn answers<T: Threads + Wait + Sync + Abort>(
 ) -> Result<MemShelf, Fail>
     requires { AreDisks 3 (⟦<MemShelf as Shelf>⟧.state shelf) }
 {
+    answers_sourced(rt, alloc, shelf, words, "", id, printed, status)
+}
+
+// The same with this source.
+pub(super) fn answers_sourced<T: Threads + Wait + Sync + Abort>(
+    rt: &T,
+    alloc: Global,
+    shelf: MemShelf,
+    words: &[&str],
+    source: &str,
+    id: u64,
+    printed: &str,
+    status: u8,
+) -> Result<MemShelf, Fail>
+    requires { AreDisks 3 (⟦<MemShelf as Shelf>⟧.state shelf) }
+{
     let mut out = MemSink::new(alloc, 1_000, Vec::new(alloc))?;
-    let ended = run_on_three(rt, alloc, shelf, words, id, &mut out)?;
+    let ended = run_sourced_on_three(rt, alloc, shelf, words, source, id, &mut out)?;
     assert_eq!(rt; out.bytes(), printed.as_bytes());
     assert_eq!(rt; ended.status, status);
     Ok(ended.shelf)

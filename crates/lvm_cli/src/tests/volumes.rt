@@ -19,13 +19,13 @@ use texts::{backup, changed, committed, data, safe, safe_a, safe_b, usual, with_
 
 mod created;
 mod longer;
-mod refusals;
+pub(in crate::tests) mod refusals;
 mod shorter;
 mod stops;
-mod texts;
+pub(in crate::tests) mod texts;
 
 /// How many sectors each disk has: 32 extents of 8 sectors behind the first 2,048.
-const DISK_SECTORS: usize = 2_304;
+pub(super) const DISK_SECTORS: usize = 2_304;
 
 /// With what the id of a new volume begins, unlike those of the group's.
 const DRAWN: u64 = 6;
@@ -61,8 +61,8 @@ fn numbered(alloc: Global) -> Result<Sectors, AllocError> {
     Ok(Sectors::from_vec(list))
 }
 
-// Three such disks with physical volumes, the last of which has no metadata area, in a group.
-fn in_group<T: Threads + Wait + Sync + Abort>(rt: &T, alloc: Global) -> Result<MemShelf, Fail>
+// Three such disks with physical volumes, the last of which has no metadata area.
+fn with_pvs<T: Threads + Wait + Sync + Abort>(rt: &T, alloc: Global) -> Result<MemShelf, Fail>
     ensures { IfOk result (λ shelf. AreDisks 3 (⟦<MemShelf as Shelf>⟧.state shelf)) }
 {
     let a = numbered(alloc)?;
@@ -78,13 +78,25 @@ fn in_group<T: Threads + Wait + Sync + Abort>(rt: &T, alloc: Global) -> Result<M
             (PVCREATE_A, 1, "1: ok\n", 0),
             (PVCREATE_B, 2, "1: ok\n", 0),
             (PVCREATE_C, 3, "1: ok\n", 0),
-            (
-                &["vgcreate", "-s", "4k", "vg0", "a", "b", "c"],
-                4,
-                "1: ok\n",
-                0,
-            ),
         ],
+    )
+}
+
+// The same in a group.
+fn in_group<T: Threads + Wait + Sync + Abort>(rt: &T, alloc: Global) -> Result<MemShelf, Fail>
+    ensures { IfOk result (λ shelf. AreDisks 3 (⟦<MemShelf as Shelf>⟧.state shelf)) }
+{
+    let shelf = with_pvs(rt, alloc)?;
+    run_rows_on(
+        rt,
+        alloc,
+        shelf,
+        &[(
+            &["vgcreate", "-s", "4k", "vg0", "a", "b", "c"],
+            4,
+            "1: ok\n",
+            0,
+        )],
     )
 }
 
@@ -104,8 +116,28 @@ fn commit_resized(
     commit_text(rt, alloc, disk, text.as_bytes(), bytes)
 }
 
+// The three disks with physical volumes, where this text of a group is committed to the area of the first alone.
+pub(super) fn disks_with_first<T: Threads + Wait + Sync + Abort>(
+    rt: &T,
+    alloc: Global,
+    group: &str,
+) -> Result<MemShelf, Fail>
+    ensures { IfOk result (λ shelf. AreDisks 3 (⟦<MemShelf as Shelf>⟧.state shelf)) }
+{
+    let text = committed(alloc, group)?;
+    let shelf = with_pvs(rt, alloc)?;
+    let images = shelf.images_at(0, &Vec::new(alloc))?;
+    assert!(rt; images.len() == 3);
+    let mut a = images.get(0).try_copy(alloc)?;
+    let b = images.get(1).try_copy(alloc)?;
+    let c = images.get(2).try_copy(alloc)?;
+    commit_resized(rt, alloc, &mut a, text.as_str(), AREA_BYTES)?;
+    assert!(rt; a.len() == DISK_SECTORS && b.len() == DISK_SECTORS && c.len() == DISK_SECTORS);
+    Ok(shelf_of(alloc, a, b, c, Vec::new(alloc))?)
+}
+
 // The disks of the group, in whose areas this text of it is committed.
-fn disks_with<T: Threads + Wait + Sync + Abort>(
+pub(super) fn disks_with<T: Threads + Wait + Sync + Abort>(
     rt: &T,
     alloc: Global,
     group: &str,
@@ -116,7 +148,7 @@ fn disks_with<T: Threads + Wait + Sync + Abort>(
 }
 
 // The same where the metadata areas have so many bytes.
-fn disks_of<T: Threads + Wait + Sync + Abort>(
+pub(super) fn disks_of<T: Threads + Wait + Sync + Abort>(
     rt: &T,
     alloc: Global,
     group: &str,
@@ -146,7 +178,7 @@ fn disks<T: Threads + Wait + Sync + Abort>(rt: &T, alloc: Global) -> Result<MemS
 }
 
 // Runs these one after another on the disks of the group with this text, each on what the one before left.
-fn are_done<T: Threads + Wait + Sync + Abort>(
+pub(super) fn are_done<T: Threads + Wait + Sync + Abort>(
     rt: &T,
     alloc: Global,
     group: &str,
@@ -347,7 +379,7 @@ data             vg0              linear           32
 
 // Whether the sector stays as it is when a version is committed beside a text of so many sectors: those before the area and
 // behind it, and those of the text.
-fn stays(sector: usize, text: usize) -> bool {
+pub(super) fn stays(sector: usize, text: usize) -> bool {
     sector < 8 || (sector >= 9 && sector - 9 < text) || sector >= 2_048
 }
 

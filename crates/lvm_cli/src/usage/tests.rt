@@ -62,9 +62,9 @@ fn the_faulty_word_is_told_with_the_usage_of_its_command(rt: HostRuntime) -> Res
             lvs,
         ),
         (
-            &["-d", "a", "vgremove", "vg0"],
+            &["-d", "a", "pvmove", "a"],
             "lvm: this doesn't run yet\n",
-            "So far pvs, vgs, lvs, vgck, pvck, vgcfgbackup, pvcreate, vgcreate, vgextend, vgrename, lvcreate, lvextend, lvreduce, lvremove and lvrename run.\n",
+            "So far pvs, vgs, lvs, vgck, pvck, vgcfgbackup, vgcfgrestore, pvcreate, vgcreate, vgextend, vgreduce, vgremove, vgrename, lvcreate, lvextend, lvreduce, lvremove and lvrename run.\n",
         ),
     ];
     for (words, first, second) in rows {
@@ -103,7 +103,7 @@ fn all_commands_are_told_where_there_is_none(rt: HostRuntime) -> Result<(), Fail
         assert!(rt; text.as_str().starts_with(front.as_str()), "{text}");
         assert!(rt;
             text.as_str().ends_with(
-                "\nSo far pvs, vgs, lvs, vgck, pvck, vgcfgbackup, pvcreate, vgcreate, vgextend, vgrename, lvcreate, lvextend, lvreduce, lvremove and lvrename run.\n"
+                "\nSo far pvs, vgs, lvs, vgck, pvck, vgcfgbackup, vgcfgrestore, pvcreate, vgcreate, vgextend, vgreduce, vgremove, vgrename, lvcreate, lvextend, lvreduce, lvremove and lvrename run.\n"
             ),
             "{text}"
         );

@@ -1,6 +1,5 @@
 use Rattle.std.proofs.Common.{length, refl, sym, ap, subst, ◌∙◌}
 use Rattle.std.specs.Prelude.{Ok, Err}
-use Rattle.group_ops.specs.Laws.{state_in}
 use Rattle.vg_found.specs.Shape.{HasShape}
 use Rattle.vg_found.specs.Whole.{IsWhole}
 use Rattle.vg_found.specs.declared.found.Found.{Found}
@@ -27,7 +26,7 @@ returns-in-Err g c =
       cause = e.cause;
       told = e.told;
       images = e.images;
-      goes = (ap (λ (e : Ending). Ended e) c.ending_of.ensures, refl);
+      goes = (ap (λ (e : Ending). Ended e) c.ending_of.ensures, refl, refl);
     }
 
 pub returns-in-Ok : goal.returns-in-Ok
@@ -41,17 +40,17 @@ returns-in-Ok g c =
       follows = (told_of s1 (g.met.S.Shelf.lawful c.repair.new.shelf)).record_is;
       steps = (told_of s1 (g.met.S.Shelf.lawful c.repair.new.shelf)).steps;
       begun_xl = c.steps-begun.ensures;
-      whole = (subst HasShape c.into_found.ensures.found c.into_found.ensures.shape, subst IsWhole c.into_found.ensures.found c.into_found.ensures.whole);
+      whole = (subst HasShape c.into_found-found.ensures.found c.into_found-found.ensures.shape, subst IsWhole c.into_found-found.ensures.found c.into_found-found.ensures.whole);
       cause = e.cause;
       told = e.told;
       images = e.images;
-      goes = subst (λ (f : Found). IsCarriedOut (state_in f c.args.names.now) c.args.line.now c.args.now s1 c.change_found-outcome.result (g.S.Shelf.state c.change_found-outcome.new.shelf)) c.into_found.ensures.found c.change_found-outcome.ensures;
+      goes = subst (λ (f : Found). IsCarriedOut f c.args.names.now c.args.line.now c.args.now s1 c.change_found-outcome.result.0 c.change_found-outcome.result.1 (g.S.Shelf.state c.change_found-outcome.new.shelf)) c.into_found-found.ensures.found c.change_found-outcome.ensures;
     }
 
 pub change_found-outcome-requires-clause-count : goal.change_found-outcome-requires-clause-count
 change_found-outcome-requires-clause-count g c =
-    c.requires.count ∙ sym (repaired_count c.args.whole) ∙ ap (λ (f : Found). length f.disks) (sym (c.into_found.ensures.found ∙ c.in-Ok.ensures.cause.now))
+    c.requires.count ∙ sym (repaired_count c.args.whole) ∙ ap (λ (f : Found). length f.disks) (sym (c.into_found-found.ensures.found ∙ c.in-Ok.ensures.cause.now))
 
 pub change_found-outcome-requires-clause-sizes : goal.change_found-outcome-requires-clause-sizes
 change_found-outcome-requires-clause-sizes g c =
-    c.in-Ok.ensures.again.sizes ∙ c.requires.sizes ∙ sym (repaired_sizes c.args.whole) ∙ ap (λ (f : Found). sizes_of f.disks) (sym (c.into_found.ensures.found ∙ c.in-Ok.ensures.cause.now))
+    c.in-Ok.ensures.again.sizes ∙ c.requires.sizes ∙ sym (repaired_sizes c.args.whole) ∙ ap (λ (f : Found). sizes_of f.disks) (sym (c.into_found-found.ensures.found ∙ c.in-Ok.ensures.cause.now))

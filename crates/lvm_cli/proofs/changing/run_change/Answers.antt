@@ -40,9 +40,9 @@ returns-in-Ok-clause-meets g c =
     let count : length c.args.names.now ≡ length c.in-Ok.whole.disks = omega (arith, many, sizes, c.requires.disks.many) in
     let line = c.args.line.now in
     let same : line ≡ record { number = 1; id = line.id; command = line.command } = ap (λ (n : ℕ). record { number = n; id = line.id; command = line.command }) c.requires.first in
-    let changed = subst (λ (l : Line). IsChanged c.in-Ok.whole c.args.names.now l c.args.now s1 c.change_whole.result.outcome c.change_whole.result.begun s2) same c.change_whole.ensures in
+    let changed = subst (λ (l : Line). IsChanged c.in-Ok.whole c.args.names.now l c.args.now s1 c.change_whole.result.outcome c.change_whole.result.begun c.change_whole.result.took s2) same c.change_whole.ensures in
     meets_changed c.args.names.now line.command line.id c.args.now s0 c.in-Ok.whole s1 e.cause e.again e.told
-    (told_of s0 (g.met.S.Shelf.lawful c.args.shelf.now)).record_is c.requires.planned c.requires.time count c.requires.named c.change_whole.result.outcome c.change_whole.result.begun s2
+    (told_of s0 (g.met.S.Shelf.lawful c.args.shelf.now)).record_is c.requires.planned c.requires.time count c.requires.named c.change_whole.result.outcome c.change_whole.result.begun c.change_whole.result.took s2
     (told_of s2 (g.met.S.Shelf.lawful c.change_whole.new.shelf)).record_is changed
 
 pub returns-in-Ok-clause-promise : goal.returns-in-Ok-clause-promise
@@ -54,5 +54,5 @@ returns-in-Ok-clause-promise g c =
     let s1 = g.S.Shelf.state c.open_disks.new.shelf in
     let s2 = g.S.Shelf.state c.change_whole.new.shelf in
     let e = c.in-Ok.ensures in
-    kept_changed c.line_histories.ensures.lines c.line_histories.ensures.ends c.done_sets_agree.ensures c.args.names.now c.args.now c.args.line.now s0 c.in-Ok.whole s1 e.cause e.told count c.requires.named c.requires.planned c.requires.time
-    (told_of s0 (g.met.S.Shelf.lawful c.args.shelf.now)) s2 c.change_whole.result.outcome c.change_whole.result.begun (told_of s2 (g.met.S.Shelf.lawful c.change_whole.new.shelf)) c.change_whole.ensures
+    kept_changed c.line_histories.ensures.lines c.line_histories.ensures.clears c.line_histories.ensures.ends c.done_sets_agree.ensures c.args.names.now c.args.now c.args.line.now s0 c.in-Ok.whole s1 e.cause e.told count c.requires.named c.requires.planned c.requires.time
+    (told_of s0 (g.met.S.Shelf.lawful c.args.shelf.now)) s2 c.change_whole.result.outcome c.change_whole.result.begun c.change_whole.result.took (told_of s2 (g.met.S.Shelf.lawful c.change_whole.new.shelf)) c.change_whole.ensures

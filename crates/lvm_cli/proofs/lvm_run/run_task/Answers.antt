@@ -1,17 +1,20 @@
-use Rattle.lvm_cli.specs.declared.ending.Ending.TheVariants.{WordsRefused}
-use Rattle.lvm_cli.proofs.AskedLines.{kept_task}
-use Rattle.lvm_cli.proofs.Promised.{told_of}
+use Rattle.std.proofs.Common.{[]}
+use Rattle.lvm_cli.specs.Sourced.{source}
+use Rattle.lvm_cli.proofs.AskedTasks.{refused_alone}
+use Rattle.lvm_cli.proofs.Promised.{kept_undone, told_of}
 use Rattle.lvm_cli.proofs.lvm_run.run_task.Goals as goal
 
-pub returns-in-One-clause-promise : goal.returns-in-One-clause-promise
-returns-in-One-clause-promise g c = rw c.in-One.is c.run_line.ensures.promise
+pub returns-in-One : goal.returns-in-One
+returns-in-One g c = rw c.in-One.is c.run_line.ensures
 
-pub returns-in-Session-clause-promise : goal.returns-in-Session-clause-promise
-returns-in-Session-clause-promise g c =
+pub returns-in-Session : goal.returns-in-Session
+returns-in-Session g c =
     let s0 = g.S.Shelf.state c.args.shelf.now in
-    kept_task c.args.names.now c.args.now s0 (told_of s0 (g.met.S.Shelf.lawful c.args.shelf.now)) c.args.task WordsRefused c.refused.result.outcome c.refused.ensures c.refused.result.begun
+    let from = source (g.R.Source.left c.args.script.now) (g.R.Source.fault_count c.args.script.now) in
+    rw (c.in-Session.is, c.ended.ensures) ([], refused_alone from s0, kept_undone c.args.names.now c.args.now s0 (told_of s0 (g.met.S.Shelf.lawful c.args.shelf.now)))
 
-pub returns-clause-promise : goal.returns-clause-promise
-returns-clause-promise g c =
+pub returns : goal.returns
+returns g c =
     let s0 = g.S.Shelf.state c.args.shelf.now in
-    kept_task c.args.names.now c.args.now s0 (told_of s0 (g.met.S.Shelf.lawful c.args.shelf.now)) c.args.task WordsRefused c.refused-in-Demo.result.outcome c.refused-in-Demo.ensures c.refused-in-Demo.result.begun
+    let from = source (g.R.Source.left c.args.script.now) (g.R.Source.fault_count c.args.script.now) in
+    rw (c.in-Demo.is, c.ended-in-Demo.ensures) ([], refused_alone from s0, kept_undone c.args.names.now c.args.now s0 (told_of s0 (g.met.S.Shelf.lawful c.args.shelf.now)))

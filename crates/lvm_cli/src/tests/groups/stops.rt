@@ -4,8 +4,8 @@ ghost use Rattle.std.specs.Prelude.{IfOk};
 ghost use Rattle.lvm_cli.specs.Disks.{AreDisks};
 
 use super::{
-    EXTENDED, OF_ONE, PVCREATE_A, PVCREATE_B, PVCREATE_C, VGCREATE, VGEXTEND, answers, reopened,
-    run_on_three, run_rows,
+    EXTENDED, OF_ONE, PVCREATE_A, PVCREATE_B, PVCREATE_C, VGCREATE, VGEXTEND, answers,
+    answers_sourced, reopened, run_on_three, run_rows, run_sourced_on_three,
 };
 use dev_shelf::{Fail as Failure, MemShelf, Shelf};
 use lvm_script::MemSink;
@@ -32,7 +32,10 @@ const CREATES: [(&[&str], &str); 2] = [
 ];
 
 // Three physical volumes.
-fn volumes<T: Threads + Wait + Sync + Abort>(rt: &T, alloc: Global) -> Result<MemShelf, Fail>
+pub(in crate::tests) fn volumes<T: Threads + Wait + Sync + Abort>(
+    rt: &T,
+    alloc: Global,
+) -> Result<MemShelf, Fail>
     ensures { IfOk result (λ shelf. AreDisks 3 (⟦<MemShelf as Shelf>⟧.state shelf)) }
 {
     run_rows(
@@ -56,7 +59,7 @@ fn one_in_group<T: Threads + Wait + Sync + Abort>(rt: &T, alloc: Global) -> Resu
 }
 
 // Which of its values each sector takes that has two, by turns: the old ones, the new ones, and some of both.
-fn choices_at(turn: u64) -> [u64; 3] {
+pub(in crate::tests) fn choices_at(turn: u64) -> [u64; 3] {
     [0, 0xffff, MIXED[(turn % 6) as usize]]
 }
 
@@ -85,7 +88,7 @@ pub(in crate::tests) fn is_new<T: Threads + Wait + Sync + Abort>(
 
 // Runs the command of these words on the disks, where each crash leaves what the journal says: the old until the line is
 // begun, the old or the new while its commit is pending, and the new once it took place.
-fn is_stopped_at_each_moment<T: Threads + Wait + Sync + Abort>(
+pub(in crate::tests) fn is_stopped_at_each_moment<T: Threads + Wait + Sync + Abort>(
     rt: &T,
     alloc: Global,
     shelf: MemShelf,
@@ -94,8 +97,22 @@ fn is_stopped_at_each_moment<T: Threads + Wait + Sync + Abort>(
 ) -> Result<(), Fail>
     requires { AreDisks 3 (⟦<MemShelf as Shelf>⟧.state shelf) }
 {
+    is_stopped_sourced(rt, alloc, shelf, words, "", found)
+}
+
+// The same with this source.
+pub(in crate::tests) fn is_stopped_sourced<T: Threads + Wait + Sync + Abort>(
+    rt: &T,
+    alloc: Global,
+    shelf: MemShelf,
+    words: &[&str],
+    source: &str,
+    found: [&str; 2],
+) -> Result<(), Fail>
+    requires { AreDisks 3 (⟦<MemShelf as Shelf>⟧.state shelf) }
+{
     let mut out = MemSink::new(alloc, 1_000, Vec::new(alloc))?;
-    let ended = run_on_three(rt, alloc, shelf, words, 4, &mut out)?;
+    let ended = run_sourced_on_three(rt, alloc, shelf, words, source, 4, &mut out)?;
     assert_eq!(rt; (ended.status, ended.journal().len()), (0, 3));
     let begun = ended.journal()[0].moment;
     let took = ended.journal()[1].moment;
@@ -117,7 +134,7 @@ fn is_stopped_at_each_moment<T: Threads + Wait + Sync + Abort>(
 
 // The same where each operation fails in turn, and its first sector is new or isn't: then the command isn't answered by
 // `ok`.
-fn is_failed_at_each_operation<T: Threads + Wait + Sync + Abort>(
+pub(in crate::tests) fn is_failed_at_each_operation<T: Threads + Wait + Sync + Abort>(
     rt: &T,
     alloc: Global,
     shelf: MemShelf,
@@ -126,7 +143,21 @@ fn is_failed_at_each_operation<T: Threads + Wait + Sync + Abort>(
 ) -> Result<(), Fail>
     requires { AreDisks 3 (⟦<MemShelf as Shelf>⟧.state shelf) }
 {
-    let whole = answers(rt, alloc, shelf, words, 4, "1: ok\n", 0)?;
+    is_failed_sourced(rt, alloc, shelf, words, "", found)
+}
+
+// The same with this source.
+pub(in crate::tests) fn is_failed_sourced<T: Threads + Wait + Sync + Abort>(
+    rt: &T,
+    alloc: Global,
+    shelf: MemShelf,
+    words: &[&str],
+    source: &str,
+    found: [&str; 2],
+) -> Result<(), Fail>
+    requires { AreDisks 3 (⟦<MemShelf as Shelf>⟧.state shelf) }
+{
+    let whole = answers_sourced(rt, alloc, shelf, words, source, 4, "1: ok\n", 0)?;
     // An operation is two steps.
     let operations = whole.moments() / 2;
     let mut seen = [false; 2];
@@ -136,7 +167,7 @@ fn is_failed_at_each_operation<T: Threads + Wait + Sync + Abort>(
             fails.push(Failure { tag, fresh })?;
             let shelf = reopened(rt, alloc, &whole, 0, 0, fails)?;
             let mut out = MemSink::new(alloc, 1_000, Vec::new(alloc))?;
-            let ended = run_on_three(rt, alloc, shelf, words, 4, &mut out)?;
+            let ended = run_sourced_on_three(rt, alloc, shelf, words, source, 4, &mut out)?;
             assert_eq!(rt; ended.status, 6, "{tag}, {fresh}");
             let left = ended.shelf;
             for choice in choices_at(tag) {

@@ -2,7 +2,7 @@
 //! can. `NoArea` has no row, since a group is found in an area on one of its own disks.
 ghost use Rattle.lvm_cli.specs.Disks.{AreDisks};
 
-use super::super::groups::{run_on_three, run_rows};
+use super::super::groups::{run_rows, run_sourced_on_three};
 use super::texts::{changed, usual};
 use super::{DRAWN, disks_with};
 use dev_shelf::{MemShelf, Shelf};
@@ -14,13 +14,13 @@ use std::test::Fail;
 use std::thread::Threads;
 
 /// The group as it is: nothing is replaced in its text.
-pub(super) const USUAL: &[(&str, &str)] = &[];
+pub(in crate::tests) const USUAL: &[(&str, &str)] = &[];
 
 /// No number is left for its next version.
-pub(super) const AT_END: &[(&str, &str)] = &[("seqno = 1\n", "seqno = 4294967295\n")];
+pub(in crate::tests) const AT_END: &[(&str, &str)] = &[("seqno = 1\n", "seqno = 4294967295\n")];
 
 /// It can't be changed either.
-pub(super) const READ_ONLY_AT_END: &[(&str, &str)] = &[
+pub(in crate::tests) const READ_ONLY_AT_END: &[(&str, &str)] = &[
     (
         "[\"RESIZEABLE\", \"READ\", \"WRITE\"]",
         "[\"RESIZEABLE\", \"READ\"]",
@@ -30,7 +30,7 @@ pub(super) const READ_ONLY_AT_END: &[(&str, &str)] = &[
 
 // The command of these words is answered so on disks with the group, in whose text this is replaced, and writes nothing:
 // three flushes and the seven reads of a scan, of two steps each, are all that it does.
-pub(super) fn is_refused<T: Threads + Wait + Sync + Abort>(
+pub(in crate::tests) fn is_refused<T: Threads + Wait + Sync + Abort>(
     rt: &T,
     alloc: Global,
     changes: &[(&str, &str)],
@@ -43,7 +43,7 @@ pub(super) fn is_refused<T: Threads + Wait + Sync + Abort>(
 }
 
 // The same on these disks.
-pub(super) fn is_refused_on<T: Threads + Wait + Sync + Abort>(
+pub(in crate::tests) fn is_refused_on<T: Threads + Wait + Sync + Abort>(
     rt: &T,
     alloc: Global,
     shelf: MemShelf,
@@ -52,8 +52,22 @@ pub(super) fn is_refused_on<T: Threads + Wait + Sync + Abort>(
 ) -> Result<(), Fail>
     requires { AreDisks 3 (⟦<MemShelf as Shelf>⟧.state shelf) }
 {
-    let mut out = MemSink::new(alloc, 100, Vec::new(alloc))?;
-    let ended = run_on_three(rt, alloc, shelf, words, DRAWN, &mut out)?;
+    is_refused_sourced(rt, alloc, shelf, words, "", answer)
+}
+
+// The same with this source.
+pub(in crate::tests) fn is_refused_sourced<T: Threads + Wait + Sync + Abort>(
+    rt: &T,
+    alloc: Global,
+    shelf: MemShelf,
+    words: &[&str],
+    source: &str,
+    answer: &str,
+) -> Result<(), Fail>
+    requires { AreDisks 3 (⟦<MemShelf as Shelf>⟧.state shelf) }
+{
+    let mut out = MemSink::new(alloc, 200, Vec::new(alloc))?;
+    let ended = run_sourced_on_three(rt, alloc, shelf, words, source, DRAWN, &mut out)?;
     assert_eq!(rt; out.bytes(), answer.as_bytes());
     assert_eq!(rt; (ended.status, ended.shelf.steps()), (5, 20), "{answer}");
     Ok(())

@@ -4,10 +4,10 @@ use std::alloc::Global;
 use std::test::Fail;
 
 /// The group is changed for the first time.
-pub(super) const NEXT: (&str, &str) = ("seqno = 1\n", "seqno = 2\n");
+pub(in crate::tests) const NEXT: (&str, &str) = ("seqno = 1\n", "seqno = 2\n");
 
 /// No number is left for its next version.
-pub(super) const LAST: (&str, &str) = ("seqno = 1\n", "seqno = 4294967295\n");
+pub(in crate::tests) const LAST: (&str, &str) = ("seqno = 1\n", "seqno = 4294967295\n");
 
 /// Of the physical volumes the first isn't ALLOCATABLE any more, where this is done once.
 pub(super) const BARRED: (&str, &str) = (
@@ -15,7 +15,7 @@ pub(super) const BARRED: (&str, &str) = (
     "status = []\nflags = []\ndev_size",
 );
 
-// The text up to its last physical volume.
+// The text up to its first physical volume.
 fn head() -> &'static str {
     "vg0 {
 id = \"400000-0000-0000-0000-0000-0000-000000\"
@@ -28,7 +28,12 @@ max_lv = 0
 max_pv = 0
 metadata_copies = 0
 physical_volumes {
-pv0 {
+"
+}
+
+// The physical volume of the first disk.
+pub(in crate::tests) fn first() -> &'static str {
+    "pv0 {
 id = \"100000-0000-0000-0000-0000-0000-000000\"
 device = \"a\"
 status = [\"ALLOCATABLE\"]
@@ -37,7 +42,12 @@ dev_size = 2304
 pe_start = 2048
 pe_count = 32
 }
-pv1 {
+"
+}
+
+// That of the second.
+pub(in crate::tests) fn second() -> &'static str {
+    "pv1 {
 id = \"200000-0000-0000-0000-0000-0000-000000\"
 device = \"b\"
 status = [\"ALLOCATABLE\"]
@@ -49,8 +59,8 @@ pe_count = 32
 "
 }
 
-// The physical volume of the last disk.
-fn third() -> &'static str {
+// That of the last.
+pub(in crate::tests) fn third() -> &'static str {
     "pv2 {
 id = \"300000-0000-0000-0000-0000-0000-000000\"
 device = \"c\"
@@ -64,7 +74,7 @@ pe_count = 32
 }
 
 // A mirror of 3 extents, whose legs lie on two hidden volumes.
-pub(super) fn safe() -> &'static str {
+pub(in crate::tests) fn safe() -> &'static str {
     "safe {
 id = \"500000-0000-0000-0000-0000-0000-000000\"
 status = [\"READ\", \"WRITE\", \"VISIBLE\"]
@@ -105,7 +115,7 @@ stripes = [\"pv0\", 6]
 }
 
 // A volume of 4 extents on the first disk.
-pub(super) fn data() -> &'static str {
+pub(in crate::tests) fn data() -> &'static str {
     "data {
 id = \"500000-0000-0000-0000-0000-0000-000002\"
 status = [\"READ\", \"WRITE\", \"VISIBLE\"]
@@ -359,7 +369,7 @@ stripes = [\"pv2\", 11]
 }
 
 // These parts, one behind the other.
-pub(super) fn joined(alloc: Global, parts: &[&str]) -> Result<String, Fail> {
+pub(in crate::tests) fn joined(alloc: Global, parts: &[&str]) -> Result<String, Fail> {
     let mut text = String::new(alloc);
     for part in parts {
         text.push_str(part)?;
@@ -369,7 +379,10 @@ pub(super) fn joined(alloc: Global, parts: &[&str]) -> Result<String, Fail> {
 
 // The text of a group with these logical volumes, without what stands beside it.
 fn with_volumes(alloc: Global, volumes: &[&str]) -> Result<String, Fail> {
-    let mut text = joined(alloc, &[head(), third(), "}\nlogical_volumes {\n"])?;
+    let mut text = joined(
+        alloc,
+        &[head(), first(), second(), third(), "}\nlogical_volumes {\n"],
+    )?;
     for volume in volumes {
         text.push_str(volume)?;
     }
@@ -378,7 +391,7 @@ fn with_volumes(alloc: Global, volumes: &[&str]) -> Result<String, Fail> {
 }
 
 // The text of the group.
-pub(super) fn usual(alloc: Global) -> Result<String, Fail> {
+pub(in crate::tests) fn usual(alloc: Global) -> Result<String, Fail> {
     let volumes = [
         safe(),
         safe_a(),
@@ -392,7 +405,7 @@ pub(super) fn usual(alloc: Global) -> Result<String, Fail> {
 }
 
 // The same without the last disk, at the group's end.
-pub(super) fn of_two(alloc: Global) -> Result<String, Fail> {
+pub(in crate::tests) fn of_two(alloc: Global) -> Result<String, Fail> {
     let changes = [BARRED, LAST, (third(), ""), (wide(), "")];
     changed(alloc, usual(alloc)?, &changes)
 }
@@ -403,7 +416,7 @@ pub(super) fn with_halves(alloc: Global) -> Result<String, Fail> {
 }
 
 // That of a group of which nothing is moving, with a volume of each kind.
-pub(super) fn of_each_kind(alloc: Global) -> Result<String, Fail> {
+pub(in crate::tests) fn of_each_kind(alloc: Global) -> Result<String, Fail> {
     with_volumes(alloc, &[data(), wide(), twin()])
 }
 
@@ -412,18 +425,34 @@ pub(super) fn nearly_full(alloc: Global) -> Result<String, Fail> {
     with_volumes(alloc, &[data(), both(), rest()])
 }
 
+// That of a group without volumes.
+pub(in crate::tests) fn without_volumes(alloc: Global) -> Result<String, Fail> {
+    joined(alloc, &[head(), first(), second(), third(), "}\n}\n"])
+}
+
+// That of a group with one volume, on the first disk.
+pub(in crate::tests) fn with_data(alloc: Global) -> Result<String, Fail> {
+    with_volumes(alloc, &[data()])
+}
+
+// That of a group with nothing on the first disk: `data` lies on the second, and `both` there and on the last.
+pub(in crate::tests) fn of_the_last_two(alloc: Global) -> Result<String, Fail> {
+    let moved = [("\"pv0\", 0", "\"pv1\", 0"), ("\"pv0\", 4", "\"pv1\", 4")];
+    changed(alloc, with_volumes(alloc, &[data(), both()])?, &moved)
+}
+
 // The text of the group as it is committed.
-pub(super) fn committed(alloc: Global, group: &str) -> Result<String, Fail> {
+pub(in crate::tests) fn committed(alloc: Global, group: &str) -> Result<String, Fail> {
     joined(alloc, &[group, TRAILER])
 }
 
 // The text of the group as a backup has it.
-pub(super) fn backup(alloc: Global, group: &str) -> Result<String, Fail> {
+pub(in crate::tests) fn backup(alloc: Global, group: &str) -> Result<String, Fail> {
     joined(alloc, &[TRAILER, group])
 }
 
 // The text where the first of each pair is replaced by the second, where it stands first.
-pub(super) fn changed(
+pub(in crate::tests) fn changed(
     alloc: Global,
     text: String,
     changes: &[(&str, &str)],
