@@ -15,7 +15,10 @@ def state_of(loops):
         labels.append(loops.named(name))
         if group:
             members[labels[-1]] = int(extents)
-    [[group, seqno]] = rows(loops, "vgs -o vg_name,vg_seqno")
+    groups = rows(loops, "vgs -o vg_name,vg_seqno")
+    if not groups:
+        return State(labels)
+    [[group, seqno]] = groups
     members = {name: members[name] for name in reading.listed(loops.images())}
     return State(labels, group, int(seqno), members, volumes_of(loops))
 

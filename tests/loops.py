@@ -8,6 +8,11 @@ import tempfile
 # What lvm2 says where it has no device mapper and writes no backup.
 USUAL = ("Activation disabled. No device-mapper interaction will be attempted.", "This metadata update is NOT backed up.",
          "not zeroed.")
+# What its vgcfgrestore says there, which asks whether a volume is active.
+NO_MAPPER = re.compile("|".join((r"/dev/mapper/control: open failed: .*", r"Failure to communicate with kernel device-mapper driver\.",
+                                r"Check that device-mapper is available in the kernel\.",
+                                r"Incompatible libdevmapper .* and kernel driver \(.*\)\.",
+                                r'WARNING: Failed to check for active volumes in volume group ".*"\.')))
 # What it says of a disk whose label is marked as used by a group, where no group lists it.
 MARKED = re.compile(r"WARNING: PV (\S+) (is marked in use but no VG was found using it|might need repairing)\.")
 
@@ -76,6 +81,7 @@ class Loops:
         """The sorted lines of a command that has to go well."""
         done = subprocess.run(self.words(line), env=self.env, capture_output=True, text=True, timeout=60)
         complaints = [it.strip() for it in done.stderr.splitlines() if it.strip() and not it.strip().endswith(USUAL)]
+        complaints = [it for it in complaints if not NO_MAPPER.fullmatch(it)]
         self.marked |= {self.named(MARKED.fullmatch(it)[1]) for it in complaints if MARKED.fullmatch(it)}
         complaints = [it for it in complaints if not MARKED.fullmatch(it)]
         if done.returncode or complaints:

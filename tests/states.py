@@ -98,8 +98,27 @@ class State:
         """The next version of the group, with other values of what is given."""
         return State(**{**vars(self), "seqno": self.seqno + 1, **changed})
 
-    def with_members(self, names):
-        return self.next(members={**self.members, **{name: NEW_EXTENTS for name in names}})
+    def with_members(self, names, extents):
+        """The next version with these disks too, which have so many extents, or those of a new physical volume."""
+        return self.next(members={**self.members, **{name: extents.get(name, NEW_EXTENTS) for name in names}})
+
+    def without_member(self, name):
+        return self.next(members={it: extents for it, extents in self.members.items() if it != name})
+
+    def without_group(self):
+        return State(self.labels)
+
+    def restored(self, saved):
+        """The next version that is the group of that state."""
+        return self.next(seqno=max(self.seqno, saved.seqno) + 1, members=saved.members, volumes=saved.volumes)
+
+    def may_become(self, saved):
+        """Whether the group may be restored to that state's: it has the same name and the same members."""
+        return self.group == saved.group and self.members == saved.members
+
+    def unused(self):
+        """The members on which no volume lies."""
+        return [name for name, extents in self.members.items() if self.free_of(name) == extents]
 
     def with_volume(self, name, *instead):
         """The next version with these volumes in the place of the one of this name."""
@@ -123,11 +142,12 @@ class State:
 
 class Command:
     """A command: its words, what it makes of a state, whether a state is the one after it already, and its answer then; the
-    disks whose labels it writes, those of which it makes the area, and the name of the volume that it creates."""
+    disks whose labels it writes, those of which it makes the area, the name of the volume that it creates, and the text from
+    which it restores the group."""
 
-    def __init__(self, words, change, is_done, again, disks=(), areas=(), creates=None):
+    def __init__(self, words, change, is_done, again, disks=(), areas=(), creates=None, source=b""):
         self.words, self.change, self.is_done, self.again = words, change, is_done, again
-        self.disks, self.areas, self.creates = disks, areas, creates
+        self.disks, self.areas, self.creates, self.source = disks, areas, creates, source
 
     def after(self, state):
         return state if self.is_done(state) else self.change(state)
@@ -142,22 +162,39 @@ def pvcreate(name, copies):
     return Command(words, lambda it: it.with_label(name), lambda it: name in it.labels, "1: ok\n", [name], areas)
 
 
-def vgcreate(disks):
+def vgcreate(disks, extents={}):
     words = f"vgcreate -s {EXTENT >> 10}k vg0 {' '.join(disks)}"
     again = "1: refused GroupStands vg0\n"
-    return Command(words, lambda it: it.with_members(disks), lambda it: disks[0] in it.members, again, disks)
+    return Command(words, lambda it: it.with_members(disks, extents), lambda it: disks[0] in it.members, again, disks)
 
 
-def vgextend(group, disks):
+def vgextend(group, disks, extents={}):
     words = f"vgextend {group} {' '.join(disks)}"
     again = f"1: refused PvUsed {disks[0]}\n"
-    return Command(words, lambda it: it.with_members(disks), lambda it: disks[0] in it.members, again, disks)
+    return Command(words, lambda it: it.with_members(disks, extents), lambda it: disks[0] in it.members, again, disks)
+
+
+def vgreduce(group, name):
+    words = f"vgreduce {group} {name}"
+    again = f"1: refused NotInGroup {name}\n"
+    return Command(words, lambda it: it.without_member(name), lambda it: name not in it.members, again, [name])
+
+
+def vgremove(group, disks):
+    words = f"vgremove {group}"
+    again = f"1: refused UnknownGroup {group}\n"
+    return Command(words, lambda it: it.without_group(), lambda it: not it.members, again, disks)
 
 
 def vgrename(group, new):
     words = f"vgrename {group} {new}"
     again = f"1: refused UnknownGroup {group}\n"
     return Command(words, lambda it: it.next(group=new), lambda it: it.group == new, again)
+
+
+def vgcfgrestore(saved, text):
+    """The group of that state, of which this is the backup."""
+    return Command(f"vgcfgrestore {saved.group}", lambda it: it.restored(saved), lambda _: False, None, source=text)
 
 
 def lvrename(group, volume, new):
@@ -220,8 +257,9 @@ def extensions(state):
             yield from ((volume, volume.extents + more, disks) for more in range(1, min(room, 3) + 1))
 
 
-def edits(state):
-    """What may be done to the names and the volumes of such a state: of each kind that goes, a list of its commands."""
+def edits(state, leaving=()):
+    """What may be done to the names and the volumes of such a state, and to these members, which may leave: of each kind that goes,
+    a list of its commands."""
     group, volumes = state.group, state.volumes
     shorter = [(it, extents) for it in volumes for extents in range(1, it.extents) if it.first(extents) != it]
     shorter = [(it, extents) for it, extents in shorter if it.kind != "mirror" or extents >= REGION_EXTENTS]
@@ -230,5 +268,6 @@ def edits(state):
              [lvcreate(group, *it, is_size) for it in creations(state) for is_size in (False, True)],
              [lvextend(group, *it, is_size) for it in extensions(state) for is_size in (False, True)],
              [lvreduce(group, it, extents) for it, extents in shorter],
-             [lvremove(group, it) for it in volumes])
+             [lvremove(group, it) for it in volumes],
+             [vgreduce(group, it) for it in leaving])
     return [it for it in kinds if it]
