@@ -55,6 +55,22 @@ impl LvTable {
         }
     }
 
+    /// One without volumes, and with room for so many runs besides, so that a check can sort as many physical volumes.
+    ///
+    /// # Errors
+    ///
+    /// Where memory is wanting.
+    pub fn with_room(alloc: Global, pvs: usize) -> Result<Self, AllocError>
+        ensures { IfOk result (λ table. table ≡ []) }
+    {
+        let mut runs = Vec::new(alloc);
+        runs.resize(pvs, NO_RUN)?;
+        Ok(LvTable {
+            rows: Table::new(alloc),
+            runs,
+        })
+    }
+
     /// Its rows.
     pub fn rows(&self) -> &LvRows
         ensures { result.now ≡ self.now }

@@ -120,7 +120,7 @@ fn all_volumes(
 {
     let pvs = read_pvs(alloc, pv_sections)?;
     let places = Places::new(alloc, pv_sections, lv_sections)?;
-    let lvs = read_lvs(alloc, &places, lv_sections)?;
+    let lvs = read_lvs(alloc, pvs.len(), &places, lv_sections)?;
     Ok((pvs, lvs))
 }
 

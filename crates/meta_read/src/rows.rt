@@ -33,15 +33,16 @@ pub(crate) fn read_pvs(
     Ok(table)
 }
 
-/// The logical volumes of these sections.
+/// The logical volumes of these sections, in a group of so many physical volumes.
 pub(crate) fn read_lvs(
     alloc: Global,
+    pvs: usize,
     places: &Places<'_>,
     sections: &[NamedSection<'_>],
 ) -> Result<LvTable, GroupRefusal>
     ensures { Gives (named (lv_of places.now) [] (as_sections sections.now)) result }
 {
-    let mut table = LvTable::new(alloc);
+    let mut table = LvTable::with_room(alloc, pvs)?;
     for (name, body) in sections {
         let (name, lv) = lv_row(alloc, places, &table, name, body)?;
         // The name is new, so that memory alone can be wanting.

@@ -1,8 +1,8 @@
 //! Whether the ids of a group and of its volumes differ.
 //!
 //! The volumes of each kind are put in blocks, in the order of their ids: then neighbours are compared, and the ids that stand
-//! beside the block are sought in it. A block is as long as the room for runs, and has 64 volumes at least, so there are
-//! few of them unless there are very many physical volumes.
+//! beside the block are sought in it. A block is as long as the room for runs, and has 64 volumes at least. A group that was
+//! read has room for all its physical volumes, so there is one block of each kind.
 ghost use Rattle.std.specs.Prelude.{◌≡◌, ◌≤◌, ◌+◌, ◌↔◌, IsTrue, length, vec_len};
 ghost use Rattle.std.specs.List.{AllAdjacentBelow};
 ghost use Rattle.volume_rules.specs.Rules.{IdsDiffer};

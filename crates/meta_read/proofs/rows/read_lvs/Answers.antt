@@ -13,6 +13,6 @@ loop-name-preserved c =
 
 pub returns-in_err-name : goal.returns-in_err-name
 returns-in_err-name c =
-    let given = err_from_is_err_and c.from_residual.result c.from_residual.ensures.1 in
+    let given = err_from_is_err_and c.from_residual-in_err-name.result c.from_residual-in_err-name.ensures.1 in
     rw (given.1, given.2) (named_turn_err (lv_of c.args.places.now) (λ found. (found.0.now, found.1)) c.args.sections.now c.loop-name.name-index c.loop-name-item.result c.loop-name-item.result c.loop-name.table c.in_err-name.field-0.0 _ c.loop-name-test.true c.loop-name-item.is
     c.in_err-name.ensures c.loop-name.invariant)
