@@ -1,6 +1,6 @@
 -- The first volumes that may be used and have room.
 use Rattle.std.proofs.Common.{◌≡◌, ℕ, zero, suc, ◌<◌, ◌≤◌, ◌≢◌, Bool, true, List, [], ◌∷◌, length, take, sym, ◌∙◌, arith, IsTrue, None, nat_lt}
-use Rattle.std.specs.Prelude.{filter}
+use Rattle.std.specs.Prelude.{All, filter}
 use Rattle.std.specs.List.{AllByRecursion}
 use Rattle.std.proofs.lemmas.Bool.{cond-false, cond_both, false≢true, le-ltb, leb-true}
 use Rattle.std.proofs.lemmas.List.Elements.{All-from_recursion, All-take, recursion_from_All}
@@ -56,6 +56,11 @@ pub fit_roomy : (group : Group) (want : Request) → AllByRecursion (IsRoomy gro
 fit_roomy group want =
     all_weaker (λ pv. ((pv < length group.pvs) × (is_usable group want pv ≡ true)) × (has_room group want pv ≡ true)) (IsRoomy group want)
     (λ pv h. record { stands = h.0.0; usable = h.0.1; room = room_total want (free_at group pv) (has group want pv h.1) }) (first_fit group want (usable_pvs group want)) (fit_pass group want)
+
+pub fit_below : (group : Group) (want : Request) → All (λ pv. pv < length group.pvs) (first_fit group want (usable_pvs group want))
+fit_below group want =
+    All-from_recursion (λ pv. pv < length group.pvs) (first_fit group want (usable_pvs group want))
+    (all_weaker (IsRoomy group want) (λ pv. pv < length group.pvs) (λ pv roomy. roomy.stands) (first_fit group want (usable_pvs group want)) (fit_roomy group want))
 
 pub fit_long : (group : Group) (want : Request) → IsTrue want.contiguous → AllByRecursion (λ pv. want.extents ≤ longest (free_at group pv)) (first_fit group want (usable_pvs group want))
 fit_long group want contiguous =

@@ -1,5 +1,5 @@
 -- Parts that agree with legs are given, where the legs lie where the request may have them.
-use Rattle.std.proofs.Common.{◌≡◌, ℕ, suc, ◌+◌, ◌-◌, ◌<◌, ◌≤◌, ◌^◌, ◌≢◌, ◌⊎◌, List, [], ◌∷◌, length, map, inl, inr, refl, sym, ap, ap₂, subst, ◌∙◌, arith, IsTrue}
+use Rattle.std.proofs.Common.{◌≡◌, ℕ, suc, ◌+◌, ◌-◌, ◌<◌, ◌≤◌, ◌≢◌, ◌⊎◌, List, [], ◌∷◌, length, map, inl, inr, refl, sym, ap, ap₂, subst, ◌∙◌, arith, IsTrue}
 use Rattle.std.specs.Prelude.{All, AllPairs}
 use Rattle.std.specs.List.{AllByRecursion}
 use Rattle.std.proofs.lemmas.List.{length-map}
@@ -7,7 +7,6 @@ use Rattle.std.proofs.lemmas.List.Elements.{All-from_recursion}
 use Rattle.meta_model.specs.declared.group.Group.{Group}
 use Rattle.extent_map.specs.FreeRuns.{IsFree}
 use Rattle.extent_alloc.specs.Giving.{IsGiven, LieApart, LiesAt, MayBeGiven, covered, covered_by, extents_in}
-use Rattle.extent_alloc.specs.Laying.{PartEnds}
 use Rattle.extent_alloc.specs.Usable.{is_usable}
 use Rattle.extent_alloc.specs.declared.part.Part.{Part}
 use Rattle.extent_alloc.specs.declared.part.PartRun.{PartRun}
@@ -182,24 +181,6 @@ module _ (group : Group) (want : Request) (extents : ℕ) (legs : List (List PvR
         (λ a here. all_weaker (LiesPast extents legs next) (LieApart a) (λ b there. past_apart group want extents legs from next a b are meet before here there) (covered parts)
         (parts_past next parts agree.2 (omega (arith, within, extents_cons part parts))))
         (covered_by part) (along_past next from part.extents (covered_by part) legs same (omega arith) along))
-
-  -- each run of each part ends below 2^64
-  runs_end : (from : ℕ) (part : Part) (runs : List PartRun) (some : List (List PvRun)) → AllByRecursion (IsLeg group want extents) some → 1 ≤ part.extents → from + part.extents ≤ extents
-      → AllAlong from (map (λ (run : PartRun). record { pv = run.pv; first = run.first; count = part.extents }) runs) some → AllByRecursion (λ (run : PartRun). run.first + part.extents < 2 ^ 64) runs
-  runs_end from part [] some legs_are one within along = tt
-  runs_end from part (run ∷ runs) [] legs_are one within along = absurd along
-  runs_end from part (run ∷ runs) (leg ∷ some) legs_are one within along =
-      let n : ℕ = part.extents - 1 in
-      let last : run.first + n < 2 ^ 48 = subst (λ (s : ℕ × ℕ). s.1 < 2 ^ 48) (along.0 n (omega (arith, one))) (legs_are.0.small (from + n) (omega (arith, one, within))) in
-      (omega (arith, one), runs_end from part runs some legs_are.1 one within along.1)
-
-  pub parts_end : (from : ℕ) (parts : List Part) → AgreeFrom legs from parts → from + extents_in parts ≤ extents → AllByRecursion PartEnds parts
-  parts_end from [] agree within = tt
-  parts_end from (part ∷ parts) agree within = (
-    All-from_recursion (λ (run : PartRun). run.first + part.extents < 2 ^ 64) part.runs
-        (runs_end from part part.runs legs are agree.0 (omega (arith, within, extents_cons part parts)) (part_along legs from part agree.0 agree.1)),
-    parts_end (from + part.extents) parts agree.2 (omega (arith, within, extents_cons part parts)),
-  )
 
 -- a part has a run for each leg
 as_many : (from : ℕ) (runs : List PvRun) (legs : List (List PvRun)) → AllAlong from runs legs → length runs ≡ length legs

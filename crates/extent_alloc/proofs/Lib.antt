@@ -1,3 +1,4 @@
+pub mod AllRuns
 pub mod CountedEnds
 pub mod Examples
 pub mod Fewest
@@ -9,9 +10,12 @@ pub mod LaidParts
 pub mod LaySteps
 pub mod LongestFirst
 pub mod MoreLegsGiven
+pub mod MoreSources
 pub mod OneLegGiven
 pub mod Pairs
+pub mod PartEnds
 pub mod Spots
 pub mod Taken
 pub mod UnusedRuns
 pub mod Walks
+pub mod WhyRefused

@@ -10,7 +10,7 @@ use Rattle.volume_rules.specs.Rules.{IsAccepted}
 use Rattle.extent_alloc.specs.Few.{AreFew, ends_from, first_fit, leg_ends, longest_first, parts_on as parts_count}
 use Rattle.extent_alloc.specs.Free.{counts_of, free_at, longest, total}
 use Rattle.extent_alloc.specs.Giving.{IsGiven, IsRequest, extents_in}
-use Rattle.extent_alloc.specs.Laying.{PartEnds, RunEnds, laid_on, whole_part}
+use Rattle.extent_alloc.specs.Laying.{laid_on, whole_part}
 use Rattle.extent_alloc.specs.Taking.{AreTaken, IsLongestFirst, IsRoomy, laid_all}
 use Rattle.extent_alloc.specs.Usable.{usable_pvs}
 use Rattle.extent_alloc.specs.declared.part.Part.{Part}
@@ -20,21 +20,15 @@ use Rattle.extent_alloc.specs.declared.request.Request.{Request}
 use Rattle.extent_alloc.proofs.CountedEnds.{counted, ends_within, in_left, in_right, last_end, stop_end}
 use Rattle.extent_alloc.proofs.Fewest.{Descending}
 use Rattle.extent_alloc.proofs.FreeOn.{IsFreeRun, free_at_free, stands}
-use Rattle.extent_alloc.proofs.GivenParts.{LieOn, given_parts, never_meet, parts_end, parts_on}
+use Rattle.extent_alloc.proofs.GivenParts.{LieOn, given_parts, never_meet, parts_on}
 use Rattle.extent_alloc.proofs.LaidParts.{AgreeFrom, In, ends_of, extents_cons, laid_agrees, laid_end, laid_sum, pieces_count, spot, stops}
 use Rattle.extent_alloc.proofs.LongestFirst.{descends, sorted_counts}
 use Rattle.extent_alloc.proofs.OneLegGiven.{long_enough, shorter_all, whole_sum}
 use Rattle.extent_alloc.proofs.Pairs.{Pairs, all_weaker, pairs_to}
 use Rattle.extent_alloc.proofs.Spots.{IsLeg, each_spot}
-use Rattle.extent_alloc.proofs.Taken.{AreFine, fine_end, fine_leg, fine_small, fine_some, moved_fine, volume_fine}
+use Rattle.extent_alloc.proofs.Taken.{AreFine, fine_leg, fine_small, fine_some, moved_fine, volume_fine}
 
--- a leg with one more for the next volume
-pub taken_more : (group : Group) (pvs : List ℕ) (legs : List (List PvRun)) (pv : ℕ) (leg : List PvRun) → AreTaken group pvs legs → IsLongestFirst (free_at group pv) leg → AreTaken group (pvs ++ pv ∷ []) (legs ++ leg ∷ [])
-taken_more group [] [] pv leg taken is = (is, tt)
-taken_more group [] (l ∷ legs) pv leg taken is = absurd taken
-taken_more group (p ∷ pvs) [] pv leg taken is = absurd taken
-taken_more group (p ∷ pvs) (l ∷ legs) pv leg taken is = (taken.0, taken_more group pvs legs pv leg taken.1 is)
-
+-- a leg more
 pub laid_more : (parts : List Part) (legs : List (List PvRun)) (leg : List PvRun) → laid_all parts (legs ++ leg ∷ []) ≡ laid_on (laid_all parts legs) leg
 laid_more parts [] leg = refl
 laid_more parts (l ∷ legs) leg = laid_more (laid_on parts l) legs leg
@@ -104,17 +98,6 @@ are_legs : (group : Group) (want : Request) (legs : List (List PvRun)) → AllBy
 are_legs group want legs roomy = all_weaker (IsRoomyLeg group want) (IsLeg group want want.extents) (λ leg h. fine_leg group want want.extents leg h.0 h.1) legs roomy
 
 -- so what was laid ends below 2^64, and so do the runs of the next leg
-pub laid_ends_small : (group : Group) (want : Request) (pvs : List ℕ) (legs : List (List PvRun)) (parts : List Part) → IsAccepted group → 1 ≤ want.extents → All (IsRoomy group want) pvs → AreTaken group pvs legs
-    → parts ≡ laid_all (whole_part want.extents) legs → All PartEnds parts
-laid_ends_small group want pvs legs parts accepted one roomy taken is =
-    let are = legs_roomy group want pvs legs accepted (recursion_from_All (IsRoomy group want) pvs roomy) taken in
-    let all = all_agree group want legs one are in
-    subst (All PartEnds) (sym is)
-    (All-from_recursion PartEnds (laid_all (whole_part want.extents) legs) (parts_end group want want.extents legs (are_legs group want legs are) 0 (laid_all (whole_part want.extents) legs) all.agree (omega (arith, all.enough))))
-
-pub next_ends_small : (group : Group) (want : Request) (pv : ℕ) (leg : List PvRun) → IsAccepted group → IsRoomy group want pv → IsLongestFirst (free_at group pv) leg → All RunEnds leg
-next_ends_small group want pv leg accepted roomy is = fine_end group want leg (taken_is_fine group want pv leg accepted roomy is)
-
 -- where the first run of each leg is long enough, there is one part
 abbrev StartsLong : ℕ → List PvRun → Type 0
 StartsLong extents [] = ⊥

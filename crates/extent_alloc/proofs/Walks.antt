@@ -11,9 +11,6 @@ use Rattle.std.proofs.lemmas.Option.{get_or_from_slice_get, slice_get_within}
 pub any_here : {X : Type 0} (p : X → Bool) (xs : List X) (i : ℕ) (x : X) → slice_get xs i ≡ Some x → list_any p (drop i xs) ≡ (p x || list_any p (drop (i + 1) xs))
 any_here p xs i x is = rw add-one (ap (list_any p) (drop-cons xs i x (slice_get_within xs i x is)) ∙ ap (λ y. p y || list_any p (drop (suc i) xs)) (get_or_from_slice_get xs i x x is))
 
-pub any_later : {X : Type 0} (p : X → Bool) (xs : List X) (i : ℕ) (x : X) → slice_get xs i ≡ Some x → p x ≡ false → list_any p (drop i xs) ≡ list_any p (drop (i + 1) xs)
-any_later p xs i x is fails = any_here p xs i x is ∙ ap (λ b. b || list_any p (drop (i + 1) xs)) fails
-
 -- the numbers that are left
 pub range_next : (n count : ℕ) → n < count → range_with_len n (count - n) ≡ n ∷ range_with_len (n + 1) (count - (n + 1))
 range_next n count lt = ap (range_with_len n) (let e : count - n ≡ suc (count - (n + 1)) = omega (arith, lt) in e)

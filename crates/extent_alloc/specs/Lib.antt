@@ -1,3 +1,4 @@
+pub mod AllRuns
 pub mod Few
 pub mod Free
 pub mod Giving

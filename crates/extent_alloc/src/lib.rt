@@ -14,6 +14,7 @@ mod part;
 mod refusal;
 mod request;
 mod room;
+mod sources;
 mod usable;
 
 pub use giving::alloc;

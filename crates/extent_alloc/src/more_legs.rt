@@ -1,12 +1,13 @@
 //! Several legs.
-ghost use Rattle.std.specs.Prelude.{◌≡◌, ◌≤◌, ◌<◌, ◌^◌, All, IfOk, List, MatchResult, None, filter, length};
+ghost use Rattle.std.specs.Prelude.{◌≡◌, ◌<◌, ◌^◌, All, IfOk, List, MatchResult, None, filter, length};
 ghost use Rattle.volume_rules.specs.Rules.{IsAccepted};
+ghost use Rattle.extent_alloc.specs.AllRuns.{AreTakenAt, has_room_at, runs_at};
 ghost use Rattle.extent_alloc.specs.Few.{AreFew, has_room};
-ghost use Rattle.extent_alloc.specs.Free as specs;
+ghost use Rattle.extent_alloc.specs.Free.{total};
 ghost use Rattle.extent_alloc.specs.Giving.{IsGiven, IsRequest};
-ghost use Rattle.extent_alloc.specs.Laying.{whole_part};
+ghost use Rattle.extent_alloc.specs.Laying.{RunEnds, whole_part};
 ghost use Rattle.extent_alloc.specs.Refusals.{IsReason, more_legs_refusal};
-ghost use Rattle.extent_alloc.specs.Taking.{AreTaken, IsRoomy, laid_all};
+ghost use Rattle.extent_alloc.specs.Taking.{laid_all};
 ghost use Rattle.extent_alloc.specs.Usable.{usable_pvs};
 ghost use Rattle.extent_alloc.specs.declared.part.PvRun.{PvRun as Run};
 
@@ -15,6 +16,7 @@ use crate::laying::{lay, whole};
 use crate::order::sort_longest_first;
 use crate::room::room;
 use crate::{AllocRefusal, Part, Request};
+use extent_map::{FreeRuns, all_free_runs};
 use meta_model::Group;
 use std::alloc::{AllocError, Global};
 
@@ -33,30 +35,32 @@ pub(crate) fn more_legs(
         (λ parts. IsGiven group.now want.now parts.items × AreFew group.now want.now parts.items × (more_legs_refusal want.now (filter (has_room group.now want.now) pvs.now) ≡ None))
         (IsReason (more_legs_refusal want.now (filter (has_room group.now want.now) pvs.now))) }
 {
-    let pvs = with_room(alloc, group, want, pvs)?;
+    let all = all_free_runs(alloc, group)?;
+    let pvs = with_room(alloc, &all, want, pvs)?;
     if pvs.len() < want.legs as usize {
         return Err(AllocRefusal::TooFewPvs {
             need: want.legs,
             fit: pvs.len() as u32,
         });
     }
-    Ok(on_each(alloc, group, want, &pvs[..want.legs as usize])?)
+    let pvs = &pvs[..want.legs as usize];
+    Ok(on_each(alloc, &all, want.extents, pvs)?)
 }
 
 // Those of the volumes that have room for a leg.
 fn with_room(
     alloc: Global,
-    group: &Group,
+    all: &FreeRuns,
     want: &Request,
     pvs: &[u32],
 ) -> Result<Vec<u32>, AllocError>
-    requires accepted { IsAccepted group.now }
-    requires stand { All (λ pv. pv < length group.now.pvs) pvs.now }
-    ensures { IfOk result (λ fit. fit.items ≡ filter (has_room group.now want.now) pvs.now) }
+    requires stand { All (λ pv. pv < length all.now) pvs.now }
+    requires few { All (λ pv. total (runs_at all.now pv) < 2 ^ 64) pvs.now }
+    ensures { IfOk result (λ fit. fit.items ≡ filter (has_room_at all.now want.now) pvs.now) }
 {
     let mut fit = Vec::new(alloc);
     for pv in pvs {
-        let runs = free_at(alloc, group, *pv)?;
+        let runs = free_at(alloc, all, *pv)?;
         if want.extents <= room(want, &runs) {
             fit.push(*pv)?;
         }
@@ -64,21 +68,20 @@ fn with_room(
     Ok(fit)
 }
 
-// The parts of a leg on each of the volumes, which takes the longest runs first.
+// The parts of a leg of so many extents on each of the volumes, which takes the longest runs first.
 fn on_each(
     alloc: Global,
-    group: &Group,
-    want: &Request,
+    all: &FreeRuns,
+    extents: u64,
     pvs: &[u32],
 ) -> Result<Vec<Part>, AllocError>
-    requires accepted { IsAccepted group.now }
-    requires request { IsRequest want.now }
-    requires roomy { All (IsRoomy group.now want.now) pvs.now }
-    ensures { IfOk result (λ parts. (legs : List (List Run)) × AreTaken group.now pvs.now legs × (parts.items ≡ laid_all (whole_part want.now.extents) legs)) }
+    requires stand { All (λ pv. pv < length all.now) pvs.now }
+    requires ends { All (λ pv. All RunEnds (runs_at all.now pv)) pvs.now }
+    ensures { IfOk result (λ parts. (legs : List (List Run)) × AreTakenAt all.now pvs.now legs × (parts.items ≡ laid_all (whole_part extents) legs)) }
 {
-    let mut parts = whole(alloc, want.extents)?;
+    let mut parts = whole(alloc, extents)?;
     for pv in pvs {
-        let mut runs = free_at(alloc, group, *pv)?;
+        let mut runs = free_at(alloc, all, *pv)?;
         sort_longest_first(&mut runs)?;
         parts = lay(alloc, &parts, &mut runs)?;
     }

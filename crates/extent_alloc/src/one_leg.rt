@@ -15,6 +15,7 @@ use crate::order::sort_longest_first;
 use crate::part::PvRun;
 use crate::room::{longest, total};
 use crate::{AllocRefusal, Part, Request};
+use extent_map::all_free_runs;
 use meta_model::Group;
 use std::alloc::{AllocError, Global};
 
@@ -33,7 +34,8 @@ pub(crate) fn one_leg(
         (λ parts. IsGiven group.now want.now parts.items × AreFew group.now want.now parts.items × (one_leg_refusal want.now (specs.free_on group.now pvs.now) ≡ None))
         (IsReason (one_leg_refusal want.now (specs.free_on group.now pvs.now))) }
 {
-    let runs = free_on(alloc, group, pvs)?;
+    let all = all_free_runs(alloc, group)?;
+    let runs = free_on(alloc, &all, pvs)?;
     let free = total(&runs);
     let need = want.extents;
     if free < need {

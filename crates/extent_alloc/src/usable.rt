@@ -1,13 +1,14 @@
 //! The physical volumes that a request may use.
-ghost use Rattle.std.specs.Prelude.{◌≡◌, ◌<◌, ◌^◌, IfOk, length};
-ghost use Rattle.std.specs.List.{list_any};
+ghost use Rattle.std.specs.Prelude.{◌≡◌, ◌<◌, IfOk, length, nat_eq};
+ghost use Rattle.std.specs.FinSet as set;
 ghost use Rattle.volume_rules.specs.Rules.{IsAccepted};
-ghost use Rattle.extent_map.specs.Covered as covered;
 ghost use Rattle.extent_alloc.specs.Refusals as refusals;
 ghost use Rattle.extent_alloc.specs.Usable as specs;
 
 use crate::Request;
-use meta_model::{Group, Leg, Lv, LvTable, On, Segment};
+use crate::sources::sources;
+use meta_model::Group;
+use sector_base::PvSet;
 use std::alloc::{AllocError, Global};
 
 // How many physical volumes the group has.
@@ -48,24 +49,28 @@ pub(crate) fn usable_pvs(
     requires { IsAccepted group.now }
     ensures { IfOk result (λ pvs. pvs.items ≡ specs.usable_pvs group.now want.now) }
 {
+    let sources = sources(&group.lvs);
+    let all = names_none(want);
     let mut pvs = Vec::new(alloc);
     for pv in 0..pv_count(group) {
-        if is_usable(group, want, pv) {
+        if is_usable(group, want, all, &sources, pv) {
             pvs.push(pv)?;
         }
     }
     Ok(pvs)
 }
 
-// Whether it may be used.
-fn is_usable(group: &Group, want: &Request, pv: u32) -> bool
-    requires { pv < length group.now.pvs }
+// Whether it may be used, where all are in reach or those that are named, and these are the sources of moves.
+fn is_usable(group: &Group, want: &Request, all: bool, sources: &PvSet, pv: u32) -> bool
+    requires stands { pv < length group.now.pvs }
+    requires all { all ≡ nat_eq (set.len want.now.on) 0 }
+    requires sources { set.contains sources.now pv ≡ specs.is_source group.now pv }
     ensures { result ≡ specs.is_usable group.now want.now pv }
 {
     is_allocatable(group, pv)
         && !is_missing(group, pv)
-        && is_wanted(want, pv)
-        && !is_source(&group.lvs, pv)
+        && is_wanted(want, all, pv)
+        && !sources.contains(pv)
 }
 
 fn is_allocatable(group: &Group, pv: u32) -> bool
@@ -84,64 +89,17 @@ fn is_missing(group: &Group, pv: u32) -> bool
     volume.missing
 }
 
+// Whether the request names no volume.
+fn names_none(want: &Request) -> bool
+    ensures { result ≡ nat_eq (set.len want.now.on) 0 }
+{
+    want.on.is_empty()
+}
+
 // Whether the request's sets let it be used.
-fn is_wanted(want: &Request, pv: u32) -> bool
+fn is_wanted(want: &Request, all: bool, pv: u32) -> bool
+    requires { all ≡ nat_eq (set.len want.now.on) 0 }
     ensures { result ≡ specs.is_wanted want.now pv }
 {
-    is_in_reach(want, pv) && !want.avoid.contains(pv)
-}
-
-// Whether the request names it, or none.
-fn is_in_reach(want: &Request, pv: u32) -> bool
-    ensures { result ≡ specs.is_in_reach want.now pv }
-{
-    want.on.is_empty() || want.on.contains(pv)
-}
-
-// Whether a segment of a move has its first leg there.
-fn is_source(lvs: &LvTable, pv: u32) -> bool
-    ensures { result ≡ list_any (specs.moves_from pv) lvs.now }
-{
-    for number in 0..lvs.len() {
-        let (_, lv) = lvs.get(number);
-        if moves_from(lv, pv) {
-            return true;
-        }
-    }
-    false
-}
-
-fn moves_from(lv: &Lv, pv: u32) -> bool
-    ensures { result ≡ specs.lv_moves_from pv lv.now }
-{
-    lv.status.pvmove && segments_begin_on(lv.segments.as_slice(), pv)
-}
-
-fn segments_begin_on(segments: &[Segment], pv: u32) -> bool
-    ensures { result ≡ list_any (specs.begins_on pv) segments.now }
-{
-    for segment in segments {
-        if first_is_on(segment.kind.legs().as_slice(), pv) {
-            return true;
-        }
-    }
-    false
-}
-
-fn first_is_on(legs: &[Leg], pv: u32) -> bool
-    ensures { result ≡ specs.first_is_on pv legs.now }
-{
-    match legs.first() {
-        Some(leg) => is_on(leg.on, pv),
-        None => false,
-    }
-}
-
-fn is_on(on: On, pv: u32) -> bool
-    ensures { result ≡ covered.is_on pv on }
-{
-    match on {
-        On::Pv(number) => number == pv,
-        On::Lv(_) => false,
-    }
+    (all || want.on.contains(pv)) && !want.avoid.contains(pv)
 }

@@ -1,9 +1,8 @@
 -- The gaps between the runs on a volume are its free runs.
-use Rattle.std.proofs.Common.{◌≡◌, ℕ, ◌+◌, ◌*◌, ◌<◌, List, ◌++◌, length, take, Some, sum_by, sym, ap, subst, ◌∙◌, arith}
+use Rattle.std.proofs.Common.{◌≡◌, ℕ, ◌+◌, ◌*◌, ◌<◌, List, length, Some, sum_by, sym, subst, ◌∙◌, arith}
 use Rattle.std.specs.Prelude.{All, slice_get}
 use Rattle.std.specs.List.{AllAdjacentBelow}
 use Rattle.std.specs.List.Sorted.{IsPermutation}
-use Rattle.std.proofs.Math.Seq.{take-append_seam}
 use Rattle.std.proofs.lemmas.List.Elements.{recursion_from_All}
 use Rattle.std.proofs.lemmas.List.Sorted.{All-permutation, IsPermutation-sym}
 use Rattle.std.proofs.lemmas.Option.{same_Some}
@@ -67,7 +66,3 @@ free_and_covered group pv row accepted is =
       are_free group pv row ordered.sorted is ordered.between ordered.from ordered.to,
       omega (arith, gaps_sum 0 row.1.pe_count ordered.sorted ordered.between, ordered.sum),
     )
-
--- what was sorted in place is what was sorted
-pub sorted_in_place : (n : ℕ) (sorted rest runs : List Run) → length sorted ≡ n → runs ≡ take n (sorted ++ rest) → runs ≡ sorted
-sorted_in_place n sorted rest runs long is = is ∙ ap (λ (k : ℕ). take k (sorted ++ rest)) (sym long) ∙ take-append_seam sorted rest

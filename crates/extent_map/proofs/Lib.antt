@@ -1,3 +1,5 @@
+pub mod AllFree
+pub mod Buckets
 pub mod CoveredExtents
 pub mod FreeExtents
 pub mod GapExtents

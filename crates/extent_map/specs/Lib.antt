@@ -1,3 +1,5 @@
+pub mod AllFree
+pub mod ByVolume
 pub mod Covered
 pub mod FreeCount
 pub mod FreeRuns

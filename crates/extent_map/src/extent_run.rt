@@ -13,3 +13,6 @@ pub struct ExtentRun {
 
 /// Runs of one volume, in its order. Contracts see the list of them.
 pub type ExtentRuns = ItemList<ExtentRun>;
+
+/// The free runs of each physical volume, in the order of the text. Contracts see the list of their lists.
+pub type FreeRuns = ItemList<ExtentRuns>;

@@ -4,6 +4,8 @@
 //! sorted.
 #![tactic(auto)]
 
+mod all_free;
+mod by_volume;
 mod extent_run;
 mod free;
 mod gap_runs;
@@ -11,7 +13,8 @@ mod leg;
 mod leg_runs;
 mod used_extents;
 
-pub use extent_run::{ExtentRun, ExtentRuns};
+pub use all_free::all_free_runs;
+pub use extent_run::{ExtentRun, ExtentRuns, FreeRuns};
 pub use free::{free_count, free_runs};
 pub use used_extents::used;
 

@@ -1,5 +1,6 @@
-//! Gaps between small lists of runs, and the runs of the legs on one volume.
+//! Gaps between small lists of runs, and the runs of the legs on one volume and on each.
 use crate::ExtentRun;
+use crate::by_volume::{empty, put_segments};
 use crate::gap_runs::gaps_between;
 use crate::leg_runs::add_segments;
 use meta_model::{Leg, Legs, On, Run, SegKind, Segment};
@@ -95,5 +96,15 @@ fn legs_have_their_runs(rt: HostRuntime) -> Result<(), Fail> {
         },
     ];
     assert_eq!(rt; runs.as_slice(), wanted.as_slice());
+    let mut buckets = empty(alloc, 2)?;
+    put_segments(&mut buckets, &segments)?;
+    assert!(rt; buckets.len() == 2);
+    let on_first = [Run {
+        on: 0,
+        first: 4,
+        count: 3,
+    }];
+    assert_eq!(rt; buckets[0].as_slice(), on_first.as_slice());
+    assert_eq!(rt; buckets[1].as_slice(), wanted.as_slice());
     Ok(())
 }
