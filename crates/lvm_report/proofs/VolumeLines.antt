@@ -1,5 +1,5 @@
 -- Visible volumes, each with its number, and the sizes of volumes.
-use Rattle.std.proofs.Common.{◌≡◌, ℕ, ◌+◌, ◌*◌, ◌<◌, ◌≤◌, ◌^◌, Bool, true, false, List, ◌∷◌, ◌++◌, length, drop, Some, ap, sym, refl, ◌∙◌, arith}
+use Rattle.std.proofs.Common.{◌≡◌, ℕ, ◌+◌, ◌*◌, ◌<◌, ◌≤◌, ◌^◌, Bool, true, false, List, ◌∷◌, ◌++◌, length, Some, ap, refl, ◌∙◌, arith}
 use Rattle.std.specs.Prelude.{[], codes, if◌then◌else◌, slice_get}
 use Rattle.std.specs.List.{enumerate_from, filter, flat_map}
 use Rattle.std.proofs.lemmas.List.{at_drop_all}

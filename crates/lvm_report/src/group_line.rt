@@ -5,12 +5,13 @@ ghost use Rattle.lvm_report.specs.Reports.{vg_line};
 ghost use Rattle.lvm_report.specs.Volumes.{extents_of_group, free_of_group, visible_volumes};
 
 use crate::columns::{put_last, put_left, put_right};
-use extent_map::free_count;
+use crate::runs::total;
+use extent_map::all_free_runs;
 use meta_model::Group;
-use std::alloc::AllocError;
+use std::alloc::{AllocError, Global};
 
 /// Appends the line of the group.
-pub fn put_group(text: &mut Vec<u8>, group: &Group) -> Result<(), AllocError>
+pub fn put_group(alloc: Global, text: &mut Vec<u8>, group: &Group) -> Result<(), AllocError>
     requires { IsAccepted group.now }
     ensures { IfOk result (λ _. text.new.items ≡ text.old.items ++ vg_line group.now) }
 {
@@ -19,7 +20,7 @@ pub fn put_group(text: &mut Vec<u8>, group: &Group) -> Result<(), AllocError>
     put_right(text, 6, count_visible(group))?;
     put_right(text, 10, group.seqno)?;
     put_right(text, 10, count_extents(group))?;
-    put_last(text, 10, count_free(group))
+    put_last(text, 10, count_free(alloc, group)?)
 }
 
 // How many of the volumes are visible.
@@ -55,13 +56,14 @@ fn count_extents(group: &Group) -> u64
 }
 
 // How many of them lie in no leg.
-fn count_free(group: &Group) -> u64
+fn count_free(alloc: Global, group: &Group) -> Result<u64, AllocError>
     requires { IsAccepted group.now }
-    ensures { result ≡ free_of_group group.now }
+    ensures { IfOk result (λ free. free ≡ free_of_group group.now) }
 {
+    let all = all_free_runs(alloc, group)?;
     let mut free = 0;
-    for number in 0..group.pvs.len() {
-        free += free_count(group, number as u32);
+    for number in 0..all.len() {
+        free += total(all.get(number).as_slice());
     }
-    free
+    Ok(free)
 }

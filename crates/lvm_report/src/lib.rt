@@ -15,6 +15,7 @@ mod pv_lines;
 mod pvck_report;
 mod report;
 mod reports;
+mod runs;
 #[cfg(test)]
 mod tests;
 mod vgck_lines;

@@ -1,30 +1,40 @@
 //! The lines of pvs: a disk each.
 ghost use Rattle.std.specs.Prelude.{◌≡◌, ◌<◌, ◌++◌, IfOk, IfSome, Some, codes, length};
-ghost use Rattle.scan_rules.specs.Decision.{same_bytes};
+ghost use Rattle.extent_map.specs.AllFree.{AreAllFree};
+ghost use Rattle.id_index.specs.Ids.{pvs_by_id};
 ghost use Rattle.vg_found.specs.Shape.{HasShape};
 ghost use Rattle.volume_rules.specs.Rules.{IsAccepted};
 ghost use Rattle.lvm_report.specs.Reports.{disk_line, pv_line, pv_line_in, pv_line_of, pvs_text};
-ghost use Rattle.lvm_report.specs.Volumes.{number_with};
+ghost use Rattle.lvm_report.specs.Volumes.{number_with, numbers_in};
 
 use crate::columns::{put_last, put_left, put_right};
+use crate::runs::total;
 use disk_contents::PvFound;
-use extent_map::free_count;
+use extent_map::{FreeRuns, all_free_runs};
+use id_index::{IdMap, pvs_by_id};
 use lvm_id::LvmId;
 use lvm_script::DiskNames;
 use meta_model::Group;
-use std::alloc::AllocError;
+use std::alloc::{AllocError, Global};
 use vg_check::Checked;
 use vg_found::Found;
 
 /// Appends a line for each disk with a physical volume, and for each that is unread.
-pub fn put_disks(text: &mut Vec<u8>, found: &Found, names: &DiskNames) -> Result<(), AllocError>
+pub fn put_disks(
+    alloc: Global,
+    text: &mut Vec<u8>,
+    found: &Found,
+    names: &DiskNames,
+) -> Result<(), AllocError>
     requires { HasShape found.now }
     ensures { IfOk result (λ _. text.new.items ≡ text.old.items ++ pvs_text found.now names.now) }
 {
+    let numbers = numbers_in(alloc, &found.group)?;
+    let free = free_in(alloc, &found.group)?;
     for number in 0..found.disks.len() {
         let name = names.bytes_of(number as u32);
         let disk = found.disks.get(number);
-        put_disk(text, &found.group, name, &disk.contents)?;
+        put_disk(text, &found.group, &numbers, &free, name, &disk.contents)?;
     }
     Ok(())
 }
@@ -33,14 +43,18 @@ pub fn put_disks(text: &mut Vec<u8>, found: &Found, names: &DiskNames) -> Result
 fn put_disk(
     text: &mut Vec<u8>,
     group: &Option<Checked>,
+    numbers: &IdMap,
+    free: &FreeRuns,
     name: &[u8],
     contents: &Option<PvFound>,
 ) -> Result<(), AllocError>
+    requires numbers { numbers.now ≡ numbers_in group.now }
+    requires free { IfSome group.now (λ group. AreAllFree group free.now) }
     ensures { IfOk result (λ _. text.new.items ≡ text.old.items ++ disk_line group.now name.now contents.now) }
 {
     match contents {
         None => put_unread(text, name),
-        Some(PvFound::Whole { header, .. }) => put_pv(text, group, name, &header.id),
+        Some(PvFound::Whole { header, .. }) => put_pv(text, group, numbers, free, name, &header.id),
         Some(PvFound::NoLabel(_) | PvFound::NoHeader { .. }) => Ok(()),
     }
 }
@@ -57,24 +71,37 @@ fn put_unread(text: &mut Vec<u8>, name: &[u8]) -> Result<(), AllocError>
 fn put_pv(
     text: &mut Vec<u8>,
     group: &Option<Checked>,
+    numbers: &IdMap,
+    free: &FreeRuns,
     name: &[u8],
     id: &LvmId,
 ) -> Result<(), AllocError>
+    requires numbers { numbers.now ≡ numbers_in group.now }
+    requires free { IfSome group.now (λ group. AreAllFree group free.now) }
     ensures { IfOk result (λ _. text.new.items ≡ text.old.items ++ pv_line_of group.now name.now id.now) }
 {
     match group {
-        Some(checked) => put_pv_in(text, checked.group(), name, id),
+        Some(checked) => put_pv_in(text, checked.group(), numbers, free, name, id),
         None => put_line(text, name, b"-", 0, 0),
     }
 }
 
 // The same where there is a group.
-fn put_pv_in(text: &mut Vec<u8>, group: &Group, name: &[u8], id: &LvmId) -> Result<(), AllocError>
-    requires { IsAccepted group.now }
+fn put_pv_in(
+    text: &mut Vec<u8>,
+    group: &Group,
+    numbers: &IdMap,
+    free: &FreeRuns,
+    name: &[u8],
+    id: &LvmId,
+) -> Result<(), AllocError>
+    requires accepted { IsAccepted group.now }
+    requires numbers { numbers.now ≡ pvs_by_id 0 group.now.pvs }
+    requires free { AreAllFree group.now free.now }
     ensures { IfOk result (λ _. text.new.items ≡ text.old.items ++ pv_line_in group.now name.now (number_with group.now id.now)) }
 {
-    match number_with(group, id) {
-        Some(number) => put_listed(text, group, name, number),
+    match numbers.get(id) {
+        Some(number) => put_listed(text, group, free, name, number),
         None => put_line(text, name, b"-", 0, 0),
     }
 }
@@ -83,37 +110,38 @@ fn put_pv_in(text: &mut Vec<u8>, group: &Group, name: &[u8], id: &LvmId) -> Resu
 fn put_listed(
     text: &mut Vec<u8>,
     group: &Group,
+    free: &FreeRuns,
     name: &[u8],
-    number: usize,
+    number: u32,
 ) -> Result<(), AllocError>
     requires accepted { IsAccepted group.now }
+    requires free { AreAllFree group.now free.now }
     requires listed { number < length group.now.pvs }
     ensures { IfOk result (λ _. text.new.items ≡ text.old.items ++ pv_line_in group.now name.now (Some number)) }
 {
-    let (_, pv) = group.pvs.get(number);
-    let free = free_count(group, number as u32);
+    let (_, pv) = group.pvs.get(number as usize);
+    let free = total(free.get(number as usize).as_slice());
     put_line(text, name, group.name.as_bytes(), pv.pe_count, free)
 }
 
-// The number of the group's physical volume with this id.
-fn number_with(group: &Group, id: &LvmId) -> Option<usize>
-    ensures number { result ≡ number_with group.now id.now }
-    ensures listed { IfSome result (λ number. number < length group.now.pvs) }
+// The numbers of the group's physical volumes by their ids; of those with one id that of the first.
+fn numbers_in(alloc: Global, group: &Option<Checked>) -> Result<IdMap, AllocError>
+    ensures { IfOk result (λ numbers. numbers ≡ numbers_in group.now) }
 {
-    for number in 0..group.pvs.len() {
-        let (_, pv) = group.pvs.get(number);
-        if same_id(&pv.id, id) {
-            return Some(number);
-        }
+    match group {
+        Some(checked) => pvs_by_id(alloc, &checked.group().pvs),
+        None => Ok(IdMap::new(alloc)),
     }
-    None
 }
 
-// Whether two ids are the same.
-fn same_id(a: &LvmId, b: &LvmId) -> bool
-    ensures { result ≡ same_bytes a.now b.now }
+// The free runs of the group's physical volumes, where there is a group.
+fn free_in(alloc: Global, group: &Option<Checked>) -> Result<FreeRuns, AllocError>
+    ensures { IfOk result (λ free. IfSome group.now (λ group. AreAllFree group free)) }
 {
-    a.plain() == b.plain()
+    match group {
+        Some(checked) => all_free_runs(alloc, checked.group()),
+        None => Ok(FreeRuns::from_vec(Vec::new(alloc))),
+    }
 }
 
 // Appends a line.

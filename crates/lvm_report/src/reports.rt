@@ -24,7 +24,7 @@ pub fn pvs(alloc: Global, found: &Found, names: &DiskNames) -> Result<Text, Allo
     ensures { IfOk result (λ text. text ≡ pvs_text found.now names.now) }
 {
     let mut text = Vec::new(alloc);
-    put_disks(&mut text, found, names)?;
+    put_disks(alloc, &mut text, found, names)?;
     Ok(Text::from_vec(text))
 }
 
@@ -41,7 +41,7 @@ pub fn vgs(alloc: Global, found: &Found) -> Result<Text, AllocError>
 {
     let mut text = Vec::new(alloc);
     if let Some(group) = &found.group {
-        put_group(&mut text, group.group())?;
+        put_group(alloc, &mut text, group.group())?;
     }
     Ok(Text::from_vec(text))
 }

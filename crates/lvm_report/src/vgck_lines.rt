@@ -1,18 +1,16 @@
 //! The lines of vgck: one for each thing that isn't in order.
 ghost use Rattle.std.specs.Prelude.{◌≡◌, ◌≤◌, ◌++◌, IfOk, [], codes, flat_map, if◌then◌else◌};
 ghost use Rattle.std.specs.FinSet as set;
-ghost use Rattle.std.specs.List.{list_any};
 ghost use Rattle.lvm_id.specs.LvmId.{hyphen_form};
 ghost use Rattle.vg_found.specs.Shape.{HasShape};
 ghost use Rattle.lvm_report.specs.Reports.{disk_lines, faults_text, name_in};
-ghost use Rattle.vg_found.specs.StaleAreas.{is_on};
 
 use lvm_id::LvmId;
 use lvm_script::DiskNames;
 use meta_read::Unknown;
 use sector_base::{PvSet, Text};
 use std::alloc::AllocError;
-use vg_found::{Found, has_stale};
+use vg_found::{Found, stale_disks};
 
 /// Appends a line for each disk with a stale area, each stray, each missing physical volume, each key that is passed over and
 /// each disk that is unread.
@@ -20,7 +18,8 @@ pub fn put_faults(text: &mut Vec<u8>, found: &Found, names: &DiskNames) -> Resul
     requires { HasShape found.now }
     ensures { IfOk result (λ _. text.new.items ≡ text.old.items ++ faults_text found.now names.now) }
 {
-    put_stale(text, found.stale.as_slice(), found.disks.len(), names)?;
+    let stale = stale_disks(found.stale.as_slice());
+    put_set(text, b"stale ", found.disks.len(), &stale, names)?;
     put_set(text, b"stray ", found.disks.len(), &found.strays, names)?;
     put_missing(text, found.missing.as_slice())?;
     put_unknown(text, &found.unknown)?;
@@ -31,23 +30,6 @@ pub fn put_faults(text: &mut Vec<u8>, found: &Found, names: &DiskNames) -> Resul
         &found.unread,
         names,
     )
-}
-
-// Appends a line for each of so many disks with one of these areas, which are stale.
-fn put_stale(
-    text: &mut Vec<u8>,
-    stale: &[(u32, u32)],
-    disks: usize,
-    names: &DiskNames,
-) -> Result<(), AllocError>
-    requires { disks ≤ 64 }
-    ensures { IfOk result (λ _. text.new.items ≡ text.old.items ++ disk_lines (codes "stale ") names.now disks (λ pv. list_any (is_on pv) stale.now)) }
-{
-    for number in 0..disks as u32 {
-        let is_stale = has_stale(stale, number);
-        put_disk_if(text, is_stale, b"stale ", names, number)?;
-    }
-    Ok(())
 }
 
 // Appends a line for each of so many disks that is among these, behind this word.

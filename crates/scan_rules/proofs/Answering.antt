@@ -189,8 +189,3 @@ pub best_found : (given all : List GroupCopy) (seen held : List HeldCopy) (read 
 best_found given all seen held read disks chosen that same seen_are held_are all_read =
     subst (λ (l : List GroupCopy). IsThat l chosen (best (all_held l (held_on 0 disks)))) same
     (subst (λ (l : List HeldCopy). IsThat given chosen (best (all_held given l))) (seen_are ∙ held_are ∙ ap (held_on 0) all_read) that)
-
-pub denial_found : (given all : List GroupCopy) (read disks : List DiskRead) (held : List HeldCopy) (disk : ℕ) (copy : GroupCopy) (o : Option ScanRefusal) → Denies (denial given read held disk copy) o → given ≡ all → read ≡ disks
-    → Denies (denial all disks held disk copy) o
-denial_found given all read disks held disk copy o denies same all_read =
-    subst (λ (l : List GroupCopy). Denies (denial l disks held disk copy) o) same (subst (λ (l : List DiskRead). Denies (denial given l held disk copy) o) all_read denies)

@@ -1,8 +1,10 @@
 pub mod Answering
 pub mod FlatLists
+pub mod FoundIds
 pub mod Greatest
 pub mod Members
 pub mod OlderCopies
+pub mod OnePv
 pub mod Repairs
 pub mod SameLists
 pub mod SameShape

@@ -1,5 +1,5 @@
 -- One element more of each walk.
-use Rattle.std.proofs.Common.{◌≡◌, ℕ, zero, suc, ◌+◌, ◌<◌, Bool, true, false, not, ◌&&◌, ◌||◌, cond, List, [], ◌∷◌, ◌++◌, length, drop, get_or, Option, Some, None, refl, sym, ap, subst, ◌∙◌, arith, add-one, append-nil, append_assoc, drop-cons}
+use Rattle.std.proofs.Common.{◌≡◌, ℕ, zero, suc, ◌+◌, ◌<◌, Bool, true, false, not, ◌||◌, cond, List, [], ◌∷◌, ◌++◌, length, drop, get_or, Option, Some, None, refl, sym, ap, subst, ◌∙◌, arith, add-one, append-nil, append_assoc, drop-cons}
 use Rattle.std.specs.Prelude.{option_map, unwrap_or, filter, find, filter_map, map, slice_get}
 use Rattle.std.specs.Option.{option_and_then}
 use Rattle.std.specs.List.{cons_option, list_any}
@@ -15,9 +15,10 @@ use Rattle.scan_rules.specs.declared.readings.AreaGives.TheVariants.{Nothing, Co
 use Rattle.scan_rules.specs.declared.readings.AreaRead.{AreaRead}
 use Rattle.scan_rules.specs.declared.readings.DiskRead.{DiskRead}
 use Rattle.scan_rules.specs.Answers.{denies_copy, denying_disk, unsupported_among}
-use Rattle.scan_rules.specs.Decision.{Held, Reading, ScanAnswer, TwoGroups, best, first_duplicate, same_bytes, sum_agrees, two_groups}
+use Rattle.scan_rules.specs.Decision.{Held, TwoGroups, best, same_bytes, sum_agrees, two_groups}
 use Rattle.scan_rules.specs.Flat.{IsThat, all_held, areas_on, greater_of, held_copy, held_of, id_in, is_unsupported, is_unsupported_by, other_among, other_of, refused_by, refused_in, refused_on}
-use Rattle.scan_rules.specs.Found.{is_missing, missing_of}
+use Rattle.id_index.specs.Ids.{IdNumbers}
+use Rattle.scan_rules.specs.Found.{is_missing_by, missing_by}
 use Rattle.scan_rules.proofs.Greatest.{picks_greater}
 
 -- the element at a place, and what is behind it
@@ -43,31 +44,20 @@ any_past test xs i x whole got is fails =
     sym (ap (λ (b : Bool). b || list_any test (drop (i + 1) xs)) fails) ∙ sym (ap (list_any test) (next_got xs i x got)) ∙ is
 
 -- the missing ones, from here on
-missing_next : (disks : List Reading) (pvs : List (List ℕ × Pv)) (i : ℕ) (pv : List ℕ × Pv) (b : Bool) → slice_get pvs i ≡ Some pv → is_missing disks pv ≡ b
-    → missing_of disks (drop i pvs) ≡ map (λ (p : List ℕ × Pv). p.1.id) (cond b (pv ∷ filter (is_missing disks) (drop (i + 1) pvs)) (filter (is_missing disks) (drop (i + 1) pvs)))
-missing_next disks pvs i pv b got is =
-    ap (missing_of disks) (next_got pvs i pv got)
-    ∙ ap (λ (t : Bool). map (λ (p : List ℕ × Pv). p.1.id) (cond t (pv ∷ filter (is_missing disks) (drop (i + 1) pvs)) (filter (is_missing disks) (drop (i + 1) pvs)))) is
+missing_next : (found : IdNumbers) (pvs : List (List ℕ × Pv)) (i : ℕ) (pv : List ℕ × Pv) (b : Bool) → slice_get pvs i ≡ Some pv → is_missing_by found pv ≡ b
+    → missing_by found (drop i pvs) ≡ map (λ (p : List ℕ × Pv). p.1.id) (cond b (pv ∷ filter (is_missing_by found) (drop (i + 1) pvs)) (filter (is_missing_by found) (drop (i + 1) pvs)))
+missing_next found pvs i pv b got is =
+    ap (missing_by found) (next_got pvs i pv got)
+    ∙ ap (λ (t : Bool). map (λ (p : List ℕ × Pv). p.1.id) (cond t (pv ∷ filter (is_missing_by found) (drop (i + 1) pvs)) (filter (is_missing_by found) (drop (i + 1) pvs)))) is
 
-pub missing_here : (disks : List Reading) (pvs : List (List ℕ × Pv)) (i : ℕ) (pv : List ℕ × Pv) (before whole : List (List ℕ)) → slice_get pvs i ≡ Some pv → before ++ missing_of disks (drop i pvs) ≡ whole
-    → is_missing disks pv ≡ true → (before ++ pv.1.id ∷ []) ++ missing_of disks (drop (i + 1) pvs) ≡ whole
-missing_here disks pvs i pv before whole got is there =
-    append_assoc before (pv.1.id ∷ []) (missing_of disks (drop (i + 1) pvs)) ∙ ap (λ (l : List (List ℕ)). before ++ l) (sym (missing_next disks pvs i pv true got there)) ∙ is
+pub missing_here : (found : IdNumbers) (pvs : List (List ℕ × Pv)) (i : ℕ) (pv : List ℕ × Pv) (before whole : List (List ℕ)) → slice_get pvs i ≡ Some pv → before ++ missing_by found (drop i pvs) ≡ whole
+    → is_missing_by found pv ≡ true → (before ++ pv.1.id ∷ []) ++ missing_by found (drop (i + 1) pvs) ≡ whole
+missing_here found pvs i pv before whole got is there =
+    append_assoc before (pv.1.id ∷ []) (missing_by found (drop (i + 1) pvs)) ∙ ap (λ (l : List (List ℕ)). before ++ l) (sym (missing_next found pvs i pv true got there)) ∙ is
 
-pub missing_past : (disks : List Reading) (pvs : List (List ℕ × Pv)) (i : ℕ) (pv : List ℕ × Pv) (before whole : List (List ℕ)) → slice_get pvs i ≡ Some pv → before ++ missing_of disks (drop i pvs) ≡ whole
-    → is_missing disks pv ≡ false → before ++ missing_of disks (drop (i + 1) pvs) ≡ whole
-missing_past disks pvs i pv before whole got is there = ap (λ (l : List (List ℕ)). before ++ l) (sym (missing_next disks pvs i pv false got there)) ∙ is
-
--- the first disk whose id comes again
-repeats : (disk other : ℕ) (o : Option (ℕ × List ℕ)) (later : Option (ℕ × ℕ)) → Some other ≡ option_map (λ (d : ℕ × List ℕ). d.0) o
-    → Some (disk, other) ≡ unwrap_or (option_map (λ (d : ℕ × List ℕ). Some (disk, d.0)) o) later
-repeats disk other None later is = cc
-repeats disk other (Some d) later is = ap (λ (n : ℕ). Some (disk, n)) (same_Some other d.0 is)
-
-pub repeats_here : (ids : List (ℕ × List ℕ)) (one : ℕ × List ℕ) (rest : List (ℕ × List ℕ)) (other : ℕ) → ids ≡ one ∷ rest
-    → Some other ≡ option_map (λ (d : ℕ × List ℕ). d.0) (find (λ (d : ℕ × List ℕ). same_bytes one.1 d.1) rest) → Some (one.0, other) ≡ first_duplicate ids
-repeats_here ids one rest other next is =
-    repeats one.0 other (find (λ (d : ℕ × List ℕ). same_bytes one.1 d.1) rest) (first_duplicate rest) is ∙ sym (ap first_duplicate next)
+pub missing_past : (found : IdNumbers) (pvs : List (List ℕ × Pv)) (i : ℕ) (pv : List ℕ × Pv) (before whole : List (List ℕ)) → slice_get pvs i ≡ Some pv → before ++ missing_by found (drop i pvs) ≡ whole
+    → is_missing_by found pv ≡ false → before ++ missing_by found (drop (i + 1) pvs) ≡ whole
+missing_past found pvs i pv before whole got is there = ap (λ (l : List (List ℕ)). before ++ l) (sym (missing_next found pvs i pv false got there)) ∙ is
 
 -- what one element more gives, behind what the others gave
 pub kept_more : {X Y : Type 0} (f : X → Option Y) (all before : List Y) (xs : List X) (x : X) (y : Y) → all ≡ before ++ filter_map f xs → Some y ≡ f x

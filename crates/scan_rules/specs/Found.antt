@@ -2,6 +2,8 @@
 use Rattle.std.specs.Prelude.{ℕ, ◌+◌, ◌*◌, ◌<◌, ◌^◌, Bool, ◌&&◌, ◌||◌, not, Option, None, Some, List, [], ◌∷◌, length, map, filter, filter_map, find, option_map, if◌then◌else◌}
 use Rattle.std.specs.Option.{option_and_then}
 use Rattle.std.specs.List.{enumerate_from, flat_map, list_any}
+use Rattle.std.specs.FinMap as map
+use Rattle.id_index.specs.Ids.{IdNumbers}
 use Rattle.meta_model.specs.declared.group.Group.{Group}
 use Rattle.meta_model.specs.declared.pv.Pv.{Pv}
 use Rattle.scan_rules.specs.declared.readings.DiskRead.{DiskRead}
@@ -49,3 +51,16 @@ is_missing disks pv = pv.1.missing || not (list_any (has_id pv.1.id) disks)
 -- their ids, in the order of the text
 abbrev pub missing_of : List Reading → List (List ℕ × Pv) → List (List ℕ)
 missing_of disks pvs = map (λ (pv : List ℕ × Pv). pv.1.id) (filter (is_missing disks) pvs)
+
+-- the first disk of each of these ids
+abbrev pub disks_by_id : List (ℕ × List ℕ) → IdNumbers
+disks_by_id [] = map.empty
+disks_by_id (one ∷ more) = map.insert (disks_by_id more) one.1 one.0
+
+-- whether the physical volume is missing, where these ids were found
+abbrev pub is_missing_by : IdNumbers → List ℕ × Pv → Bool
+is_missing_by found pv = pv.1.missing || not (map.contains_key found pv.1.id)
+
+-- the ids of those that are
+abbrev pub missing_by : IdNumbers → List (List ℕ × Pv) → List (List ℕ)
+missing_by found pvs = map (λ (pv : List ℕ × Pv). pv.1.id) (filter (is_missing_by found) pvs)

@@ -1,11 +1,12 @@
 //! The answer of a scan.
-ghost use Rattle.std.specs.Prelude.{◌≡◌, ◌≤◌, ◌<◌, MatchResult, Some, length, slice_get};
+ghost use Rattle.std.specs.Prelude.{◌≡◌, ◌≤◌, ◌<◌, [], MatchResult, Some, length, slice_get};
 ghost use Rattle.scan_rules.specs.Answers.{IsDecided, IsRefusedBy, Denies, answer_for, answer_without, denial};
-ghost use Rattle.scan_rules.specs.Decision.{decide_scan};
+ghost use Rattle.scan_rules.specs.Decision.{decide_scan, ids_from};
+ghost use Rattle.scan_rules.specs.Found.{disks_by_id};
 ghost use Rattle.scan_rules.specs.Readings.{AllAreOf, readings_of};
 
 use crate::best::{best_copy, find_two_groups};
-use crate::duplicates::{find_duplicate, found_ids};
+use crate::duplicates::{found_ids, index_ids};
 use crate::held::{HeldCopy, held_copies};
 use crate::missing::missing_ids;
 use crate::readings::{DiskRead, GroupCopy};
@@ -15,8 +16,18 @@ use crate::stale::stale_areas;
 use crate::strays::stray_disks;
 use crate::texts::{find_conflict, is_held_by_listed};
 use crate::{Decided, Readings, ScanRefusal};
+use id_index::{IdMap, Members};
+use lvm_id::LvmId;
 use sector_base::{ItemList, PvSet};
 use std::alloc::Global;
+
+// What is found with a copy: stale areas, strays, and physical volumes that are missing.
+#[derive(Drop)]
+struct Lists {
+    stale: ItemList<(u32, u32)>,
+    strays: PvSet,
+    missing: ItemList<LvmId>,
+}
 
 /// What the disks hold: the group in force, with what is stale, stray and missing, or that there is none.
 ///
@@ -45,12 +56,13 @@ fn decide_read(
         (IsRefusedBy (decide_scan (readings_of copies.items disks.items))) }
 {
     let ids = found_ids(alloc, &disks)?;
-    if let Some((first, second)) = find_duplicate(&ids) {
+    let (found, repeated) = index_ids(alloc, &ids)?;
+    if let Some((first, second)) = repeated {
         return Err(ScanRefusal::DuplicatePv(first, second));
     }
     let held = held_copies(alloc, &disks)?;
     match best_copy(&copies, &held) {
-        Some(best) => decide_copy(alloc, copies, disks, &held, best),
+        Some(best) => decide_copy(alloc, copies, disks, &found, &held, best),
         None => decide_none(alloc, disks),
     }
 }
@@ -77,25 +89,57 @@ fn decide_copy(
     alloc: Global,
     copies: Vec<GroupCopy>,
     disks: Vec<DiskRead>,
+    found: &IdMap,
     held: &[HeldCopy],
     best: HeldCopy,
 ) -> Result<Decided, ScanRefusal>
     requires read { AllAreOf copies.items disks.items }
+    requires found { found.now ≡ disks_by_id (ids_from 0 (readings_of [] disks.items)) }
     requires copy { best.number < length copies.items }
     ensures { MatchResult result
         (IsDecided (answer_for copies.items disks.items held.now best))
         (IsRefusedBy (answer_for copies.items disks.items held.now best)) }
 {
     let copy = &copies[best.number];
-    if let Some(refusal) = deny(&copies, &disks, held, best, copy) {
-        return Err(refusal);
-    }
-    let group = copy.group.group();
-    let stale = stale_areas(alloc, &copies, &disks, best.number, copy)?;
-    let strays = stray_disks(group, &disks);
-    let missing = missing_ids(alloc, group, &disks)?;
+    let Lists {
+        stale,
+        strays,
+        missing,
+    } = lists_with(alloc, &copies, &disks, found, held, best, copy)?;
     Ok(Decided {
         copy: Some(taken(copies, best.number)),
+        stale,
+        strays,
+        missing,
+    })
+}
+
+// What is found with this copy, or why it isn't taken.
+fn lists_with(
+    alloc: Global,
+    copies: &[GroupCopy],
+    disks: &[DiskRead],
+    found: &IdMap,
+    held: &[HeldCopy],
+    best: HeldCopy,
+    copy: &GroupCopy,
+) -> Result<Lists, ScanRefusal>
+    requires read { AllAreOf copies.now disks.now }
+    requires found { found.now ≡ disks_by_id (ids_from 0 (readings_of [] disks.now)) }
+    requires copy { slice_get copies.now best.number ≡ Some copy.now }
+    ensures { MatchResult result
+        (λ lists. IsDecided (answer_for copies.now disks.now held.now best)
+        (record { copy = Some copy.now; stale = lists.stale; strays = lists.strays; missing = lists.missing }))
+        (IsRefusedBy (answer_for copies.now disks.now held.now best)) }
+{
+    let members = Members::of(alloc, &copy.group)?;
+    if let Some(refusal) = deny(copies, disks, &members, held, best, copy) {
+        return Err(refusal);
+    }
+    let stale = stale_areas(alloc, copies, disks, &members, best.number, copy)?;
+    let strays = stray_disks(&members, disks);
+    let missing = missing_ids(alloc, members.group(), found)?;
+    Ok(Lists {
         stale: ItemList::from_vec(stale),
         strays,
         missing: ItemList::from_vec(missing),
@@ -115,11 +159,13 @@ fn taken(copies: Vec<GroupCopy>, number: usize) -> GroupCopy
 fn deny(
     copies: &[GroupCopy],
     disks: &[DiskRead],
+    members: &Members<'_>,
     held: &[HeldCopy],
     best: HeldCopy,
     copy: &GroupCopy,
 ) -> Option<ScanRefusal>
     requires read { length disks.now ≤ 64 }
+    requires members { members.now ≡ copy.now.group }
     requires copy { slice_get copies.now best.number ≡ Some copy.now }
     ensures { Denies (denial copies.now disks.now held.now best.disk copy.now) result }
 {
@@ -129,14 +175,13 @@ fn deny(
     if let Some((first, second)) = find_two_groups(copies, held) {
         return Some(ScanRefusal::TwoGroups(first, second));
     }
-    let group = copy.group.group();
     if let Some(disk) = find_conflict(copies, held, best.number, copy) {
-        return Some(ScanRefusal::Conflict(best.disk, disk, group.seqno));
+        return Some(ScanRefusal::Conflict(best.disk, disk, members.group().seqno));
     }
-    if let Some(disk) = find_misplaced(group, disks) {
+    if let Some(disk) = find_misplaced(members, disks) {
         return Some(ScanRefusal::PvShape(disk));
     }
-    if !is_held_by_listed(copies, disks, best.number, copy) {
+    if !is_held_by_listed(copies, disks, members, best.number, copy) {
         return Some(ScanRefusal::PvShape(best.disk));
     }
     None

@@ -1,10 +1,11 @@
 //! Physical volumes that were found twice.
-ghost use Rattle.std.specs.Prelude.{◌≡◌, ◌≤◌, [], length, drop, find, option_map, IfOk};
-ghost use Rattle.scan_rules.specs.Decision.{first_duplicate, ids_from, same_bytes};
+ghost use Rattle.std.specs.Prelude.{◌≡◌, ◌≤◌, [], length, IfOk};
+ghost use Rattle.scan_rules.specs.Decision.{first_duplicate, ids_from};
+ghost use Rattle.scan_rules.specs.Found.{disks_by_id};
 ghost use Rattle.scan_rules.specs.Readings.{readings_of};
 
 use crate::readings::DiskRead;
-use crate::same::same_id;
+use id_index::IdMap;
 use lvm_id::LvmId;
 use std::alloc::{AllocError, Global};
 
@@ -22,27 +23,21 @@ pub(crate) fn found_ids(alloc: Global, disks: &[DiskRead]) -> Result<Vec<(u32, L
     Ok(ids)
 }
 
-// The first disk whose id comes again, and the first that repeats it.
-pub(crate) fn find_duplicate(ids: &[(u32, LvmId)]) -> Option<(u32, u32)>
-    ensures { result ≡ first_duplicate ids.now }
+// The first disk of each of these ids; and the first disk whose id comes again, with the first that repeats it.
+pub(crate) fn index_ids(
+    alloc: Global,
+    ids: &[(u32, LvmId)],
+) -> Result<(IdMap, Option<(u32, u32)>), AllocError>
+    ensures { IfOk result (λ found. (found.0 ≡ disks_by_id ids.now) × (found.1 ≡ first_duplicate ids.now)) }
 {
-    for (i, one) in ids.iter().enumerate() {
-        if let Some(other) = find_id(ids, i + 1, &one.1) {
-            return Some((one.0, other));
+    let mut by_id = IdMap::new(alloc);
+    let mut repeated = None;
+    for i in (0..ids.len()).rev() {
+        let (disk, id) = &ids[i];
+        if let Some(other) = by_id.get(id) {
+            repeated = Some((*disk, other));
         }
+        by_id.insert(id, *disk)?;
     }
-    None
-}
-
-// The first disk with this id, from the place `from` on.
-fn find_id(ids: &[(u32, LvmId)], from: usize, id: &LvmId) -> Option<u32>
-    requires { from ≤ length ids.now }
-    ensures { result ≡ option_map (λ other. other.0) (find (λ other. same_bytes id.now other.1) (drop from ids.now)) }
-{
-    for other in &ids[from..] {
-        if same_id(id, &other.1) {
-            return Some(other.0);
-        }
-    }
-    None
+    Ok((by_id, repeated))
 }

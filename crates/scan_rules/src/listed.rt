@@ -4,29 +4,22 @@ ghost use Rattle.scan_rules.specs.Decision.{is_listed, lists};
 ghost use Rattle.scan_rules.specs.Readings.{reading_of};
 
 use crate::readings::DiskRead;
-use crate::same::same_id;
+use id_index::Members;
 use lvm_id::LvmId;
-use meta_model::Group;
 
 // Whether the group lists the disk's physical volume.
-pub(crate) fn lists_disk(group: &Group, disk: &DiskRead) -> bool
-    ensures { result ≡ is_listed group.now (reading_of [] disk.now) }
+pub(crate) fn lists_disk(members: &Members<'_>, disk: &DiskRead) -> bool
+    ensures { result ≡ is_listed members.now (reading_of [] disk.now) }
 {
     match &disk.pv {
-        Some(pv) => lists_id(group, &pv.id),
+        Some(pv) => lists_id(members, &pv.id),
         None => false,
     }
 }
 
 // Whether the group lists a physical volume with this id.
-pub(crate) fn lists_id(group: &Group, id: &LvmId) -> bool
-    ensures { result ≡ lists group.now id.now }
+pub(crate) fn lists_id(members: &Members<'_>, id: &LvmId) -> bool
+    ensures { result ≡ lists members.now id.now }
 {
-    for i in 0..group.pvs.len() {
-        let (_, pv) = group.pvs.get(i);
-        if same_id(&pv.id, id) {
-            return true;
-        }
-    }
-    false
+    members.has(id)
 }

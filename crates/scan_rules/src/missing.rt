@@ -1,12 +1,9 @@
 //! Physical volumes of the group that weren't found.
-ghost use Rattle.std.specs.Prelude.{◌≡◌, ◌++◌, ◌||◌, [], map, filter, not, IfOk};
-ghost use Rattle.std.specs.List.{list_any};
-ghost use Rattle.scan_rules.specs.Found.{missing_of};
-ghost use Rattle.scan_rules.specs.Decision.{has_id};
-ghost use Rattle.scan_rules.specs.Readings.{reading_of, readings_of};
+ghost use Rattle.std.specs.Prelude.{◌≡◌, ◌||◌, not, IfOk};
+ghost use Rattle.std.specs.FinMap as map;
+ghost use Rattle.scan_rules.specs.Found.{missing_by};
 
-use crate::readings::DiskRead;
-use crate::same::same_id;
+use id_index::IdMap;
 use lvm_id::LvmId;
 use meta_model::{Group, Pv};
 use std::alloc::{AllocError, Global};
@@ -15,14 +12,14 @@ use std::alloc::{AllocError, Global};
 pub(crate) fn missing_ids(
     alloc: Global,
     group: &Group,
-    disks: &[DiskRead],
+    found: &IdMap,
 ) -> Result<Vec<LvmId>, AllocError>
-    ensures { IfOk result (λ missing. missing.items ≡ missing_of (readings_of [] disks.now) group.now.pvs) }
+    ensures { IfOk result (λ missing. missing.items ≡ missing_by found.now group.now.pvs) }
 {
     let mut missing = Vec::new(alloc);
     for i in 0..group.pvs.len() {
         let (_, pv) = group.pvs.get(i);
-        if is_missing_from(pv, disks) {
+        if is_missing(pv, found) {
             missing.push(pv.id)?;
         }
     }
@@ -30,22 +27,8 @@ pub(crate) fn missing_ids(
 }
 
 // Whether the physical volume is on no disk, or was away when the group's text was written.
-fn is_missing_from(pv: &Pv, disks: &[DiskRead]) -> bool
-    ensures { result ≡ (pv.now.missing || not (list_any (has_id pv.now.id) (readings_of [] disks.now))) }
+fn is_missing(pv: &Pv, found: &IdMap) -> bool
+    ensures { result ≡ (pv.now.missing || not (map.contains_key found.now pv.now.id)) }
 {
-    pv.missing || !is_on_a_disk(disks, &pv.id)
-}
-
-// Whether a disk has the physical volume with this id.
-fn is_on_a_disk(disks: &[DiskRead], id: &LvmId) -> bool
-    ensures { result ≡ list_any (has_id id.now) (readings_of [] disks.now) }
-{
-    for disk in disks {
-        if let Some(pv) = &disk.pv {
-            if same_id(&pv.id, id) {
-                return true;
-            }
-        }
-    }
-    false
+    pv.missing || !found.contains(&pv.id)
 }

@@ -54,8 +54,8 @@ pub struct DiskRead {
     pub pv: Option<PvRead>,
 }
 
-/// What was read of the disks, in their order. Copies with one text stand once among the copies. Contracts see the
-/// copies by their numbers, and the readings of the disks, with each copy where it was found.
+/// What was read of the disks, in their order. Copies with one text stand once among the copies, where it was seen that they
+/// have one. Contracts see the copies by their numbers, and the readings of the disks, with each copy where it was found.
 #[derive(Debug, Drop)]
 pub struct Readings {
     copies: Vec<GroupCopy>,

@@ -1,21 +1,21 @@
 //! Whether the physical volumes of the group lie well on their disks.
-ghost use Rattle.std.specs.Prelude.{◌≡◌, ◌≤◌, ◌<◌, ◌+◌, ◌*◌, ◌^◌, ◌&&◌, [], length, map};
+ghost use Rattle.std.specs.Prelude.{◌≡◌, ◌≤◌, ◌<◌, ◌+◌, ◌*◌, ◌^◌, [], length, map};
 ghost use Rattle.std.specs.List.{list_any};
 ghost use Rattle.scan_rules.specs.Found.{is_this_misplaced};
-ghost use Rattle.scan_rules.specs.Decision.{first_misplaced, has_misplaced, is_misplaced, meets_area, same_bytes};
+ghost use Rattle.scan_rules.specs.Decision.{first_misplaced, has_misplaced, is_misplaced, meets_area};
 ghost use Rattle.scan_rules.specs.Readings.{area_of, found_of, reading_of, readings_of};
 
 use crate::readings::{AreaRead, DiskRead, PvRead};
-use crate::same::same_id;
-use meta_model::{Group, Pv};
+use id_index::Members;
+use meta_model::Pv;
 
 // The first disk on which a physical volume of the group doesn't lie well.
-pub(crate) fn find_misplaced(group: &Group, disks: &[DiskRead]) -> Option<u32>
+pub(crate) fn find_misplaced(members: &Members<'_>, disks: &[DiskRead]) -> Option<u32>
     requires { length disks.now ≤ 64 }
-    ensures { result ≡ first_misplaced group.now (readings_of [] disks.now) }
+    ensures { result ≡ first_misplaced members.now (readings_of [] disks.now) }
 {
     for (number, disk) in disks.iter().enumerate() {
-        if is_misplaced_on(group, disk) {
+        if is_misplaced_on(members, disk) {
             return Some(number as u32);
         }
     }
@@ -23,39 +23,27 @@ pub(crate) fn find_misplaced(group: &Group, disks: &[DiskRead]) -> Option<u32>
 }
 
 // Whether one doesn't lie well on this disk.
-fn is_misplaced_on(group: &Group, disk: &DiskRead) -> bool
-    ensures { result ≡ has_misplaced group.now (reading_of [] disk.now) }
+fn is_misplaced_on(members: &Members<'_>, disk: &DiskRead) -> bool
+    ensures { result ≡ has_misplaced members.now (reading_of [] disk.now) }
 {
     match &disk.pv {
-        Some(found) => has_misplaced_volume(group, disk, found),
+        Some(found) => has_misplaced_volume(members, disk, found),
         None => false,
     }
 }
 
-// Whether one of the group's physical volumes is this one of the disk, and doesn't lie well there.
-fn has_misplaced_volume(group: &Group, disk: &DiskRead, found: &PvRead) -> bool
+// Whether the group's physical volume that is this one of the disk doesn't lie well there. It has at most one that is.
+fn has_misplaced_volume(members: &Members<'_>, disk: &DiskRead, found: &PvRead) -> bool
     ensures { result ≡
         list_any
-        (is_this_misplaced group.now.extent_size (reading_of [] disk.now) (found_of [] found.now))
-        group.now.pvs }
+        (is_this_misplaced members.now.extent_size (reading_of [] disk.now) (found_of [] found.now))
+        members.now.pvs }
 {
-    for i in 0..group.pvs.len() {
-        let (_, pv) = group.pvs.get(i);
-        if is_this_misplaced_volume(pv, group.extent_size, disk, found) {
-            return true;
-        }
+    let group = members.group();
+    match members.get(&found.id) {
+        Some(pv) => leaves_place(pv, group.extent_size, disk, found),
+        None => false,
     }
-    false
-}
-
-// Whether the physical volume is this one of the disk, and doesn't lie well there.
-fn is_this_misplaced_volume(pv: &Pv, extent_size: u64, disk: &DiskRead, found: &PvRead) -> bool
-    ensures { result ≡
-        (same_bytes pv.now.id found.now.id
-        && is_misplaced pv.now.pe_start (pv.now.pe_start + pv.now.pe_count * extent_size)
-        (reading_of [] disk.now) (found_of [] found.now)) }
-{
-    same_id(&pv.id, &found.id) && leaves_place(pv, extent_size, disk, found)
 }
 
 // Whether the extents of the physical volume leave the disk, or meet sectors 0 to 7 or an area. The sums fit, since

@@ -7,6 +7,7 @@ ghost use Rattle.scan_rules.specs.Readings.{area_of, reading_of, readings_of};
 use crate::listed::lists_id;
 use crate::readings::{AreaRead, DiskRead, GroupCopy};
 use crate::texts::gives_text;
+use id_index::Members;
 use std::alloc::{AllocError, Global};
 
 // The areas of the listed disks that hold anything else than the copy, by disk and number.
@@ -14,6 +15,7 @@ pub(crate) fn stale_areas(
     alloc: Global,
     copies: &[GroupCopy],
     disks: &[DiskRead],
+    members: &Members<'_>,
     own: usize,
     copy: &GroupCopy,
 ) -> Result<Vec<(u32, u32)>, AllocError>
@@ -21,11 +23,11 @@ pub(crate) fn stale_areas(
     requires disks { length disks.now ≤ 64 }
     requires areas { AllByRecursion HasFewAreas disks.now }
     ensures { IfOk result (λ stale.
-        stale.items ≡ stale_on copy.now.group copy.now.text 0 (readings_of copies.now disks.now)) }
+        stale.items ≡ stale_on members.now copy.now.text 0 (readings_of copies.now disks.now)) }
 {
     let mut stale = Vec::new(alloc);
     for (number, disk) in disks.iter().enumerate() {
-        push_stale_of(&mut stale, copies, number as u32, disk, own, copy)?;
+        push_stale_of(&mut stale, copies, number as u32, disk, members, own, copy)?;
     }
     Ok(stale)
 }
@@ -36,6 +38,7 @@ fn push_stale_of(
     copies: &[GroupCopy],
     number: u32,
     disk: &DiskRead,
+    members: &Members<'_>,
     own: usize,
     copy: &GroupCopy,
 ) -> Result<(), AllocError>
@@ -43,10 +46,10 @@ fn push_stale_of(
     requires areas { HasFewAreas disk.now }
     ensures { IfOk result (λ _.
         stale.new.items ≡
-        stale.old.items ++ stale_of copy.now.group copy.now.text (number, reading_of copies.now disk.now)) }
+        stale.old.items ++ stale_of members.now copy.now.text (number, reading_of copies.now disk.now)) }
 {
     match &disk.pv {
-        Some(pv) if lists_id(copy.group.group(), &pv.id) => {
+        Some(pv) if lists_id(members, &pv.id) => {
             push_stale(stale, copies, number, pv.areas.as_slice(), own, copy)
         }
         _ => Ok(()),

@@ -6,17 +6,17 @@ ghost use Rattle.scan_rules.specs.Flat.{holds_something, is_stray, strays_on};
 
 use crate::listed::lists_disk;
 use crate::readings::{AreaGives, AreaRead, DiskRead};
-use meta_model::Group;
+use id_index::Members;
 use sector_base::PvSet;
 
 // The disks that hold a copy or a refused area, and aren't listed.
-pub(crate) fn stray_disks(group: &Group, disks: &[DiskRead]) -> PvSet
+pub(crate) fn stray_disks(members: &Members<'_>, disks: &[DiskRead]) -> PvSet
     requires { length disks.now ≤ 64 }
-    ensures { result ≡ set.from_list (strays_on group.now 0 disks.now) }
+    ensures { result ≡ set.from_list (strays_on members.now 0 disks.now) }
 {
     let mut strays = PvSet::new();
     for number in (0..disks.len()).rev() {
-        if is_stray_disk(group, &disks[number]) {
+        if is_stray_disk(members, &disks[number]) {
             strays.insert(number as u32);
         }
     }
@@ -24,11 +24,11 @@ pub(crate) fn stray_disks(group: &Group, disks: &[DiskRead]) -> PvSet
 }
 
 // Whether the disk holds something and isn't listed.
-fn is_stray_disk(group: &Group, disk: &DiskRead) -> bool
-    ensures { result ≡ is_stray group.now disk.now }
+fn is_stray_disk(members: &Members<'_>, disk: &DiskRead) -> bool
+    ensures { result ≡ is_stray members.now disk.now }
 {
     match &disk.pv {
-        Some(pv) => !lists_disk(group, disk) && hold_something(pv.areas.as_slice()),
+        Some(pv) => !lists_disk(members, disk) && hold_something(pv.areas.as_slice()),
         None => false,
     }
 }

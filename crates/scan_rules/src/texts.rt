@@ -10,6 +10,7 @@ use crate::held::HeldCopy;
 use crate::listed::lists_id;
 use crate::readings::{AreaGives, AreaRead, DiskRead, GroupCopy};
 use crate::same::same_text;
+use id_index::Members;
 
 // Whether the copy with this number has the same text as `copy`, whose number is `own`.
 fn has_text(copies: &[GroupCopy], number: usize, own: usize, copy: &GroupCopy) -> bool
@@ -42,16 +43,21 @@ pub(crate) fn gives_text(
     }
 }
 
-// Whether the group of the copy lists the disk, and the disk holds the copy.
-fn is_listed_holder(copies: &[GroupCopy], disk: &DiskRead, own: usize, copy: &GroupCopy) -> bool
+// Whether the group lists the disk, and the disk holds the copy.
+fn is_listed_holder(
+    copies: &[GroupCopy],
+    disk: &DiskRead,
+    members: &Members<'_>,
+    own: usize,
+    copy: &GroupCopy,
+) -> bool
     requires { slice_get copies.now own ≡ Some copy.now }
     ensures { result ≡
-        (is_listed copy.now.group (reading_of copies.now disk.now)
+        (is_listed members.now (reading_of copies.now disk.now)
         && holds copy.now.text (reading_of copies.now disk.now)) }
 {
     match &disk.pv {
-        Some(pv) => lists_id(copy.group.group(), &pv.id)
-            && has_area(copies, pv.areas.as_slice(), own, copy),
+        Some(pv) => lists_id(members, &pv.id) && has_area(copies, pv.areas.as_slice(), own, copy),
         None => false,
     }
 }
@@ -75,14 +81,15 @@ fn has_area(copies: &[GroupCopy], areas: &[AreaRead], own: usize, copy: &GroupCo
 pub(crate) fn is_held_by_listed(
     copies: &[GroupCopy],
     disks: &[DiskRead],
+    members: &Members<'_>,
     own: usize,
     copy: &GroupCopy,
 ) -> bool
     requires { slice_get copies.now own ≡ Some copy.now }
-    ensures { result ≡ is_held copy.now.group copy.now.text (readings_of copies.now disks.now) }
+    ensures { result ≡ is_held members.now copy.now.text (readings_of copies.now disks.now) }
 {
     for disk in disks {
-        if is_listed_holder(copies, disk, own, copy) {
+        if is_listed_holder(copies, disk, members, own, copy) {
             return true;
         }
     }

@@ -1,5 +1,5 @@
 -- The disks of a scan: their metadata areas, and what of them a scan decides over whatever the areas give.
-use Rattle.std.specs.Prelude.{ℕ, ◌+◌, ◌/◌, Bool, true, false, if◌then◌else◌, Option, Some, None, option_map, unwrap_or, List, [], ◌∷◌, ◌++◌, length, map, filter_map}
+use Rattle.std.specs.Prelude.{ℕ, ◌+◌, ◌/◌, Bool, false, if◌then◌else◌, Option, Some, None, option_map, unwrap_or, List, [], ◌∷◌, ◌++◌, map, filter_map}
 use Rattle.mda_header.specs.declared.entry.Entry.{Entry}
 use Rattle.mda_header.specs.declared.entry.Entry.TheVariants.{Ignored, Nothing, Text, Refused}
 use Rattle.mda_header.specs.declared.header.Locn.{Locn}
@@ -10,6 +10,8 @@ use Rattle.disk_contents.specs.declared.contents.AreaFound.{AreaFound}
 use Rattle.disk_contents.specs.declared.contents.PvFound.{PvFound}
 use Rattle.disk_contents.specs.declared.contents.PvFound.TheVariants.{NoLabel, NoHeader, Whole}
 use Rattle.disk_contents.specs.Standing.{area_on, areas_in}
+use Rattle.std.specs.FinMap as map
+use Rattle.id_index.specs.Ids.{IdNumbers}
 use Rattle.meta_model.specs.declared.group.Group.{Group}
 use Rattle.meta_model.specs.declared.pv.Pv.{Pv}
 use Rattle.scan_rules.specs.Decision.{Area as AreaOf, Found as PvOf, Reading, same_bytes}
@@ -81,3 +83,15 @@ disk_with (disk ∷ disks) id = if has_header_id id disk then 0 else disk_with d
 -- those of the physical volumes of a group
 abbrev pub disks_of : Group → List Disk → List ℕ
 disks_of group disks = map (λ (pv : List ℕ × Pv). disk_with disks pv.1.id) group.pvs
+
+-- ---- the disks by the ids of their headers
+
+-- the disk's number at the id of its header, where it has one
+abbrev pub put_header : ℕ → Option PvHeader → IdNumbers → IdNumbers
+put_header number None numbers = numbers
+put_header number (Some header) numbers = map.insert numbers header.id number
+
+-- the number of each disk, where the first has this number; of those with one id that of the first
+abbrev pub headers_by_id : ℕ → List Disk → IdNumbers
+headers_by_id first [] = map.empty
+headers_by_id first (disk ∷ disks) = put_header first (header_on disk.contents) (headers_by_id (first + 1) disks)

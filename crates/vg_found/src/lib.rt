@@ -18,7 +18,7 @@ pub use disk::{Disk, DiskTable};
 pub use found::{AreaSet, Found, Ids};
 pub use laws::{areas_are_shaped, whole_has_its_disks};
 pub use pv_disks::disks_of;
-pub use stale::has_stale;
+pub use stale::stale_disks;
 pub use whole::{NotWhole, ScanRefused, Whole};
 
 #[cfg(test)]

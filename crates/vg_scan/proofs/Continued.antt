@@ -28,7 +28,8 @@ continues_count old new a =
     let long : length new ≡ length old + length a.0 = ap length a.1 ∙ length-append old a.0 in
     omega arith
 
-older_copy : (copies more : List GroupCopy) (number : ℕ) → number < length copies → slice_get (copies ++ more) number ≡ slice_get copies number
+-- a copy that was there before has its number still
+pub older_copy : (copies more : List GroupCopy) (number : ℕ) → number < length copies → slice_get (copies ++ more) number ≡ slice_get copies number
 older_copy [] more number within = absurd (omega arith)
 older_copy (copy ∷ copies) more zero within = refl
 older_copy (copy ∷ copies) more (suc number) within = older_copy copies more number (omega arith)

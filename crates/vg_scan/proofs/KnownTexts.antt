@@ -1,5 +1,5 @@
 -- A text that was read before is known again by its bytes.
-use Rattle.std.proofs.Common.{◌≡◌, ℕ, zero, suc, ◌+◌, ◌-◌, ◌<◌, ◌++◌, List, [], ◌∷◌, length, take, get_or, slice_index_or, slice_get, Bool, true, false, ◌==◌, if◌then◌else◌, option_map, unwrap_or, Option, Some, refl, sym, ap, subst, ◌∙◌, arith}
+use Rattle.std.proofs.Common.{◌≡◌, ℕ, ◌+◌, ◌-◌, ◌<◌, ◌++◌, List, [], ◌∷◌, length, take, slice_index_or, slice_get, Bool, true, false, ◌==◌, if◌then◌else◌, option_map, unwrap_or, Option, Some, refl, sym, ap, ◌∙◌, arith}
 use Rattle.std.proofs.lemmas.Bool.Decides.{nat_tests}
 use Rattle.std.proofs.lemmas.List.{length_push, take_all, take_more}
 use Rattle.sector_base.specs.Checksum.{checksum}
@@ -10,7 +10,7 @@ use Rattle.scan_rules.specs.Decision.{HoldsNone}
 use Rattle.scan_rules.specs.Readings.{copied, gives_of}
 use Rattle.scan_rules.specs.declared.readings.AreaGives.TheVariants.{Copy as Numbered}
 use Rattle.scan_rules.specs.declared.readings.GroupCopy.{GroupCopy}
-use Rattle.vg_scan.specs.Collected.{AreKnown, IsKnown}
+use Rattle.vg_scan.specs.Collected.{IsKnown}
 use Rattle.vg_scan.specs.Texts.{IsStored}
 
 -- ---- two byte lists of one length that are the same without a zero byte at their ends
@@ -65,30 +65,6 @@ pub same_stored : (a b : List ℕ) → length a ≡ length b → without_zero a 
 same_stored a b long same = same_by_ends a b (ends_zero a) (ends_zero b) refl refl long same
 
 -- ---- the copies that are known
-
--- what stands at a number
-pub read_at : {X : Type 0} (xs : List X) (i : ℕ) (x : X) → i < length xs → x ≡ get_or xs i x → slice_get xs i ≡ Some x
-read_at [] i x within is = absurd (omega arith)
-read_at (y ∷ xs) zero x within is = ap Some (sym is)
-read_at (y ∷ xs) (suc i) x within is = read_at xs i x (omega arith) is
-
-pub same_count : (locns : List Locn) (copies : List GroupCopy) → AreKnown locns copies → length locns ≡ length copies
-same_count [] [] known = refl
-same_count [] (copy ∷ copies) known = absurd known
-same_count (locn ∷ locns) [] known = absurd known
-same_count (locn ∷ locns) (copy ∷ copies) known = ap suc (same_count locns copies known.1)
-
-pub known_at : (locns : List Locn) (copies : List GroupCopy) (i : ℕ) (locn : Locn) (copy : GroupCopy) → AreKnown locns copies → i < length locns → slice_get copies i ≡ Some copy → IsKnown (get_or locns i locn) copy
-known_at [] copies i locn copy known within at = absurd (omega arith)
-known_at (first ∷ locns) [] i locn copy known within at = absurd known
-known_at (first ∷ locns) (one ∷ copies) zero locn copy known within at = let same : one ≡ copy = cc in subst (IsKnown first) same known.0
-known_at (first ∷ locns) (one ∷ copies) (suc i) locn copy known within at = known_at locns copies i locn copy known.1 (omega arith) at
-
-pub known_more : (locns : List Locn) (copies : List GroupCopy) (locn : Locn) (copy : GroupCopy) → AreKnown locns copies → IsKnown locn copy → AreKnown (locns ++ locn ∷ []) (copies ++ copy ∷ [])
-known_more [] [] locn copy known is = (is, tt)
-known_more [] (one ∷ copies) locn copy known is = absurd known
-known_more (first ∷ locns) [] locn copy known is = absurd known
-known_more (first ∷ locns) (one ∷ copies) locn copy known is = (known.0, known_more locns copies locn copy known.1 is)
 
 -- a copy is that of other bytes of one size, where its text is stored as these
 pub known_again : (entry locn : Locn) (copy : GroupCopy) (bytes : List ℕ) → IsKnown entry copy → entry.size ≡ locn.size → entry.sum ≡ locn.sum → length bytes ≡ locn.size → copy.text ≡ without_zero bytes

@@ -5,6 +5,7 @@ pub mod DiskReads
 pub mod EntryReading
 pub mod Judging
 pub mod KnownTexts
+pub mod NumberedCopies
 pub mod OneReading
 pub mod OutcomeShape
 pub mod PvParts

@@ -1,6 +1,6 @@
 //! What was read of the disks so far. A text that was read before is known again by its bytes, and neither summed nor parsed.
-ghost use Rattle.std.specs.Prelude.{◌≡◌, ◌<◌, ◌++◌, [], ◌∷◌, length, IsTrue, IfSome, MatchResult};
-ghost use Rattle.scan_rules.specs.Readings.{DiskIsOf, copied, gives_of, reading_of};
+ghost use Rattle.std.specs.Prelude.{◌≡◌, ◌<◌, ◌++◌, [], ◌∷◌, length, IfSome, MatchResult};
+ghost use Rattle.scan_rules.specs.Readings.{DiskIsOf, gives_of, reading_of};
 ghost use Rattle.scan_rules.specs.declared.readings.AreaGives.TheVariants.{Copy as Numbered};
 ghost use Rattle.vg_scan.specs.Collected.{IsKnown};
 ghost use Rattle.vg_scan.specs.Texts.{IsStored};
@@ -9,25 +9,26 @@ use mda_header::Locn;
 use mda_ring::is_stored_as;
 use scan_rules::{DiskRead, GroupCopy, Readings};
 use std::alloc::{AllocError, Global};
+use std::collections::BTreeMap;
 use std::marker::Model;
 
 // What was read of the disks so far. Contracts see it as its readings.
 #[derive(Debug, Drop)]
 pub(crate) struct Collected {
     readings: Readings,
-    // The entry at which the text of each copy stood first.
-    entries: Vec<Locn>,
+    // The copy that was read at an entry of each size and sum; of several the last.
+    numbers: BTreeMap<(u64, u32), usize>,
 }
 
 impl Model for Collected {
     ghost use Rattle.scan_rules.specs.Readings.{AllRead};
-    ghost use Rattle.vg_scan.specs.Collected.{AreKnown};
+    ghost use Rattle.vg_scan.specs.Collected.{AreNumbered};
 
     ghost Value = { AllRead };
 
     ghost view = { λ c. c.readings };
 
-    ghost invariant = { λ c. AreKnown c.entries.items c.readings.copies };
+    ghost invariant = { λ c. AreNumbered c.numbers c.readings.copies };
 }
 
 impl Collected {
@@ -38,7 +39,7 @@ impl Collected {
     {
         Collected {
             readings: Readings::new(alloc),
-            entries: Vec::new(alloc),
+            numbers: BTreeMap::new(alloc),
         }
     }
 
@@ -47,18 +48,17 @@ impl Collected {
         requires { length bytes.now ≡ locn.size }
         ensures { IfSome result (λ number. (number < length self.now.copies) × IsStored locn bytes.now (gives_of self.now.copies (Numbered number))) }
     {
-        let copies = self.readings.copies();
-        for (number, entry) in self.entries.iter().enumerate() {
-            if let Some(copy) = copies.get(number) {
-                if is_same_text(*entry, copy, locn, bytes) {
-                    return Some(number);
-                }
-            }
+        let number = self.numbers.get(&(locn.size, locn.sum)).copied()?;
+        let copy = self.readings.copies().get(number)?;
+        if is_stored_as(copy.text.as_bytes(), bytes) {
+            Some(number)
+        } else {
+            None
         }
-        None
     }
 
-    // Takes in a copy that was read at the entry, and answers its number. Only memory can be wanting; all stays then.
+    // Takes in a copy that was read at the entry, and answers its number. Only memory can be wanting; all stays then, but that
+    // an older copy of this size and sum may be forgotten.
     pub(crate) fn push_copy(&mut self, locn: Locn, copy: GroupCopy) -> Result<usize, AllocError>
         requires known { IsKnown locn copy }
         ensures copies { MatchResult result
@@ -66,10 +66,15 @@ impl Collected {
             (λ _. self.new.copies ≡ self.old.copies) }
         ensures disks { self.new.disks ≡ self.old.disks }
     {
-        self.entries.reserve(1)?;
-        let number = self.readings.push_copy(copy)?;
-        self.entries.push(locn)?;
-        Ok(number)
+        let place = (locn.size, locn.sum);
+        self.numbers.insert(place, self.readings.copies().len())?;
+        match self.readings.push_copy(copy) {
+            Ok(number) => Ok(number),
+            Err(wanting) => {
+                self.numbers.remove(&place);
+                Err(wanting)
+            }
+        }
     }
 
     // Takes in what was read of the next disk, one of at most 64. Only memory can be wanting; all stays then.
@@ -90,13 +95,4 @@ impl Collected {
     {
         self.readings
     }
-}
-
-// Whether the text of a copy, which stood first at `entry`, is stored as these bytes at an entry of this size and sum.
-fn is_same_text(entry: Locn, copy: &GroupCopy, locn: Locn, bytes: &[u8]) -> bool
-    requires known { IsKnown entry copy.now }
-    requires size { length bytes.now ≡ locn.size }
-    ensures { IsTrue result → IsStored locn bytes.now (copied copy.now) }
-{
-    entry.size == locn.size && entry.sum == locn.sum && is_stored_as(copy.text.as_bytes(), bytes)
 }

@@ -1,5 +1,5 @@
 -- The free extents of those so far, which are below 2^48 each.
-use Rattle.std.proofs.Common.{◌≡◌, ◌≤◌, ℕ, ◌+◌, ◌*◌, ◌^◌, drop, length, sum_by}
+use Rattle.std.proofs.Common.{◌≡◌, ◌≤◌, ◌+◌, ◌*◌, ◌^◌, drop, length, sum_by}
 use Rattle.std.specs.List.{range_with_len}
 use Rattle.extent_map.specs.FreeCount.{free_extents}
 use Rattle.lvm_report.specs.Volumes.{free_of_group}

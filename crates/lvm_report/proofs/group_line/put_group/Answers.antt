@@ -37,4 +37,4 @@ returns c =
     column text four line4 five (right 10 (extents_of_group group)) space fourth (c.in_ok-put_right-4.ensures ∙ ap (λ (n : ℕ). four ++ right 10 n ++ space) c.count_extents.ensures)
     in
     last_column c.put_last.result text five line5 c.put_last.new.text.items (right 10 (free_of_group group)) end fifth
-    (subst (λ (n : ℕ). IfOk c.put_last.result (λ _. c.put_last.new.text.items ≡ five ++ right 10 n ++ end)) c.count_free.ensures c.put_last.ensures)
+    (subst (λ (n : ℕ). IfOk c.put_last.result (λ _. c.put_last.new.text.items ≡ five ++ right 10 n ++ end)) c.in_ok-count_free.ensures c.put_last.ensures)

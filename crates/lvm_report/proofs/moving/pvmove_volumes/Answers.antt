@@ -1,5 +1,5 @@
 -- One volume more.
-use Rattle.std.proofs.Common.{sym, ◌∙◌, arith, length, map, refl}
+use Rattle.std.proofs.Common.{sym, arith, length, map, refl}
 use Rattle.volume_rules.specs.Moving.{has_pvmove}
 use Rattle.lvm_report.specs.Volumes.{leading_down}
 use Rattle.lvm_report.proofs.MarkedVolumes.{one_mark, pvmove_of_row}

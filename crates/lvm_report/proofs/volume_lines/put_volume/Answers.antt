@@ -1,5 +1,5 @@
 -- Four columns; a volume has no more extents than sectors.
-use Rattle.std.proofs.Common.{◌≡◌, ◌++◌, ◌*◌, ◌<◌, ◌^◌, ℕ, List, ap, sym, ◌∙◌, arith, subst, sum_by}
+use Rattle.std.proofs.Common.{◌≡◌, ◌++◌, ◌*◌, ◌<◌, ◌^◌, ℕ, List, ap, sym, ◌∙◌, subst, sum_by}
 use Rattle.std.specs.Prelude.{IfOk, codes}
 use Rattle.meta_model.specs.declared.segment.Segment.{Segment}
 use Rattle.volume_rules.specs.Extents.{extents_of}

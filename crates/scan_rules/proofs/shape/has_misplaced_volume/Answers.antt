@@ -1,17 +1,31 @@
-use Rattle.std.proofs.Common.{List, [], ℕ, sym, ◌∙◌}
-use Rattle.std.specs.List.{list_any}
+use Rattle.std.proofs.Common.{[], ℕ, ◌+◌, ◌*◌, Bool, Option, false, ap, subst, ◌∙◌}
+use Rattle.std.specs.Prelude.{option_map, unwrap_or}
 use Rattle.meta_model.specs.declared.pv.Pv.{Pv}
-use Rattle.scan_rules.specs.Found.{is_this_misplaced}
+use Rattle.volume_rules.specs.Rules.{IsAccepted}
+use Rattle.volume_rules.specs.declared.rule.Rule.TheVariants.{Ids}
+use Rattle.scan_rules.specs.Decision.{Found, Reading, is_misplaced}
 use Rattle.scan_rules.specs.Readings.{found_of, reading_of}
-use Rattle.scan_rules.proofs.Steps.{any_here, any_past}
+use Rattle.scan_rules.proofs.OnePv.{first_decides}
 use Rattle.scan_rules.proofs.shape.has_misplaced_volume.Goals as goal
 
-pub returns-then-is_this_misplaced_volume : goal.returns-then-is_this_misplaced_volume
-returns-then-is_this_misplaced_volume c =
-    let test = is_this_misplaced c.args.group.now.extent_size (reading_of [] c.args.disk.now) (found_of [] c.args.found.now) in
-    any_here test c.args.group.now.pvs c.loop-i.i _ (list_any test c.args.group.now.pvs) c.get.ensures c.loop-i.invariant (sym c.is_this_misplaced_volume.ensures ∙ c.if-is_this_misplaced_volume.true)
+-- whether it doesn't lie well there
+abbrev test : ℕ → Reading → Found → Pv → Bool
+test extent_size disk found pv = is_misplaced pv.pe_start (pv.pe_start + pv.pe_count * extent_size) disk found
 
-pub loop-i-preserved : goal.loop-i-preserved
-loop-i-preserved c =
-    let test = is_this_misplaced c.args.group.now.extent_size (reading_of [] c.args.disk.now) (found_of [] c.args.found.now) in
-    any_past test c.args.group.now.pvs c.loop-i.i _ (list_any test c.args.group.now.pvs) c.get.ensures c.loop-i.invariant (sym c.is_this_misplaced_volume.ensures ∙ c.if-is_this_misplaced_volume.false)
+pub returns-in-Some : goal.returns-in-Some
+returns-in-Some c =
+    let disk = reading_of [] c.args.disk.now in
+    let found = found_of [] c.args.found.now in
+    let group = c.args.members.now in
+    c.leaves_place.ensures
+    ∙ ap (λ g. test g.extent_size disk found c.in-Some.pv.now) c.group-group.ensures.group
+    ∙ ap (λ (o : Option Pv). unwrap_or (option_map (test group.extent_size disk found) o) false) c.in-Some.ensures
+    ∙ first_decides group found.id (test group.extent_size disk found) (subst IsAccepted c.group-group.ensures.group c.group-group.ensures.accepted Ids)
+
+pub returns-in-None : goal.returns-in-None
+returns-in-None c =
+    let disk = reading_of [] c.args.disk.now in
+    let found = found_of [] c.args.found.now in
+    let group = c.args.members.now in
+    ap (λ (o : Option Pv). unwrap_or (option_map (test group.extent_size disk found) o) false) c.in-None.ensures
+    ∙ first_decides group found.id (test group.extent_size disk found) (subst IsAccepted c.group-group.ensures.group c.group-group.ensures.accepted Ids)

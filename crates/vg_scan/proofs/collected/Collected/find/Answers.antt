@@ -1,40 +1,31 @@
--- Each entry has its copy, and one that is met stands for its number.
-use Rattle.std.proofs.Common.{◌≡◌, ◌<◌, ℕ, List, length, Some, slice_get, slice_index_or, ap, sym, subst, ◌∙◌, arith}
-use Rattle.mda_header.specs.declared.header.Locn.{Locn}
+-- The copy at this size and sum, where its text is stored as these bytes.
+use Rattle.std.proofs.Common.{◌≡◌, ℕ, List, Some, get_or, sym, ap, subst, ◌∙◌}
+use Rattle.std.specs.Prelude.{slice_get}
+use Rattle.std.specs.BTreeMap.{get}
+use Rattle.std.proofs.lemmas.Option.{get_or_from_slice_get, slice_get_within}
+use Rattle.mda_ring.specs.Texts.{without_zero}
 use Rattle.scan_rules.specs.Readings.{AllRead}
 use Rattle.scan_rules.specs.declared.readings.GroupCopy.{GroupCopy}
-use Rattle.vg_scan.specs.Collected.{IsKnown}
+use Rattle.vg_scan.specs.Collected.{WasReadAt, key_cmp}
 use Rattle.vg_scan.specs.Texts.{IsStored}
-use Rattle.vg_scan.proofs.KnownTexts.{gives_number, known_at, read_at, same_count}
+use Rattle.vg_scan.proofs.KnownTexts.{gives_number, known_again}
 use Rattle.vg_scan.proofs.collected.Collected.find.Goals as goal
 
-pub is_same_text-requires-clause-known : goal.is_same_text-requires-clause-known
-is_same_text-requires-clause-known c =
-    let locns : List Locn = c.self.inside.entries.items in
+pub returns-then-is_stored_as : goal.returns-then-is_stored_as
+returns-then-is_stored_as c =
+    let locn = c.args.locn in
+    let bytes = c.args.bytes.now in
     let copies : List GroupCopy = c.self.inside.readings.copies in
-    let i : ℕ = c.loop-number.number in
-    let copy : GroupCopy = c.in-Some.copy.now in
-    let many : length c.deref-entry-items.result.now ≡ length locns = ap length c.deref-entry-items.ensures.value in
-    let count : length locns ≡ length copies = same_count locns copies c.self.invariant in
-    let there : length c.copies-copies.result.now ≡ length copies = ap length c.copies-copies.ensures in
-    let got : slice_get c.copies-copies.result.now i ≡ Some copy = read_at c.copies-copies.result.now i copy (omega (arith, c.loop-number-test.true)) c.in-Some.ensures.lookup.1 in
-    let at : slice_get copies i ≡ Some copy = ap (λ (l : List GroupCopy). slice_get l i) (sym c.copies-copies.ensures) ∙ got in
-    subst (λ (l : List Locn). IsKnown (slice_index_or l i (record { offset = 0; size = 0; sum = 0 })) copy) (sym c.deref-entry-items.ensures.value)
-    (known_at locns copies i (record { offset = 0; size = 0; sum = 0 }) copy c.self.invariant (omega (arith, c.loop-number-test.true)) at)
-
-pub returns-then-is_same_text : goal.returns-then-is_same_text
-returns-then-is_same_text c =
-    let locns : List Locn = c.self.inside.entries.items in
-    let copies : List GroupCopy = c.self.inside.readings.copies in
-    let i : ℕ = c.loop-number.number in
-    let copy : GroupCopy = c.in-Some.copy.now in
-    let many : length c.deref-entry-items.result.now ≡ length locns = ap length c.deref-entry-items.ensures.value in
-    let count : length locns ≡ length copies = same_count locns copies c.self.invariant in
-    let there : length c.copies-copies.result.now ≡ length copies = ap length c.copies-copies.ensures in
-    let viewed : copies ≡ c.args.self.now.copies = ap (λ (r : AllRead). r.copies) c.self.view_is in
-    let known : length copies ≡ length c.args.self.now.copies = ap length viewed in
-    let got : slice_get c.copies-copies.result.now i ≡ Some copy = read_at c.copies-copies.result.now i copy (omega (arith, c.loop-number-test.true)) c.in-Some.ensures.lookup.1 in
-    let at : slice_get c.args.self.now.copies i ≡ Some copy = ap (λ (l : List GroupCopy). slice_get l i) (sym (c.copies-copies.ensures ∙ viewed)) ∙ got in (
-      omega (arith, c.loop-number-test.true),
-      subst (IsStored c.args.locn c.args.bytes.now) (sym (gives_number c.args.self.now.copies i copy at)) (c.is_same_text.ensures c.if-is_same_text.true),
+    let all : List GroupCopy = c.args.self.now.copies in
+    let i : ℕ = c.in_ok-number.number in
+    let got : get key_cmp c.self.inside.numbers (locn.size, locn.sum) ≡ Some i = sym c.get.ensures.value ∙ sym c.copied.ensures ∙ c.in_ok-number.was in
+    let was : WasReadAt copies (locn.size, locn.sum) i = c.self.invariant (locn.size, locn.sum) i got in
+    let at : slice_get all i ≡ Some was.1 = ap (λ (r : AllRead). slice_get r.copies i) (sym c.self.view_is) ∙ was.3 in
+    let same : c.in_ok-copy.copy.now ≡ was.1 =
+    c.in_ok-copy.ensures.lookup.1 ∙ ap (λ (l : List GroupCopy). get_or l i c.in_ok-copy.copy.now) c.copies.ensures ∙ get_or_from_slice_get copies i was.1 c.in_ok-copy.copy.now was.3
+    in
+    let text : was.1.text ≡ without_zero bytes = ap (λ (copy : GroupCopy). copy.text) (sym same) ∙ sym c.as_bytes.ensures ∙ c.is_stored_as.ensures.0 c.if-is_stored_as.true in (
+      slice_get_within all i was.1 at,
+      subst (IsStored locn bytes) (sym (gives_number all i was.1 at))
+          (known_again was.0 locn was.1 bytes was.4 (ap (λ (k : ℕ × ℕ). k.0) was.2) (ap (λ (k : ℕ × ℕ). k.1) was.2) c.requires text),
     )

@@ -1,15 +1,14 @@
 -- The copy is known by its entry.
-use Rattle.std.proofs.Common.{List, ◌++◌, [], ◌∷◌, sym, subst, ap, ◌∙◌}
-use Rattle.mda_header.specs.declared.header.Locn.{Locn}
-use Rattle.scan_rules.specs.declared.readings.GroupCopy.{GroupCopy}
-use Rattle.vg_scan.specs.Collected.{AreKnown}
-use Rattle.vg_scan.proofs.KnownTexts.{known_more}
+use Rattle.std.proofs.Common.{length, ap}
+use Rattle.vg_scan.proofs.NumberedCopies.{numbered_by, numbered_less}
 use Rattle.vg_scan.proofs.collected.Collected.push_copy.Goals as goal
 
-pub invariant_of-self-2 : goal.invariant_of-self-2
-invariant_of-self-2 c =
-    let locns : List Locn = c.self.inside.entries.items in
-    let copies : List GroupCopy = c.self.inside.readings.copies in
-    let pushed = c.in_ok-push.ensures.items ∙ ap (λ (l : List Locn). l ++ c.args.locn ∷ []) c.in_ok-reserve.ensures.items in
-    let more = known_more locns copies c.args.locn c.args.copy c.self.invariant c.requires.known in
-    subst (λ (l : List Locn). AreKnown l c.push_copy.new.self.copies) (sym pushed) (subst (AreKnown (locns ++ c.args.locn ∷ [])) (sym c.in_ok-number.ensures.copies.1) more)
+pub invariant_of-self-in-Ok : goal.invariant_of-self-in-Ok
+invariant_of-self-in-Ok c =
+    numbered_by c.self.inside.numbers c.insert.new.self c.self.inside.readings.copies c.push_copy.new.self.copies c.args.locn c.args.copy (length c.copies.result.now) (ap length c.copies.ensures) c.in-Ok.ensures.copies.1
+    c.in_ok-insert.ensures.updates c.self.invariant c.requires.known
+
+pub invariant_of-self-in-Err : goal.invariant_of-self-in-Err
+invariant_of-self-in-Err c =
+    numbered_less c.self.inside.numbers c.insert.new.self c.remove.new.self c.self.inside.readings.copies c.push_copy.new.self.copies (c.args.locn.size, c.args.locn.sum) (length c.copies.result.now) c.in_ok-insert.ensures.updates
+    c.remove.ensures.updates c.in-Err.ensures.copies c.self.invariant
