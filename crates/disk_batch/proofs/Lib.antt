@@ -1,5 +1,6 @@
 pub mod Among
 pub mod Submissions
+pub mod Rising
 pub mod WrittenBy
 pub mod DisksOfSet
 pub mod Progressing

@@ -1,5 +1,5 @@
 -- What the calls that submit operations do to the shelf.
-use Rattle.std.specs.Prelude.{◌≡◌, ℕ, List, [], ◌∷◌, ◌++◌}
+use Rattle.std.specs.Prelude.{◌≡◌, ◌<◌, ℕ, List, [], ◌∷◌, ◌++◌, AllPairs}
 use Rattle.sector_base.specs.declared.spans.Span.{Span}
 use Rattle.disk_model.specs.declared.ops.Op.TheVariants.{Write}
 use Rattle.disk_model.specs.Steps.{Work}
@@ -7,6 +7,10 @@ use Rattle.disk_model.specs.Record.{Operation}
 use Rattle.disk_model.specs.Calls.{Submits}
 use Rattle.disk_model.specs.State.{State, tags_of}
 use Rattle.disk_model.specs.Submitting.{SubmitsAll, works_of}
+
+-- each tag is below those behind it
+abbrev pub AreRising : List ℕ → Type 0
+AreRising tags = AllPairs (λ (t u : ℕ). t < u) tags
 
 -- operations that do this were submitted, in this order, and got these tags
 pub record SubmitsWorks (old : State) (works : List Work) (tags : List ℕ) (new : State) : Type 0 where

@@ -1,5 +1,6 @@
 //! A batch before it starts.
-ghost use Rattle.std.specs.Prelude.{◌≡◌, ◌≤◌, ◌<◌, ◌+◌, ◌^◌, ◌-◌, ℕ, List, [], length, max, min, sum_by, vec_len, vec_capacity, All, IfOk, IfErr};
+ghost use Rattle.std.specs.Prelude.{◌≡◌, ◌≤◌, ◌<◌, ◌+◌, ◌^◌, ◌-◌, ℕ, List, [], length, max, min, sum_by, vec_len, All, IfOk, IfErr};
+ghost use Rattle.std.specs.VecDeque.{deque_capacity};
 ghost use Rattle.disk_batch.specs.Writes.{LieIn, span_count, disks_in};
 
 use crate::submitting::{submit_flushes, submit_writes};
@@ -7,17 +8,18 @@ use crate::{Batching, Writes};
 use disk_model::Shelf;
 use sector_base::PvSet;
 use std::alloc::{AllocError, Global};
+use std::collections::VecDeque;
 
 /// Writes, and the disks that are flushed once all have completed well.
 #[derive(Drop)]
 pub struct Batch {
     writes: Writes,
     disks: Vec<u32>,
-    tags: Vec<u64>,
+    tags: VecDeque<u64>,
     ghost some_disk: { 0 < length disks.items },
     ghost no_tags: { tags.items ≡ [] },
-    ghost room_for_writes: { length writes ≤ vec_capacity tags },
-    ghost room_for_flushes: { vec_len disks ≤ vec_capacity tags },
+    ghost room_for_writes: { length writes ≤ deque_capacity tags },
+    ghost room_for_flushes: { vec_len disks ≤ deque_capacity tags },
 }
 
 /// The writes of a batch for which memory was wanting.
@@ -41,7 +43,7 @@ impl Batch {
             return Err(BatchRefused { writes });
         };
         let room = writes.len().max(disks.len());
-        let Ok(tags) = Vec::with_capacity(alloc, room) else {
+        let Ok(tags) = VecDeque::with_capacity(alloc, room) else {
             return Err(BatchRefused { writes });
         };
         Ok(Batch {

@@ -1,21 +1,25 @@
 //! A batch on its way.
-ghost use Rattle.std.specs.Prelude.{◌≡◌, ◌≤◌, ◌<◌, ◌==◌, ◌↔◌, ℕ, List, length, filter, not, vec_len, vec_capacity, All, IsTrue, None};
+ghost use Rattle.std.specs.Prelude.{◌≡◌, ◌≤◌, ◌<◌, ◌==◌, ◌↔◌, ℕ, List, length, filter, not, vec_len, All, IsTrue, None};
+ghost use Rattle.std.specs.VecDeque.{deque_capacity};
 ghost use Rattle.disk_model.specs.Operations.{disk_of as disk_number};
+ghost use Rattle.disk_batch.specs.Submits.{AreRising};
 ghost use Rattle.disk_batch.specs.Views.{View};
 ghost use Rattle.disk_batch.specs.Views.{to_come};
 ghost use Rattle.disk_model.specs.InFlight.{IsAmong};
 
 use crate::submitting::submit_flushes;
 use disk_model::{Done, Op, Shelf};
+use std::collections::VecDeque;
 
 /// A batch whose operations are in flight.
 #[derive(Drop)]
 pub struct Batching {
     disks: Vec<u32>,
-    tags: Vec<u64>,
+    tags: VecDeque<u64>,
     flushing: bool,
     lost: Option<u32>,
-    ghost room: { vec_len disks ≤ vec_capacity tags },
+    ghost room: { vec_len disks ≤ deque_capacity tags },
+    ghost rising: { AreRising tags.items },
 }
 
 /// What a batch came to.
@@ -33,8 +37,9 @@ impl Batching {
     ghost use Rattle.disk_batch.specs.Batches.{Goes, view_of};
 
     // A batch that has submitted the operations with these tags.
-    pub(crate) fn from_parts(disks: Vec<u32>, tags: Vec<u64>, flushing: bool) -> Self
-        requires { vec_len disks ≤ vec_capacity tags }
+    pub(crate) fn from_parts(disks: Vec<u32>, tags: VecDeque<u64>, flushing: bool) -> Self
+        requires room { vec_len disks ≤ deque_capacity tags }
+        requires rising { AreRising tags.items }
         ensures { view_of result ≡ record { tags = tags.items; flush = disks.items; flushing = flushing; lost = None } }
     {
         Batching {
@@ -96,12 +101,18 @@ impl Batching {
     }
 }
 
-// Takes the tag out.
-fn without(tags: &mut Vec<u64>, tag: u64)
+// Takes the tag out: it is the first one where operations complete in the order of their submission.
+fn without(tags: &mut VecDeque<u64>, tag: u64)
+    requires rising { AreRising tags.old.items }
     ensures items { tags.new.items ≡ filter (λ t. not (t == tag)) tags.old.items }
-    ensures capacity { vec_capacity tags.new ≡ vec_capacity tags.old }
+    ensures rising { AreRising tags.new.items }
+    ensures capacity { deque_capacity tags.new ≡ deque_capacity tags.old }
 {
-    tags.retain(|t| *t != tag);
+    if tags.front() == Some(&tag) {
+        tags.pop_front();
+    } else {
+        tags.retain(|t| *t != tag);
+    }
 }
 
 // The disk of the operation.
