@@ -1,14 +1,13 @@
 //! The pairs `-d NAME`.
 ghost use Rattle.std.specs.Prelude.{◌≡◌, None, Some, IfOk, IsErrOf};
-ghost use Rattle.std.specs.List.{list_any};
-ghost use Rattle.std.specs.Str.{bytes_eq};
 ghost use Rattle.std.specs.String.{string_bytes};
 ghost use Rattle.lvm_script.specs.Options.{words_of};
 ghost use Rattle.lvm_words.specs.Disks.{all_differ, are_disks, disks_front, disks_named, front_of, is_disk_option};
 
 use crate::WordsRefusal;
 use lvm_script::{DiskNames, is_disk_name};
-use std::alloc::Global;
+use std::alloc::{AllocError, Global};
+use std::collections::BTreeSet;
 
 /// The most disks that a run has.
 const MOST_DISKS: usize = 64;
@@ -36,7 +35,7 @@ pub fn disks_front(
     ensures no_meaning { IsErrOf result WordsRefusal.NoMeaning → disks_front (words_of words.now) ≡ None }
 {
     let (names, rest) = front(alloc, words)?;
-    if are_disks(&names) {
+    if are_disks(alloc, &names)? {
         Ok((names, rest))
     } else {
         Err(WordsRefusal::NoMeaning)
@@ -71,27 +70,21 @@ fn is_disk_option(word: &String) -> bool
 }
 
 // Whether a run can have these disks.
-fn are_disks(names: &[String]) -> bool
-    ensures { result ≡ are_disks (words_of names.now) }
+fn are_disks(alloc: Global, names: &[String]) -> Result<bool, AllocError>
+    ensures { IfOk result (λ can. can ≡ are_disks (words_of names.now)) }
 {
-    !names.is_empty() && names.len() <= MOST_DISKS && all_differ(names)
+    Ok(!names.is_empty() && names.len() <= MOST_DISKS && all_differ(alloc, names)?)
 }
 
-// Whether no name stands twice.
-fn all_differ(names: &[String]) -> bool
-    ensures { result ≡ all_differ (words_of names.now) }
+// Whether no name stands twice: none is one of those behind it.
+fn all_differ(alloc: Global, names: &[String]) -> Result<bool, AllocError>
+    ensures { IfOk result (λ differ. differ ≡ all_differ (words_of names.now)) }
 {
-    for at in 0..names.len() {
-        if is_among(&names[at], &names[at + 1..]) {
-            return false;
+    let mut behind = BTreeSet::new(alloc);
+    for at in (0..names.len()).rev() {
+        if !behind.insert(names[at].as_str())? {
+            return Ok(false);
         }
     }
-    true
-}
-
-// Whether the name is one of these.
-fn is_among(name: &String, names: &[String]) -> bool
-    ensures { result ≡ list_any (λ other. bytes_eq (string_bytes name.now) (string_bytes other)) names.now }
-{
-    names.iter().any(|other| name.as_str() == other.as_str())
+    Ok(true)
 }

@@ -1,8 +1,8 @@
--- Whether a name stands twice is so of the names that are left.
-use Rattle.std.proofs.Common.{◌≡◌, drop}
+-- None of the names that are behind stands twice, and the set has just these.
+use Rattle.std.proofs.Common.{drop}
 use Rattle.lvm_script.specs.Options.{words_of}
-use Rattle.lvm_words.specs.Disks.{all_differ}
+use Rattle.lvm_words.proofs.Differing.{DifferIn}
 use Rattle.lvm_words.proofs.disks.all_differ.Given as goal
 
 abbrev pub invariant-loop-at : goal.invariant-loop-at
-invariant-loop-at l = all_differ (words_of l.names) ≡ all_differ (words_of (drop l.at l.names))
+invariant-loop-at l = DifferIn l.behind (words_of (drop l.at l.names))
