@@ -4,6 +4,7 @@ ghost use Rattle.file_shelf.specs.Sizes.{IsSize};
 
 use crate::descriptors::is_spared;
 use crate::sizes::size_of_disk;
+use std::collections::BTreeSet;
 use std::fs::{File, Files, Metadata, OpenFile, OpenOptions, TryLockError};
 use std::os::fd::AsRawFd;
 use std::os::unix::fs::{FileExt, MetadataExt};
@@ -85,7 +86,7 @@ impl From<TryLockError> for OpenCause {
 }
 
 /// Which file of the system it is: two names reach the same file exactly where their files have the same node.
-#[derive(Clone, Copy, Debug, PartialEq, Eq)]
+#[derive(Clone, Copy, Debug, PartialEq, Eq, PartialOrd, Ord)]
 pub struct Node {
     pub device: u64,
     pub inode: u64,
@@ -129,22 +130,22 @@ where
     }
 }
 
-/// Opens the file of a disk, and locks it. It is another one than these. Its size is asked for once it is locked.
+/// Opens the file of a disk, and locks it. Its node is none of these. Its size is asked for once it is locked.
 pub fn open_image<R: Files>(
     rt: &R,
     access: Access,
     name: &str,
-    others: &[Image<R::File>],
+    others: &BTreeSet<Node>,
 ) -> Result<Image<R::File>, OpenCause>
 where
     R::File: ImageFile,
     ensures size { IfOk result (λ image. IsSize image.sectors) }
     ensures spared { IfOk result (λ image. IfSome (R.File.raw_fd image.file) (λ fd. pos 2 <ℤ fd)) }
-    ensures other { IfOk result (λ image. All (λ other. other.node ≢ image.node) others.now) }
+    ensures other { IfOk result (λ image. All (λ other. other ≢ image.node) others.now.keys) }
 {
     let file = open_regular(rt, access, name)?;
     let node = node_of(&file.metadata()?)?;
-    if others.iter().any(|other| other.node == node) {
+    if others.contains(&node) {
         return Err(OpenCause::NamedTwice);
     }
     match access {

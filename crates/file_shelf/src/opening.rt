@@ -6,6 +6,7 @@ ghost use Rattle.file_shelf.specs.Sizes.{IsSize};
 use crate::descriptors::hold_standard;
 use crate::image::{Access, Image, ImageFile, OpenCause, open_image};
 use std::alloc::{AllocError, AllocFailed, Global};
+use std::collections::BTreeSet;
 use std::fs::Files;
 use thiserror::Error;
 
@@ -60,9 +61,13 @@ where
     }
     let _held = hold_standard(rt, alloc)?;
     let mut images = Vec::new(alloc);
+    let mut nodes = BTreeSet::new(alloc);
     for (number, name) in names.iter().enumerate() {
-        match open_image(rt, access, name.as_str(), &images) {
-            Ok(image) => images.push(image)?,
+        match open_image(rt, access, name.as_str(), &nodes) {
+            Ok(image) => {
+                nodes.insert(image.node)?;
+                images.push(image)?;
+            }
             Err(cause) => return Err(OpenFault::File(number as u32, cause)),
         }
     }
