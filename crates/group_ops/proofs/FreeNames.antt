@@ -1,15 +1,15 @@
 -- The name of a new physical volume is a name that no volume has.
-use Rattle.std.proofs.Common.{◌≡◌, ◌≢◌, ◌≤◌, ◌<◌, ℕ, zero, suc, ◌+◌, ◌-◌, ◌^◌, Bool, true, false, not, ◌||◌, cond, List, [], ◌∷◌, ◌++◌, length, get_or, map, Option, Some, None, refl, sym, ap, ◌∙◌, length-append, arith}
+use Rattle.std.proofs.Common.{◌≡◌, ◌≢◌, ◌≤◌, ◌<◌, ℕ, zero, suc, ◌+◌, ◌^◌, Bool, true, false, not, ◌||◌, cond, List, [], ◌∷◌, ◌++◌, drop, length, get_or, map, Option, Some, None, refl, sym, ap, ◌∙◌, length-append, ⊎_elim, eq-or-lt_of_le, arith}
 use Rattle.std.specs.Prelude.{◌==◌, nat_eq, nat_le, find, unwrap_or, codes}
 use Rattle.std.specs.Char.{is_ascii_digit}
 use Rattle.std.specs.Fmt.{decimal}
 use Rattle.std.specs.List.{AllByRecursion as Each, IsDistinct, list_all, list_any, position, position_from, range_with_len}
 use Rattle.std.specs.Cmp.Lexicographic.{nat_list_eq_equiv, pointwise, same_text}
-use Rattle.std.proofs.lemmas.Bool.{and_parts, false_from_ne_true, le-leb, ne_eqb, not-true, true≢false}
+use Rattle.std.proofs.lemmas.Bool.{and_parts, cases_eq, cases_order, false_from_ne_true, le-leb, ne_eqb, not-true, true≢false}
 use Rattle.std.proofs.lemmas.Fmt.{decimal_injective, length-decimal-le}
 use Rattle.std.proofs.lemmas.Iterator.Adapters.{position_from-zero}
 use Rattle.std.proofs.lemmas.List.FromFn.{get_or-map-range_with_len, length-map-range_with_len}
-use Rattle.std.proofs.lemmas.List.{length-map}
+use Rattle.std.proofs.lemmas.List.{drop_more, length-map}
 use Rattle.std.proofs.lemmas.List.Folds.{list_any-append}
 use Rattle.std.proofs.lemmas.Map.Keys.{IsDistinct-from_apart}
 use Rattle.std.proofs.lemmas.Map.Made.{length-le_from_is_member}
@@ -19,7 +19,9 @@ use Rattle.meta_print.proofs.Numbered.{decimal_digits}
 use Rattle.meta_model.specs.Tables.{names_of}
 use Rattle.meta_model.specs.declared.lv.Lv.{Lv}
 use Rattle.meta_model.specs.declared.pv.Pv.{Pv}
-use Rattle.group_ops.specs.NewGroup.{free_number, is_free, names_in, pv_name}
+use Rattle.group_ops.specs.Added.{pv_of}
+use Rattle.group_ops.specs.NewGroup.{free_number, is_free, names_in, pv_name, with_added}
+use Rattle.group_ops.specs.declared.added.Added.{Added}
 
 -- ---- which numbers are free
 
@@ -66,13 +68,13 @@ all_members : (names xs : List (List ℕ)) (q : List ℕ) → Each (λ x. is_amo
 all_members names [] q all any = absurd (true≢false (sym any))
 all_members names (x ∷ xs) q all any = member_by names q x xs (pointwise nat_eq q x) refl all.0 (all_members names xs q all.1) any
 
+taken : (b : Bool) → not b ≡ false → b ≡ true
+taken true is = refl
+taken false is = absurd (true≢false is)
+
 taken_names : (names : List (List ℕ)) (ns : List ℕ) → Each (λ n. is_free names n ≡ false) ns → Each (λ x. is_among names x ≡ true) (map pv_name ns)
 taken_names names [] all = tt
 taken_names names (n ∷ ns) all = (taken (is_among names (pv_name n)) all.0, taken_names names ns all.1)
-  where
-    taken : (b : Bool) → not b ≡ false → b ≡ true
-    taken true is = refl
-    taken false is = absurd (true≢false is)
 
 -- so many names can't all be taken
 free_by : (names : List (List ℕ)) (o : Option ℕ) → length names + 1 < 2 ^ 64 → find (is_free names) (range_with_len 0 (length names + 1)) ≡ o → (unwrap_or o 0 < length names + 1) × (is_free names (unwrap_or o 0) ≡ true)
@@ -137,25 +139,87 @@ free_not_taken pvs lvs name few is taken =
     let other : is_among names (pv_name (free_number names)) ≡ false = (free names (omega (arith, few, names_length pvs lvs))).1 in
     true≢false (sym (among_first (names_of pvs) (names_of lvs) name taken) ∙ ap (is_among names) is ∙ other)
 
-here_by : (p : ℕ → Bool) (n k m : ℕ) → k ≡ suc m → p n ≡ true → find p (range_with_len n k) ≡ Some n
-here_by p n k m is passes = ap (λ (j : ℕ). find p (range_with_len n j)) is ∙ ap (λ (b : Bool). cond b (Some n) (find p (range_with_len (n + 1) m))) passes
+-- a name below the free one is taken
+taken_by : (p : ℕ → Bool) (a n k : ℕ) (b : Bool) → p a ≡ b → cond b (Some a) (find p (range_with_len (a + 1) n)) ≡ Some k → (j : ℕ) → a ≤ j → j < k
+    → (find p (range_with_len (a + 1) n) ≡ Some k → a + 1 ≤ j → p j ≡ false) → p j ≡ false
+taken_by p a n k true is found j from below later = let same : a ≡ k = same_Some a k found in absurd (omega (arith, same, from, below))
+taken_by p a n k false is found j from below later = ⊎_elim (λ here. ap p (sym here) ∙ is) (λ other. later found (omega (arith, from, other))) (cases_eq a j)
 
-past_by : (p : ℕ → Bool) (n k m : ℕ) → k ≡ suc m → p n ≡ false → find p (range_with_len n k) ≡ find p (range_with_len (n + 1) m)
-past_by p n k m is other = ap (λ (j : ℕ). find p (range_with_len n j)) is ∙ ap (λ (b : Bool). cond b (Some n) (find p (range_with_len (n + 1) m))) other
+found_first : (p : ℕ → Bool) (a n k : ℕ) → find p (range_with_len a n) ≡ Some k → (j : ℕ) → a ≤ j → j < k → p j ≡ false
+found_first p a zero k found j from below = absurd cc
+found_first p a (suc n) k found j from below = taken_by p a n k (p a) refl found j from below (λ later next. found_first p (a + 1) n k later j next below)
 
--- a free name is the one that is looked for
-pub free_here : (names : List (List ℕ)) (n : ℕ) (name : List ℕ) (free : Bool) → n < length names + 1 → name ≡ pv_name n → free ≡ not (is_among names name) → free ≡ true
-    → find (is_free names) (range_with_len n (length names + 1 - n)) ≡ find (is_free names) (range_with_len 0 (length names + 1)) → name ≡ pv_name (free_number names)
+below_free : (p : ℕ → Bool) (o : Option ℕ) (n : ℕ) → find p (range_with_len 0 n) ≡ o → (j : ℕ) → j < unwrap_or o 0 → p j ≡ false
+below_free p None n found j below = absurd (omega (arith, below))
+below_free p (Some k) n found j below = found_first p 0 n k found j (omega arith) below
+
+pub taken_below : (names : List (List ℕ)) (j : ℕ) → j < free_number names → is_free names j ≡ false
 unfolding free_number
-free_here names n name free within named told is found =
-    let passes : is_free names n ≡ true = ap (λ (x : List ℕ). not (is_among names x)) (sym named) ∙ sym told ∙ is in
-    let first : find (is_free names) (range_with_len 0 (length names + 1)) ≡ Some n = sym found ∙ here_by (is_free names) n (length names + 1 - n) (length names - n) (omega (arith, within)) passes in
-    named ∙ ap (λ (o : Option ℕ). pv_name (unwrap_or o 0)) (sym first)
+taken_below names j below = below_free (is_free names) (find (is_free names) (range_with_len 0 (length names + 1))) (length names + 1) refl j below
 
--- behind one that isn't free, the search is the same
-pub free_past : (names : List (List ℕ)) (n : ℕ) (name : List ℕ) (free : Bool) → n < length names + 1 → name ≡ pv_name n → free ≡ not (is_among names name) → free ≡ false
-    → find (is_free names) (range_with_len n (length names + 1 - n)) ≡ find (is_free names) (range_with_len 0 (length names + 1))
-    → find (is_free names) (range_with_len (n + 1) (length names + 1 - (n + 1))) ≡ find (is_free names) (range_with_len 0 (length names + 1))
-free_past names n name free within named told is found =
+-- a name that is free and at most the free one is this
+pub free_here : (names : List (List ℕ)) (n : ℕ) (name : List ℕ) (b : Bool) → n ≤ free_number names → name ≡ pv_name n → b ≡ not (is_among names name) → b ≡ true → n ≡ free_number names
+free_here names n name b from named told is =
+    let passes : is_free names n ≡ true = ap (λ (x : List ℕ). not (is_among names x)) (sym named) ∙ sym told ∙ is in
+    ⊎_elim (λ same. same) (λ below. absurd (true≢false (sym passes ∙ taken_below names n below))) (eq-or-lt_of_le from)
+
+-- the free one lies behind one that isn't
+pub free_past : (names : List (List ℕ)) (n : ℕ) (name : List ℕ) (b : Bool) → length names + 1 < 2 ^ 64 → n ≤ free_number names → name ≡ pv_name n → b ≡ not (is_among names name) → b ≡ false → n + 1 ≤ free_number names
+free_past names n name b small from named told is =
     let other : is_free names n ≡ false = ap (λ (x : List ℕ). not (is_among names x)) (sym named) ∙ sym told ∙ is in
-    sym (past_by (is_free names) n (length names + 1 - n) (length names + 1 - (n + 1)) (omega (arith, within)) other) ∙ found
+    ⊎_elim
+    (λ same. absurd (true≢false (sym (ap not (free names small).1) ∙ ap (is_free names) (sym same) ∙ other)))
+    (λ below. omega (arith, below))
+    (eq-or-lt_of_le from)
+
+-- ---- with one physical volume more
+
+or_more : (b c d : Bool) → (c ≡ true → d ≡ true) → (b || c) ≡ true → (b || d) ≡ true
+or_more true c d more is = refl
+or_more false c d more is = more is
+
+or_last : (b d : Bool) → d ≡ true → (b || d) ≡ true
+or_last true d is = refl
+or_last false d is = is
+
+module _ (row : List ℕ × Pv) (lvs : List (List ℕ × Lv)) where
+  still_among : (pvs : List (List ℕ × Pv)) (name : List ℕ) → is_among (names_in pvs lvs) name ≡ true → is_among (names_in (pvs ++ row ∷ []) lvs) name ≡ true
+  still_among [] name is = or_last (pointwise nat_eq name row.0) (is_among (names_of lvs) name) is
+  still_among (pv ∷ pvs) name is = or_more (pointwise nat_eq name pv.0) (is_among (names_in pvs lvs) name) (is_among (names_in (pvs ++ row ∷ []) lvs) name) (still_among pvs name) is
+
+  own_among : (pvs : List (List ℕ × Pv)) → is_among (names_in (pvs ++ row ∷ []) lvs) row.0 ≡ true
+  own_among [] = ap (λ (b : Bool). b || is_among (names_of lvs) row.0) (nat_list_eq_equiv.refl row.0)
+  own_among (pv ∷ pvs) = or_last (pointwise nat_eq row.0 pv.0) (is_among (names_in (pvs ++ row ∷ []) lvs) row.0) (own_among pvs)
+
+next_after : (pvs : List (List ℕ × Pv)) (lvs : List (List ℕ × Lv)) (pv : Pv) → length pvs + length lvs + 1 < 2 ^ 32
+    → free_number (names_in pvs lvs) + 1 ≤ free_number (names_in (pvs ++ (pv_name (free_number (names_in pvs lvs)), pv) ∷ []) lvs)
+next_after pvs lvs pv few =
+    let last : ℕ = free_number (names_in pvs lvs) in
+    let row : List ℕ × Pv = (pv_name last, pv) in
+    let names : List (List ℕ) = names_in (pvs ++ row ∷ []) lvs in
+    let next : ℕ = free_number names in
+    let small : length names + 1 < 2 ^ 64 = omega (arith, few, names_length (pvs ++ row ∷ []) lvs, length-append pvs (row ∷ [])) in
+    let other : is_among names (pv_name next) ≡ false = (free names small).1 in
+    ⊎_elim
+    (λ same. absurd (true≢false (sym (own_among row lvs pvs) ∙ ap (λ (n : ℕ). is_among names (pv_name n)) same ∙ other)))
+    (⊎_elim
+    (λ below. omega (arith, below))
+    (λ above. absurd (true≢false (sym (still_among row lvs pvs (pv_name next) (taken (is_among (names_in pvs lvs) (pv_name next)) (taken_below (names_in pvs lvs) next above))) ∙ other))))
+    (cases_order last next)
+
+-- once a volume has the free name, the next one lies behind it
+pub free_after : (pvs new : List (List ℕ × Pv)) (lvs : List (List ℕ × Lv)) (name : List ℕ) (pv : Pv) (number : ℕ) → length pvs + length lvs + 1 < 2 ^ 32
+    → name ≡ pv_name (free_number (names_in pvs lvs)) → number ≡ free_number (names_in pvs lvs) → new ≡ pvs ++ (name, pv) ∷ [] → number + 1 ≤ free_number (names_in new lvs)
+free_after pvs new lvs name pv number few named last pushed =
+    let is : new ≡ pvs ++ (pv_name (free_number (names_in pvs lvs)), pv) ∷ [] = pushed ∙ ap (λ (name : List ℕ). pvs ++ (name, pv) ∷ []) named in
+    omega (arith, last, next_after pvs lvs pv few, ap (λ (rows : List (List ℕ × Pv)). free_number (names_in rows lvs)) is)
+
+-- a volume that was pushed is one fewer to be added
+pub added_next : (lvs : List (List ℕ × Lv)) (extent_size : ℕ) (pvs new : List (List ℕ × Pv)) (all : List Added) (i : ℕ) (own : Added) (name : List ℕ) (pv : Pv) → i < length all → own ≡ get_or all i own
+    → name ≡ pv_name (free_number (names_in pvs lvs)) → pv ≡ pv_of extent_size own → new ≡ pvs ++ (name, pv) ∷ []
+    → with_added lvs extent_size new (drop (i + 1) all) ≡ with_added lvs extent_size pvs (drop i all)
+added_next lvs extent_size pvs new all i own name pv within is named made pushed =
+    let row : (name, pv) ≡ (pv_name (free_number (names_in pvs lvs)), pv_of extent_size own) = λ j. (named j, made j) in
+    ap (λ (rows : List (List ℕ × Pv)). with_added lvs extent_size rows (drop (i + 1) all)) (pushed ∙ ap (λ (last : List ℕ × Pv). pvs ++ last ∷ []) row)
+    ∙ ap (λ (first : Added). with_added lvs extent_size pvs (first ∷ drop (i + 1) all)) is
+    ∙ sym (ap (with_added lvs extent_size pvs) (drop_more all i own within))

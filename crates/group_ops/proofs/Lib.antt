@@ -1,5 +1,9 @@
 pub mod Contents
 pub mod FreeNames
+pub mod ByNames
+pub mod ByDisks
+pub mod FoundIds
+pub mod NamedPvs
 pub mod Disks
 pub mod DataPlaces
 pub mod AddedFacts

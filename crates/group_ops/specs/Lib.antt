@@ -14,6 +14,7 @@ pub mod Lvremove
 pub mod Lvrename
 pub mod Members
 pub mod NewGroup
+pub mod Numbers
 pub mod Planning
 pub mod Pvcreate
 pub mod Sizes

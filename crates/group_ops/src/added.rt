@@ -1,10 +1,12 @@
 //! The physical volumes that a line adds to a group.
-ghost use Rattle.std.specs.Prelude.{◌≡◌, ◌≤◌, ◌^◌, [], ◌∷◌, IfOk, MatchResult, None};
+ghost use Rattle.std.specs.Prelude.{◌≡◌, ◌≤◌, ◌<◌, ◌^◌, [], ◌∷◌, length, IfOk, IfSome, MatchResult, None};
+ghost use Rattle.lvm_script.specs.Options.{number_named};
 ghost use Rattle.group_ops.specs.Added.{IsAdded, added_named, added_of, added_on, data_end, data_start, pv_of};
 ghost use Rattle.group_ops.specs.Judging.{IsRefusedBy, Judges, is_small, need_of, unknown_row};
 ghost use Rattle.group_ops.specs.State.{IsState};
 
 use crate::copied::copied_text;
+use crate::disks_by_name::DisksByName;
 use crate::{GroupState, PlanRefusal};
 use disk_contents::PvFound;
 use lvm_script::OpRefusal;
@@ -96,9 +98,11 @@ pub(crate) fn find_all_added(
         (λ all. (unknown_row state.now names.now ≡ None) × (all.items ≡ added_of state.now names.now))
         (IsRefusedBy (unknown_row state.now names.now)) }
 {
+    let disks = DisksByName::of(alloc, &state.names)?;
     let mut all = Vec::new(alloc);
     for name in names {
-        match find_added(alloc, state, name)? {
+        let number = disks.number_of(name.as_bytes());
+        match find_added(alloc, state, name, number)? {
             Some(added) => all.push(added)?,
             None => {
                 let name = copied_text(alloc, name)?;
@@ -140,20 +144,28 @@ pub(crate) fn judge_one_known(
     requires { IsState state.now }
     ensures { Judges result (unknown_row state.now (name.now ∷ [])) }
 {
-    if find_added(alloc, state, name)?.is_none() {
+    let number = state.names.number_of(name.as_bytes());
+    if find_added(alloc, state, name, number)?.is_none() {
         let name = copied_text(alloc, name)?;
         return Err(PlanRefusal::Refused(OpRefusal::UnknownPv(name)));
     }
     Ok(())
 }
 
-// The physical volume on the disk with this name, where one has it and holds one.
+// The physical volume on the disk with this name, whose number this is, where one has it and holds one.
 #[tactic(auto, unfolding(crate::specs::Added::added_named))]
-fn find_added(alloc: Global, state: &GroupState, name: &Text) -> Result<Option<Added>, AllocError>
-    requires { IsState state.now }
+fn find_added(
+    alloc: Global,
+    state: &GroupState,
+    name: &Text,
+    number: Option<u32>,
+) -> Result<Option<Added>, AllocError>
+    requires state { IsState state.now }
+    requires named { number ≡ number_named state.now.names name.now }
+    requires within { IfSome number (λ number. number < length state.now.names) }
     ensures { IfOk result (λ found. found ≡ added_named state.now name.now) }
 {
-    match state.names.number_of(name.as_bytes()) {
+    match number {
         Some(number) => { added_on(alloc, name, number, state.disks.get(number as usize)) }
         None => Ok(None),
     }

@@ -20,8 +20,8 @@ pub(crate) fn has_id(group: &Group, id: &LvmId) -> bool
     has_other_id(group, id) || has_pv_id(group, id)
 }
 
-/// Whether the group, or a logical volume of it, has the id.
-pub(crate) fn has_other_id(group: &Group, id: &LvmId) -> bool
+// Whether the group, or a logical volume of it, has the id.
+fn has_other_id(group: &Group, id: &LvmId) -> bool
     ensures { result ≡ has_other_id group.now id.now }
 {
     same_id(&group.id, id) || has_lv_id(group, id)
@@ -40,8 +40,8 @@ fn has_lv_id(group: &Group, id: &LvmId) -> bool
     false
 }
 
-/// Whether a physical volume of the group has it.
-pub(crate) fn has_pv_id(group: &Group, id: &LvmId) -> bool
+// Whether a physical volume of the group has it.
+fn has_pv_id(group: &Group, id: &LvmId) -> bool
     ensures { result ≡ has_pv_id group.now id.now }
 {
     for number in 0..group.pvs.len() {

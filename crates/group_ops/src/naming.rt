@@ -1,5 +1,5 @@
 //! The names of physical volumes in the text of their group.
-ghost use Rattle.std.specs.Prelude.{◌≡◌, ◌+◌, ◌<◌, ◌^◌, length, not, IfOk};
+ghost use Rattle.std.specs.Prelude.{◌≡◌, ◌+◌, ◌≤◌, ◌<◌, ◌^◌, length, not, IfOk};
 ghost use Rattle.lvm_name.specs.Names.{is_among};
 ghost use Rattle.group_ops.specs.NewGroup.{free_number, names_in, pv_name};
 
@@ -7,27 +7,31 @@ use lvm_name::{NameRefusal, VolumeName};
 use meta_model::{LvTable, PvTable};
 use std::alloc::{AllocError, Global};
 
-/// `pv` and the least number with which no physical and no logical volume is named.
+/// `pv` and the least number with which no physical and no logical volume is named, and that number. It is sought from this one
+/// on, below which none is free.
 ///
 /// # Errors
 ///
 /// Where memory is wanting.
-#[tactic(auto, unfolding(crate::specs::NewGroup::free_number))]
 pub(crate) fn free_name(
     alloc: Global,
     pvs: &PvTable,
     lvs: &LvTable,
-) -> Result<VolumeName, AllocError>
-    requires { length pvs.now + length lvs.now < 2 ^ 32 }
-    ensures { IfOk result (λ name. name ≡ pv_name (free_number (names_in pvs.now lvs.now))) }
+    from: usize,
+) -> Result<(VolumeName, usize), AllocError>
+    requires few { length pvs.now + length lvs.now < 2 ^ 32 }
+    requires taken { from ≤ free_number (names_in pvs.now lvs.now) }
+    ensures name { IfOk result (λ free. free.0 ≡ pv_name (free_number (names_in pvs.now lvs.now))) }
+    ensures number { IfOk result (λ free. free.1 ≡ free_number (names_in pvs.now lvs.now)) }
+    ensures within { IfOk result (λ free. free.1 ≤ length pvs.now + length lvs.now) }
 {
-    for number in 0..pvs.len() + lvs.len() + 1 {
+    for number in from..pvs.len() + lvs.len() + 1 {
         let name = pv_name(alloc, number as u64)?;
         if is_free(pvs, lvs, &name) {
-            return Ok(name);
+            return Ok((name, number));
         }
     }
-    pv_name(alloc, 0)
+    unreachable!()
 }
 
 // Whether neither a physical nor a logical volume has the name.

@@ -124,8 +124,10 @@ fn push_all(
     requires size { 1 ≤ extent_size }
     ensures { IfOk result (λ _. pvs.new ≡ with_added lvs.now extent_size pvs.old all.now) }
 {
+    let mut from = 0;
     for added in all {
-        let name = free_name(alloc, pvs, lvs)?;
+        let (name, number) = free_name(alloc, pvs, lvs, from)?;
+        from = number + 1;
         let pv = added.pv(alloc, extent_size)?;
         match pvs.push(name, pv) {
             Ok(()) => {}

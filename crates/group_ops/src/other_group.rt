@@ -11,7 +11,8 @@ ghost use Rattle.group_ops.specs.Vgcfgrestore.{id_lacked, lesser, other_group_ro
 
 use crate::PlanRefusal;
 use crate::copied::copied_bytes;
-use crate::ids::{has_pv_id, same_id};
+use crate::ids::same_id;
+use id_index::Members;
 use lvm_id::LvmId;
 use lvm_script::OpRefusal;
 use meta_model::Group;
@@ -23,11 +24,15 @@ use std::alloc::{AllocError, Global};
 /// # Errors
 ///
 /// `OtherGroup` for the first of these that differs; `NoMemory` where memory is wanting.
-pub(crate) fn judge_other(alloc: Global, said: &Group, found: &Group) -> Result<(), PlanRefusal>
+pub(crate) fn judge_other(
+    alloc: Global,
+    said: &Members<'_>,
+    found: &Members<'_>,
+) -> Result<(), PlanRefusal>
     ensures { Judges result (first_refusal (other_group_rows said.now found.now)) }
 {
-    judge_id(alloc, said, found)?;
-    judge_names(alloc, said, found)?;
+    judge_id(alloc, said.group(), found.group())?;
+    judge_names(alloc, said.group(), found.group())?;
     judge_pvs(alloc, said, found)
 }
 
@@ -62,11 +67,11 @@ fn has_name_of(said: &Group, found: &Group) -> bool
 }
 
 // They have the same physical volumes.
-fn judge_pvs(alloc: Global, said: &Group, found: &Group) -> Result<(), PlanRefusal>
+fn judge_pvs(alloc: Global, said: &Members<'_>, found: &Members<'_>) -> Result<(), PlanRefusal>
     ensures { Judges result (other_pvs_row (id_lacked found.now said.now) (id_lacked said.now found.now)) }
 {
-    let more = id_lacked(found, said);
-    let fewer = id_lacked(said, found);
+    let more = id_lacked(found, said.group());
+    let fewer = id_lacked(said, found.group());
     if more.is_some() || fewer.is_some() {
         let one = shown_id(alloc, more)?;
         let other = shown_id(alloc, fewer)?;
@@ -76,7 +81,7 @@ fn judge_pvs(alloc: Global, said: &Group, found: &Group) -> Result<(), PlanRefus
 }
 
 // The least id of a physical volume of the group that the other one lacks.
-fn id_lacked(other: &Group, group: &Group) -> Option<LvmId>
+fn id_lacked(other: &Members<'_>, group: &Group) -> Option<LvmId>
     ensures { result ≡ id_lacked other.now group.now }
 {
     let mut least = None;
@@ -88,10 +93,10 @@ fn id_lacked(other: &Group, group: &Group) -> Option<LvmId>
 }
 
 // The least with this one, where the other group lacks it.
-fn least_with(other: &Group, least: Option<LvmId>, id: &LvmId) -> Option<LvmId>
+fn least_with(other: &Members<'_>, least: Option<LvmId>, id: &LvmId) -> Option<LvmId>
     ensures { result ≡ (if has_pv_id other.now id.now then least else Some (lesser least id.now)) }
 {
-    if has_pv_id(other, id) {
+    if other.has(id) {
         least
     } else {
         Some(lesser(least, id))

@@ -1,18 +1,18 @@
 //! Whether the physical volumes of a group lie well on the disks.
-ghost use Rattle.std.specs.Prelude.{◌≡◌, ◌+◌, ◌*◌, ◌&&◌, All, map};
+ghost use Rattle.std.specs.Prelude.{◌≡◌, ◌+◌, ◌*◌, map};
 ghost use Rattle.std.specs.List.{list_any};
-ghost use Rattle.scan_rules.specs.Decision.{is_misplaced, meets_area, same_bytes};
+ghost use Rattle.scan_rules.specs.Decision.{is_misplaced, meets_area};
 ghost use Rattle.scan_rules.specs.Found.{is_this_misplaced};
 ghost use Rattle.vg_found.specs.Disks.{area_shape, disk_shape, pv_shape};
-ghost use Rattle.volume_rules.specs.Rules.{FitsDevice, IsAccepted};
+ghost use Rattle.volume_rules.specs.Rules.{FitsDevice};
 ghost use Rattle.group_ops.specs.Judging.{Judges};
 ghost use Rattle.group_ops.specs.Vgcfgrestore.{is_misshapen, shape_row};
 
 use crate::PlanRefusal;
-use crate::ids::same_id;
 use disk_contents::PvFound;
+use id_index::Members;
 use lvm_script::OpRefusal;
-use meta_model::{Group, Pv};
+use meta_model::Pv;
 use pv_header::{Extent, PvHeader};
 use vg_found::Disk;
 
@@ -22,12 +22,11 @@ use vg_found::Disk;
 /// # Errors
 ///
 /// Else `BadRule`, behind the rules of groups.
-pub(crate) fn judge_shape(disks: &[Disk], group: &Group) -> Result<(), PlanRefusal>
-    requires { All (λ pv. FitsDevice group.now.extent_size pv.1) group.now.pvs }
-    ensures { Judges result (shape_row group.now disks.now) }
+pub(crate) fn judge_shape(disks: &[Disk], members: &Members<'_>) -> Result<(), PlanRefusal>
+    ensures { Judges result (shape_row members.now disks.now) }
 {
     for disk in disks {
-        if is_misshapen(group, disk) {
+        if is_misshapen(members, disk) {
             return Err(PlanRefusal::Refused(OpRefusal::BadRule(15)));
         }
     }
@@ -35,39 +34,31 @@ pub(crate) fn judge_shape(disks: &[Disk], group: &Group) -> Result<(), PlanRefus
 }
 
 // Whether those of the physical volume on this disk don't.
-fn is_misshapen(group: &Group, disk: &Disk) -> bool
-    requires { All (λ pv. FitsDevice group.now.extent_size pv.1) group.now.pvs }
-    ensures { result ≡ is_misshapen group.now disk.now }
+fn is_misshapen(members: &Members<'_>, disk: &Disk) -> bool
+    ensures { result ≡ is_misshapen members.now disk.now }
 {
     match &disk.contents {
-        Some(PvFound::Whole { header, .. }) => is_any_misplaced(group, disk, header),
+        Some(PvFound::Whole { header, .. }) => has_misplaced_volume(members, disk, header),
         _ => false,
     }
 }
 
-// Whether one of the group that has the header's id doesn't lie well on its disk.
-fn is_any_misplaced(group: &Group, disk: &Disk, header: &PvHeader) -> bool
-    requires { All (λ pv. FitsDevice group.now.extent_size pv.1) group.now.pvs }
-    ensures { result ≡ list_any (is_this_misplaced group.now.extent_size (disk_shape disk.now) (pv_shape header.now)) group.now.pvs }
+// Whether the one of the group that has the header's id doesn't lie well on its disk. At most one has it.
+fn has_misplaced_volume(members: &Members<'_>, disk: &Disk, header: &PvHeader) -> bool
+    ensures { result ≡ list_any (is_this_misplaced members.now.extent_size (disk_shape disk.now) (pv_shape header.now)) members.now.pvs }
 {
-    for place in 0..group.pvs.len() {
-        let (_, pv) = group.pvs.get(place);
-        if is_this_misplaced(group.extent_size, disk, header, pv) {
-            return true;
-        }
+    let group = members.group();
+    match members.get(&header.id) {
+        Some(pv) => leaves_place(group.extent_size, disk, header, pv),
+        None => false,
     }
-    false
 }
 
-// Whether this one has its id, and doesn't.
-fn is_this_misplaced(extent_size: u64, disk: &Disk, header: &PvHeader, pv: &Pv) -> bool
+// Whether this one doesn't.
+fn leaves_place(extent_size: u64, disk: &Disk, header: &PvHeader, pv: &Pv) -> bool
     requires { FitsDevice extent_size pv.now }
-    ensures { result ≡ (same_bytes pv.now.id header.now.id
-        && is_misplaced pv.now.pe_start (pv.now.pe_start + pv.now.pe_count * extent_size) (disk_shape disk.now) (pv_shape header.now)) }
+    ensures { result ≡ is_misplaced pv.now.pe_start (pv.now.pe_start + pv.now.pe_count * extent_size) (disk_shape disk.now) (pv_shape header.now) }
 {
-    if !same_id(&pv.id, &header.id) {
-        return false;
-    }
     is_misplaced(
         pv.pe_start,
         pv.pe_start + pv.pe_count * extent_size,

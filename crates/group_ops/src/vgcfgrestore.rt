@@ -2,7 +2,6 @@
 ghost use Rattle.std.specs.Prelude.{◌≡◌, ◌≤◌, ◌||◌, ◌==◌, Some, IfOk, IsTrue, is_some, length};
 ghost use Rattle.lvm_script.specs.declared.op_refusal.OpRefusal.TheVariants.{MoveStands, SeqnoEnd};
 ghost use Rattle.vg_found.specs.Disks.{disks_of};
-ghost use Rattle.volume_rules.specs.Rules.{IsAccepted};
 ghost use Rattle.group_edits.specs.RestoredGroup.{restored_group};
 ghost use Rattle.group_ops.specs.Committing.{change_where_found, rows_where_found, version_change_on};
 ghost use Rattle.group_ops.specs.Judging.{IsRefusedBy, Judges, first_refusal, refused_if};
@@ -18,6 +17,7 @@ use crate::other_group::judge_other;
 use crate::shape::judge_shape;
 use crate::{Backup, Change, GroupState, PlanRefusal};
 use group_edits::restored_group;
+use id_index::Members;
 use lvm_script::OpRefusal;
 use meta_model::Group;
 use sector_base::{PvDisks, Text};
@@ -114,7 +114,7 @@ fn restore_group(
     requires found { state.now.group ≡ Some found.now }
     ensures { Plans (sound_rows state.now found.now said.now now) (version_change_on (disks_of said.now state.now.disks) (restored_group found.now said.now)) result }
 {
-    judge_sound(alloc, state, found.group(), said.group())?;
+    judge_sound(alloc, state, found, said)?;
     let next = restored_group(alloc, found, said)?;
     let disk_of = disks_of(alloc, said.group(), state.disks.as_slice())?;
     commit_version_on(alloc, state, disk_of, next, now)
@@ -124,16 +124,17 @@ fn restore_group(
 fn judge_sound(
     alloc: Global,
     state: &GroupState,
-    found: &Group,
-    said: &Group,
+    found: &Checked,
+    said: &Checked,
 ) -> Result<(), PlanRefusal>
-    requires state { IsState state.now }
-    requires said { IsAccepted said.now }
+    requires { IsState state.now }
     ensures { Judges result (first_refusal (sound_tests state.now found.now said.now)) }
 {
-    judge_both(alloc, state, found, said)?;
-    judge_shape(state.disks.as_slice(), said)?;
-    judge_other(alloc, said, found)
+    judge_both(alloc, state, found.group(), said.group())?;
+    let said = Members::of(alloc, said)?;
+    let found = Members::of(alloc, found)?;
+    judge_shape(state.disks.as_slice(), &said)?;
+    judge_other(alloc, &said, &found)
 }
 
 // Why a text that gives no group, by this kind, isn't restored.

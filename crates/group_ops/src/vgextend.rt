@@ -1,6 +1,8 @@
 //! vgextend(8): its refusals, in their order, and its change.
 ghost use Rattle.std.specs.Prelude.{◌≡◌, ◌≤◌, ◌<◌, ◌^◌, Some, All, length};
+ghost use Rattle.id_index.specs.Ids.{lvs_by_id};
 ghost use Rattle.group_ops.specs.Added.{IsAdded};
+ghost use Rattle.group_ops.specs.Ids.{has_other_id};
 ghost use Rattle.group_ops.specs.Judging.{Judges, first_refusal};
 ghost use Rattle.group_ops.specs.Planning.{Plans, extend_by};
 ghost use Rattle.group_ops.specs.State.{IsState};
@@ -8,11 +10,13 @@ ghost use Rattle.group_ops.specs.Vgextend.{extend_rows, found_rows, group_rows, 
 
 use crate::added::find_all_added;
 use crate::committing::{judge_name, judge_resizeable, judge_seqno, judge_write, unknown_group};
-use crate::ids::has_other_id;
+use crate::ids::same_id;
 use crate::judging::{MOST_PVS, judge_areas, judge_count, judge_sizes, judge_used};
 use crate::new_group::{commit, disks_with};
 use crate::{Added, Change, GroupState, PlanRefusal};
 use group_edits::next_version;
+use id_index::{IdMap, lvs_by_id};
+use lvm_id::LvmId;
 use lvm_script::OpRefusal;
 use meta_model::Group;
 use sector_base::Text;
@@ -87,6 +91,7 @@ fn judge_added(
     requires added { All IsAdded all.now }
     requires size { group.now.extent_size ≤ 2 ^ 31 }
     requires few { length group.now.pvs ≤ 64 }
+    requires volumes { length group.now.lvs ≤ 1024 }
     ensures { Judges result (first_refusal (extend_rows state.now group.now all.now)) }
 {
     judge_used(alloc, state.disk_of.as_slice(), all)?;
@@ -96,18 +101,28 @@ fn judge_added(
     let count = group.pvs.len() + all.len();
     judge_count(MOST_PVS, group.max_pv, count as u64)?;
     judge_seqno(group)?;
-    judge_ids(group, all)
+    judge_ids(alloc, group, all)
 }
 
 // None of these has an id of the group or of a logical volume.
 #[tactic(auto, unfolding(crate::specs::Vgextend::other_id_row))]
-fn judge_ids(group: &Group, all: &[Added]) -> Result<(), PlanRefusal>
+fn judge_ids(alloc: Global, group: &Group, all: &[Added]) -> Result<(), PlanRefusal>
+    requires { length group.now.lvs ≤ 1024 }
     ensures { Judges result (other_id_row group.now all.now) }
 {
+    let lvs = lvs_by_id(alloc, &group.lvs)?;
     for added in all {
-        if has_other_id(group, &added.header.id) {
+        if is_other_id(group, &lvs, &added.header.id) {
             return Err(PlanRefusal::Refused(OpRefusal::IdTaken(added.header.id)));
         }
     }
     Ok(())
+}
+
+// Whether the id is the group's, or one of these, which are those of its logical volumes.
+fn is_other_id(group: &Group, lvs: &IdMap, id: &LvmId) -> bool
+    requires { lvs.now ≡ lvs_by_id 0 group.now.lvs }
+    ensures { result ≡ has_other_id group.now id.now }
+{
+    same_id(&group.id, id) || lvs.contains(id)
 }

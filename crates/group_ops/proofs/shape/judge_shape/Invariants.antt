@@ -4,4 +4,4 @@ use Rattle.group_ops.specs.Vgcfgrestore.{is_misshapen}
 use Rattle.group_ops.proofs.shape.judge_shape.Given as goal
 
 abbrev pub invariant-loop-disk : goal.invariant-loop-disk
-invariant-loop-disk l = list_any (is_misshapen l.group) (drop l.disk-index l.disks) ≡ list_any (is_misshapen l.group) l.disks
+invariant-loop-disk l = list_any (is_misshapen l.members) (drop l.disk-index l.disks) ≡ list_any (is_misshapen l.members) l.disks

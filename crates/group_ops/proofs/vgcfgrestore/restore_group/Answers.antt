@@ -9,7 +9,7 @@ use Rattle.group_edits.specs.RestoredGroup.{restored_group}
 use Rattle.group_ops.proofs.Chained.{plans_back, refused_front}
 use Rattle.group_ops.proofs.SoundBackup.{sound_disks}
 use Rattle.group_ops.proofs.StateFacts.{IsBelow, areas_take}
-use Rattle.group_ops.specs.Judging.{IsRefusedBy, first_refusal}
+use Rattle.group_ops.specs.Judging.{first_refusal}
 use Rattle.group_ops.specs.Committing.{length_row_on, version_change_on}
 use Rattle.group_ops.specs.Planning.{Plans}
 use Rattle.group_ops.specs.Vgcfgrestore.{sound_tests}
@@ -21,18 +21,14 @@ returns-in_err-judge_sound c =
     let state = c.args.state.now in
     rw (p.1, p.2)
     (refused_front (sound_tests state c.args.found.now c.args.said.now) (length_row_on state (disks_of c.args.said.now state.disks) (restored_group c.args.found.now c.args.said.now) c.args.now ∷ []) _
-    (subst (λ (g : Group). IsRefusedBy (first_refusal (sound_tests state g c.args.said.now)) c.in_err-judge_sound.field-0.0) c.group.ensures.group
-    (subst (λ (g : Group). IsRefusedBy (first_refusal (sound_tests state c.group.result.now g)) c.in_err-judge_sound.field-0.0) c.group-2.ensures.group c.in_err-judge_sound.ensures)))
+    c.in_err-judge_sound.ensures)
 
 pub commit_version_on-requires-clause-disks : goal.commit_version_on-requires-clause-disks
 commit_version_on-requires-clause-disks c =
     let state = c.args.state.now in
-    let none : first_refusal (sound_tests state c.args.found.now c.args.said.now) ≡ None =
-    subst (λ (g : Group). first_refusal (sound_tests state g c.args.said.now) ≡ None) c.group.ensures.group
-    (subst (λ (g : Group). first_refusal (sound_tests state c.group.result.now g) ≡ None) c.group-2.ensures.group c.in_ok-judge_sound.ensures)
-    in
+    let none : first_refusal (sound_tests state c.args.found.now c.args.said.now) ≡ None = c.in_ok-judge_sound.ensures in
     subst (All IsBelow)
-    (sym (c.in_ok-disk_of.ensures ∙ ap (λ (g : Group). disks_of g c.as_slice.result.now) c.group-3.ensures.group ∙ ap (λ (l : List Disk). disks_of c.args.said.now l) c.as_slice.ensures))
+    (sym (c.in_ok-disk_of.ensures ∙ ap (λ (g : Group). disks_of g c.as_slice.result.now) c.group.ensures.group ∙ ap (λ (l : List Disk). disks_of c.args.said.now l) c.as_slice.ensures))
     (sound_disks state c.requires.state c.args.found.now c.args.said.now c.requires.found none)
 
 pub commit_version_on-requires-clause-areas : goal.commit_version_on-requires-clause-areas
@@ -41,13 +37,10 @@ commit_version_on-requires-clause-areas c = areas_take c.args.state.now c.requir
 pub returns : goal.returns
 returns c =
     let state = c.args.state.now in
-    let none : first_refusal (sound_tests state c.args.found.now c.args.said.now) ≡ None =
-    subst (λ (g : Group). first_refusal (sound_tests state g c.args.said.now) ≡ None) c.group.ensures.group
-    (subst (λ (g : Group). first_refusal (sound_tests state c.group.result.now g) ≡ None) c.group-2.ensures.group c.in_ok-judge_sound.ensures)
-    in
+    let none : first_refusal (sound_tests state c.args.found.now c.args.said.now) ≡ None = c.in_ok-judge_sound.ensures in
     let next : c.in_ok-next.next ≡ restored_group c.args.found.now c.args.said.now = c.in_ok-next.ensures in
     let disks : c.in_ok-disk_of.disk_of ≡ disks_of c.args.said.now state.disks =
-    c.in_ok-disk_of.ensures ∙ ap (λ (g : Group). disks_of g c.as_slice.result.now) c.group-3.ensures.group ∙ ap (λ (l : List Disk). disks_of c.args.said.now l) c.as_slice.ensures
+    c.in_ok-disk_of.ensures ∙ ap (λ (g : Group). disks_of g c.as_slice.result.now) c.group.ensures.group ∙ ap (λ (l : List Disk). disks_of c.args.said.now l) c.as_slice.ensures
     in
     plans_back (sound_tests state c.args.found.now c.args.said.now) (length_row_on state (disks_of c.args.said.now state.disks) (restored_group c.args.found.now c.args.said.now) c.args.now ∷ [])
     (version_change_on (disks_of c.args.said.now state.disks) (restored_group c.args.found.now c.args.said.now)) c.commit_version_on.result none

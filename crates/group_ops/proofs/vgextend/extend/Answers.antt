@@ -50,6 +50,9 @@ judge_added-requires-clause-size c = let most = (c.group-found.ensures.accepted 
 pub judge_added-requires-clause-few : goal.judge_added-requires-clause-few
 judge_added-requires-clause-few c = let most = (c.group-found.ensures.accepted Volumes).pvs.1 in omega (arith, most)
 
+pub judge_added-requires-clause-volumes : goal.judge_added-requires-clause-volumes
+judge_added-requires-clause-volumes c = (c.group-found.ensures.accepted Volumes).lvs
+
 pub returns-in_err-judge_added : goal.returns-in_err-judge_added
 returns-in_err-judge_added c =
     let p = err_from_is_err_and c.from_residual-in_err-judge_added.result c.from_residual-in_err-judge_added.ensures.1 in
