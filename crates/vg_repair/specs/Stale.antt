@@ -1,6 +1,9 @@
 -- The stale areas of a scan, and the first of them that has no room for the text that was found.
 use Rattle.std.specs.Prelude.{◌≡◌, ℕ, ◌+◌, ◌&&◌, ◌==◌, Bool, nat_lt, if◌then◌else◌, List, [], ◌∷◌, length, Option, None, Some, unwrap_or}
 use Rattle.std.specs.List.{enumerate_from, filter_map, flat_map, list_any}
+use Rattle.std.specs.BTreeSet.{BTreeSet, contains}
+use Rattle.std.specs.Ordering.{nat_cmp, ordering_then}
+use Rattle.std.specs.declared.cmp.Ordering.{Ordering}
 use Rattle.mda_header.specs.declared.header.Locn.{Locn}
 use Rattle.mda_ring.specs.declared.area.Area.{Area}
 use Rattle.mda_ring.specs.Ring.{need, room}
@@ -14,6 +17,14 @@ use Rattle.vg_repair.specs.declared.fault.RepairFault.TheVariants.{NoMemory, Pv,
 -- whether the area with this number on this disk is one of these
 abbrev pub is_among : List (ℕ × ℕ) → ℕ → ℕ → Bool
 is_among areas disk number = list_any (λ (area : ℕ × ℕ). (area.0 == disk) && (area.1 == number)) areas
+
+-- the order of areas: by their disks, then by their numbers there
+abbrev pub area_cmp : ℕ × ℕ → ℕ × ℕ → Ordering
+area_cmp a b = ordering_then (nat_cmp a.0 b.0) (nat_cmp a.1 b.1)
+
+-- the set has these areas and no others
+abbrev pub HasAreas : BTreeSet (ℕ × ℕ) → List (ℕ × ℕ) → Type 0
+HasAreas set areas = (disk number : ℕ) → contains area_cmp set (disk, number) ≡ is_among areas disk number
 
 -- an area that was found on this disk, by its number there: with the entry of its committed text, where it is one of these
 -- and isn't ignored

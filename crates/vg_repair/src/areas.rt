@@ -3,9 +3,10 @@ ghost use Rattle.std.specs.Prelude.{◌≡◌, ◌≤◌, ◌++◌, length, All,
 ghost use Rattle.std.specs.List.{enumerate_from, filter_map};
 ghost use Rattle.mda_ring.specs.Areas.{CanTake};
 ghost use Rattle.vg_found.specs.Disks.{held_area};
-ghost use Rattle.vg_repair.specs.Stale.{IsCause, is_among, stale_by, stale_in, too_large_among};
+ghost use Rattle.vg_repair.specs.Stale.{IsCause, stale_by, stale_in, too_large_among};
 
 use crate::RepairFault;
+use crate::stale_set::StaleSet;
 use disk_contents::{AreaFound, PvFound};
 use mda_header::{Entry, Locn};
 use mda_ring::{Area, Areas, RingRefusal, plan_next};
@@ -22,10 +23,11 @@ pub(crate) fn stale_areas(
     requires few { length disks.now ≤ 64 }
     ensures { IfOk result (λ areas. areas ≡ stale_by stale.now disks.now) }
 {
+    let stale = StaleSet::of(alloc, stale)?;
     let mut list = Vec::new(alloc);
     for (number, disk) in disks.iter().enumerate() {
         if let Some(PvFound::Whole { areas, .. }) = &disk.contents {
-            push_stale(number as u32, areas.as_slice(), stale, &mut list)?;
+            push_stale(number as u32, areas.as_slice(), &stale, &mut list)?;
         }
     }
     Ok(Areas::from_vec(list))
@@ -35,7 +37,7 @@ pub(crate) fn stale_areas(
 fn push_stale(
     pv: u32,
     areas: &[AreaFound],
-    stale: &[(u32, u32)],
+    stale: &StaleSet<'_>,
     list: &mut Vec<(Area, Option<Locn>)>,
 ) -> Result<(), AllocError>
     ensures { IfOk result (λ _. list.new.items ≡ list.old.items ++ filter_map (stale_in stale.now pv) (enumerate_from 0 areas.now)) }
@@ -53,24 +55,15 @@ fn stale_area(
     pv: u32,
     number: usize,
     found: &AreaFound,
-    stale: &[(u32, u32)],
+    stale: &StaleSet<'_>,
 ) -> Option<(Area, Option<Locn>)>
     ensures { result ≡ stale_in stale.now pv (number, found.now) }
 {
-    if is_among(stale, pv, number) {
+    if stale.contains(pv, number) {
         held_area(pv, found)
     } else {
         None
     }
-}
-
-// Whether the area with this number on this disk is one of these.
-pub(crate) fn is_among(areas: &[(u32, u32)], pv: u32, number: usize) -> bool
-    ensures { result ≡ is_among areas.now pv number }
-{
-    areas
-        .iter()
-        .any(|area| area.0 == pv && area.1 as usize == number)
 }
 
 // The area on this disk with the entry of its committed text, where it isn't ignored.

@@ -15,6 +15,7 @@ mod fault;
 mod laws;
 mod repaired;
 mod repairing;
+mod stale_set;
 #[cfg(test)]
 mod tests;
 

@@ -16,20 +16,21 @@ ghost use Rattle.vg_repair.specs.Putting.{AreaHasRoom, HasRoom, IsSummed, text_p
 ghost use Rattle.vg_repair.specs.Repaired.{repaired_area, repaired_areas, repaired_contents, repaired_disk, repaired_disks, repaired_of, with_entry};
 ghost use Rattle.vg_repair.specs.Stale.{too_large};
 
-use crate::areas::{held_area, is_among};
+use crate::areas::held_area;
+use crate::stale_set::StaleSet;
 use disk_contents::{AreaFound, AreasFound, PvFound};
 use mda_header::{Entry, Locn, MdaHeader};
 use mda_ring::{Area, plan_next};
 use sector_base::{ItemList, LVM_CRC_START, PvSet, Text, crc};
 use std::alloc::{AllocError, Global};
 use vg_change::unused;
-use vg_found::{AreaSet, Disk, DiskTable, Found, Whole, held_areas};
+use vg_found::{Disk, DiskTable, Found, Whole, held_areas};
 
 // What is put right: the stale areas, which get the text that was found, and the strays. The checksum is that of the text
 // as it is stored.
 #[derive(Debug, Drop)]
-pub(crate) struct Repair {
-    pub(crate) stale: AreaSet,
+pub(crate) struct Repair<'a> {
+    pub(crate) stale: StaleSet<'a>,
     pub(crate) strays: PvSet,
     pub(crate) text: Option<Text>,
     pub(crate) sum: u32,
@@ -56,8 +57,9 @@ pub(crate) fn repaired(alloc: Global, found: Found) -> Result<Whole, AllocError>
         unread,
     } = found;
     let sum = stored_sum(alloc, bytes_of(&text))?;
+    let stale_set = StaleSet::of(alloc, stale.as_slice())?;
     let repair = Repair {
-        stale,
+        stale: stale_set,
         strays,
         text,
         sum,
@@ -104,7 +106,11 @@ fn stored_sum(alloc: Global, bytes: &[u8]) -> Result<u32, AllocError>
 }
 
 // The disks, each as it is found then. They are taken off from the last one on.
-fn repaired_disks(alloc: Global, disks: Vec<Disk>, repair: &Repair) -> Result<Vec<Disk>, AllocError>
+fn repaired_disks(
+    alloc: Global,
+    disks: Vec<Disk>,
+    repair: &Repair<'_>,
+) -> Result<Vec<Disk>, AllocError>
     requires few { length disks.items ≤ 64 }
     requires each { (pv : ℕ) (disk : DiskOf) → slice_get disks.items pv ≡ Some disk → IsDisk pv disk × HasRoom repair.now pv (areas_on disk.contents) }
     requires sum { IsSummed repair.now }
@@ -120,7 +126,12 @@ fn repaired_disks(alloc: Global, disks: Vec<Disk>, repair: &Repair) -> Result<Ve
 }
 
 // One of them.
-fn repaired_disk(alloc: Global, pv: u32, disk: Disk, repair: &Repair) -> Result<Disk, AllocError>
+fn repaired_disk(
+    alloc: Global,
+    pv: u32,
+    disk: Disk,
+    repair: &Repair<'_>,
+) -> Result<Disk, AllocError>
     requires stands { ContentsCanStand pv disk.sectors disk.contents }
     requires room { HasRoom repair.now pv (areas_on disk.contents) }
     requires sum { IsSummed repair.now }
@@ -145,7 +156,7 @@ fn repaired_contents(
     pv: u32,
     sectors: u64,
     found: PvFound,
-    repair: &Repair,
+    repair: &Repair<'_>,
 ) -> Result<PvFound, AllocError>
     requires stands { CanStand pv sectors found }
     requires room { HasRoom repair.now pv (areas_in found) }
@@ -181,7 +192,7 @@ fn repaired_areas(
     pv: u32,
     sectors: u64,
     areas: &[AreaFound],
-    repair: &Repair,
+    repair: &Repair<'_>,
 ) -> Result<Vec<AreaFound>, AllocError>
     requires usable { All (IsUsable pv sectors) areas.now }
     requires room { HasRoom repair.now pv areas.now }
@@ -196,7 +207,7 @@ fn repaired_areas(
 }
 
 // One of them.
-fn repaired_area(pv: u32, number: usize, found: &AreaFound, repair: &Repair) -> AreaFound
+fn repaired_area(pv: u32, number: usize, found: &AreaFound, repair: &Repair<'_>) -> AreaFound
     requires area { IsArea (area_on pv found.now.area) }
     requires text { HasTextInside found.now }
     requires room { AreaHasRoom repair.now pv (number, found.now) }
@@ -209,14 +220,14 @@ fn repaired_area(pv: u32, number: usize, found: &AreaFound, repair: &Repair) -> 
     if repair.strays.contains(pv) {
         return with_entry(found, None);
     }
-    if is_among(repair.stale.as_slice(), pv, number) {
+    if repair.stale.contains(pv, number) {
         return with_entry(found, Some(new_entry(&area, committed, repair)));
     }
     *found
 }
 
 // The entry of the text in this area, which has room for it.
-fn new_entry(area: &Area, committed: Option<Locn>, repair: &Repair) -> Locn
+fn new_entry(area: &Area, committed: Option<Locn>, repair: &Repair<'_>) -> Locn
     requires take { CanTake (area.now, committed) }
     requires room { need (length (text_put repair.now) + 1) ≤ room area.now.size committed }
     requires sum { IsSummed repair.now }
