@@ -1,5 +1,5 @@
 -- A sector says one thing of the committed text.
-use Rattle.std.proofs.Common.{◌≡◌, ◌≤◌, ℕ, List, refl, sym, ap, ◌∙◌, inl, inr, arith}
+use Rattle.std.proofs.Common.{◌≡◌, ◌≤◌, ℕ, List, refl, sym, ap, ◌∙◌, arith}
 use Rattle.mda_header.specs.declared.entry.Entry.{Entry}
 use Rattle.mda_header.specs.declared.entry.Entry.TheVariants.{Ignored, Nothing, Text, Refused}
 use Rattle.mda_header.specs.declared.header.Locn.{Locn}
@@ -24,27 +24,20 @@ nothing_or_text sector start size none is =
     let behind : 512 ≤ (locn_at sector 40).offset = is.inside.behind_header in
     omega arith
 
-ignored_or_refused : (sector : List ℕ) (start size : ℕ) (refusal : MdaRefusal) → IsEntry sector start size Ignored → IsEntry sector start size (Refused refusal) → ⊥
-ignored_or_refused sector start size refusal is h =
-    elim is.0 [
-      | inl none ↦ h.1 none
-      | inr text ↦ text_or_refusal sector start size refusal text h.0
-    ]
-
 pub one_entry : (sector : List ℕ) (start size : ℕ) (a b : Entry) → IsEntry sector start size a → IsEntry sector start size b → a ≡ b
 one_entry sector start size Ignored Ignored h k = refl
-one_entry sector start size Ignored Nothing h k = absurd (k.1 h.1)
-one_entry sector start size Ignored (Text locn) h k = absurd (k.1 h.1)
-one_entry sector start size Ignored (Refused refusal) h k = absurd (ignored_or_refused sector start size refusal h k)
-one_entry sector start size Nothing Ignored h k = absurd (h.1 k.1)
+one_entry sector start size Ignored Nothing h k = absurd (k.1 h.bit)
+one_entry sector start size Ignored (Text locn) h k = absurd (k.1 h.bit)
+one_entry sector start size Ignored (Refused refusal) h k = absurd (k.2 h)
+one_entry sector start size Nothing Ignored h k = absurd (h.1 k.bit)
 one_entry sector start size Nothing Nothing h k = refl
 one_entry sector start size Nothing (Text locn) h k = absurd (nothing_or_text sector start size h.0 k.0)
 one_entry sector start size Nothing (Refused refusal) h k = absurd (k.1 h.0)
-one_entry sector start size (Text locn) Ignored h k = absurd (h.1 k.1)
+one_entry sector start size (Text locn) Ignored h k = absurd (h.1 k.bit)
 one_entry sector start size (Text locn) Nothing h k = absurd (nothing_or_text sector start size k.0 h.0)
 one_entry sector start size (Text locn) (Text locn') h k = ap (λ (l : Locn). Text l) (h.2 ∙ sym k.2)
 one_entry sector start size (Text locn) (Refused refusal) h k = absurd (text_or_refusal sector start size refusal h.0 k.0)
-one_entry sector start size (Refused refusal) Ignored h k = absurd (ignored_or_refused sector start size refusal k h)
+one_entry sector start size (Refused refusal) Ignored h k = absurd (h.2 k)
 one_entry sector start size (Refused refusal) Nothing h k = absurd (h.1 k.0)
 one_entry sector start size (Refused refusal) (Text locn) h k = absurd (text_or_refusal sector start size refusal k.0 h.0)
 one_entry sector start size (Refused refusal) (Refused refusal') h k = ap (λ (r : MdaRefusal). Refused r) (one_refusal sector start size refusal refusal' h.0 k.0)

@@ -1,6 +1,6 @@
 -- The header of a metadata area of lvm2's on-disk format, `struct mda_header` and `struct raw_locn`, and why a sector
 -- isn't the header of an area.
-use Rattle.std.specs.Prelude.{◌≡◌, ◌≢◌, ◌⊎◌, ℕ, ◌+◌, ◌-◌, ◌%◌, ◌<◌, ◌≤◌, ◌↔◌, IsTrue, List, take, drop, codes, Option, None, Some}
+use Rattle.std.specs.Prelude.{◌≡◌, ◌≢◌, ℕ, ◌+◌, ◌-◌, ◌%◌, ◌<◌, ◌≤◌, ◌↔◌, IsTrue, List, take, drop, codes, Option, None, Some}
 use Rattle.sector_base.specs.Fields.{field}
 use Rattle.sector_base.specs.Checksum.{checksum}
 use Rattle.sector_base.specs.declared.checksum.TheConstants.{LVM_CRC_START}
@@ -84,9 +84,14 @@ pub record HoldsText (sector : List ℕ) (start size : ℕ) : Type 0 where
 abbrev pub HasIgnoredBit : List ℕ → Type 0
 HasIgnoredBit sector = field 4 sector 60 % 2 ≡ 1
 
+-- a header of whatever area that is marked as ignored: nothing is read or written there, whatever else it says
+pub record IsIgnored (sector : List ℕ) : Type 0 where
+  pub sound : IsSound sector
+  pub bit : HasIgnoredBit sector
+
 -- what the sector says of the text that is committed in the area with this start and size
 abbrev pub IsEntry : List ℕ → ℕ → ℕ → Entry → Type 0
-IsEntry sector start size Ignored = (HoldsNothing sector ⊎ HoldsText sector start size) × HasIgnoredBit sector
+IsEntry sector start size Ignored = IsIgnored sector
 IsEntry sector start size Nothing = HoldsNothing sector × (¬ HasIgnoredBit sector)
 IsEntry sector start size (Text locn) = HoldsText sector start size × (¬ HasIgnoredBit sector) × (locn ≡ locn_at sector 40)
-IsEntry sector start size (Refused refusal) = IsRefused sector start size refusal × (¬ HoldsNothing sector)
+IsEntry sector start size (Refused refusal) = IsRefused sector start size refusal × (¬ HoldsNothing sector) × (¬ IsIgnored sector)

@@ -21,22 +21,23 @@ pub enum Entry {
 }
 
 /// Reads what the sector says of the text that is committed in the area that begins at the byte `start` of its disk and
-/// has `size` bytes. A header of lvm2's version without a committed text holds nothing, whatever start and size it
-/// says.
+/// has `size` bytes. A header of lvm2's version that is marked as ignored is that of an ignored area, whatever else it
+/// says, and one without a committed text holds nothing, whatever start and size it says.
 #[tactic(auto, using(crate::proofs::OneEntry::one_entry))]
 pub fn read_entry(sector: &Bytes512, start: u64, size: u64) -> Entry
     ensures entry { IsEntry sector.now start size result }
     // The sector says one thing.
     ensures one { (other : EntryOf) → IsEntry sector.now start size other → other ≡ result }
 {
+    if is_ignored(sector) {
+        return Entry::Ignored;
+    }
     match read_mda(sector, start, size) {
-        Ok(header) if header.ignored => Entry::Ignored,
         Ok(header) => match header.committed {
             Some(locn) => Entry::Text(locn),
             None => Entry::Nothing,
         },
-        Err(refusal) if !holds_nothing(sector) => Entry::Refused(refusal),
-        Err(_) if is_ignored(sector) => Entry::Ignored,
-        Err(_) => Entry::Nothing,
+        Err(_) if holds_nothing(sector) => Entry::Nothing,
+        Err(refusal) => Entry::Refused(refusal),
     }
 }

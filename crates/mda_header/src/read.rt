@@ -2,7 +2,7 @@
 ghost use Rattle.std.specs.Prelude.{◌≡◌, ◌+◌, ◌%◌, ◌≤◌, ◌↔◌, IsTrue, MatchResult, MatchOption, take, drop, codes};
 ghost use Rattle.sector_base.specs.Checksum.{checksum};
 ghost use Rattle.sector_base.specs.Fields.{field};
-ghost use Rattle.mda_header.specs.Header.{HasIgnoredBit, HoldsNothing, IsHeader, IsInside, IsOfArea, IsRefused, locn_at};
+ghost use Rattle.mda_header.specs.Header.{HasIgnoredBit, HoldsNothing, IsHeader, IsIgnored, IsInside, IsOfArea, IsRefused, IsSound, locn_at};
 ghost use Rattle.mda_header.specs.declared.header.MdaHeader.{MdaHeader as Header};
 
 use crate::{Locn, MdaHeader, MdaRefusal};
@@ -35,7 +35,7 @@ pub fn read_mda(sector: &Bytes512, start: u64, size: u64) -> Result<MdaHeader, M
         size,
         committed: if_inside(committed, size),
         precommitted: if_inside(precommitted, size),
-        ignored: is_ignored(sector),
+        ignored: has_ignored_bit(sector),
     })
 }
 
@@ -110,18 +110,29 @@ fn if_inside(locn: Locn, size: u64) -> Option<Locn>
     }
 }
 
-// Whether it is a header of lvm2's version, of whatever area, that has no committed text.
+// Whether it is a header of lvm2's version, of whatever area.
+fn is_sound(sector: &Bytes512) -> bool
+    ensures { IsTrue result ↔ IsSound sector.now }
+{
+    get_u32(sector, 0) == covered_sum(sector) && has_magic(sector) && get_u32(sector, 20) == 1
+}
+
+// Whether it is such a header without a committed text.
 pub(crate) fn holds_nothing(sector: &Bytes512) -> bool
     ensures { IsTrue result ↔ HoldsNothing sector.now }
 {
-    get_u32(sector, 0) == covered_sum(sector)
-        && has_magic(sector)
-        && get_u32(sector, 20) == 1
-        && get_u64(sector, 40) == 0
+    is_sound(sector) && get_u64(sector, 40) == 0
+}
+
+// Whether it is such a header, and says that its area is ignored.
+pub(crate) fn is_ignored(sector: &Bytes512) -> bool
+    ensures { IsTrue result ↔ IsIgnored sector.now }
+{
+    is_sound(sector) && has_ignored_bit(sector)
 }
 
 // The lowest bit of entry 0's flags.
-pub(crate) fn is_ignored(sector: &Bytes512) -> bool
+fn has_ignored_bit(sector: &Bytes512) -> bool
     ensures { IsTrue result ↔ HasIgnoredBit sector.now }
 {
     get_u32(sector, 60) & 1 == 1

@@ -165,20 +165,23 @@ fn a_header_says_what_is_committed(rt: HostRuntime) {
         size: 100,
         sum: 17,
     });
+    let start = MdaRefusal::WrongStart(8192, 8191);
+    let size = MdaRefusal::SizeBad(4096, 4095);
     let locn = MdaRefusal::LocnOutside {
         offset: 511,
         size: 1,
     };
+    let unread = Entry::Refused(MdaRefusal::BadVersion(2));
     // What is said, and what is said with the ignored bit.
     let rows = [
         (empty, 8192, 4096, Entry::Nothing, Entry::Ignored),
         (empty, 8191, 4096, Entry::Nothing, Entry::Ignored),
         (empty, 8192, 4095, Entry::Nothing, Entry::Ignored),
         (full, 8192, 4096, text, Entry::Ignored),
-        refused(full, 8191, 4096, MdaRefusal::WrongStart(8192, 8191)),
-        refused(full, 8192, 4095, MdaRefusal::SizeBad(4096, 4095)),
-        refused(outside, 8192, 4096, locn),
-        refused(summed(version), 8192, 4096, MdaRefusal::BadVersion(2)),
+        (full, 8191, 4096, Entry::Refused(start), Entry::Ignored),
+        (full, 8192, 4095, Entry::Refused(size), Entry::Ignored),
+        (outside, 8192, 4096, Entry::Refused(locn), Entry::Ignored),
+        (summed(version), 8192, 4096, unread, unread),
     ];
     for (sector, start, size, want, with_bit) in rows {
         assert_eq!(rt; read_entry(&sector, start, size), want);
@@ -186,15 +189,4 @@ fn a_header_says_what_is_committed(rt: HostRuntime) {
     }
     let blank = Entry::Refused(MdaRefusal::BadSum(0, SUM_OF_ZEROS));
     assert_eq!(rt; read_entry(&Bytes512::zeroed(), 8192, 4096), blank);
-}
-
-// A row of a sector that is refused, whatever its ignored bit.
-fn refused(
-    sector: Bytes512,
-    start: u64,
-    size: u64,
-    refusal: MdaRefusal,
-) -> (Bytes512, u64, u64, Entry, Entry) {
-    let want = Entry::Refused(refusal);
-    (sector, start, size, want, want)
 }

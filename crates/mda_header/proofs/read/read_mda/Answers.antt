@@ -6,7 +6,7 @@ use Rattle.mda_header.proofs.Fields.{inside_committed, inside_precommitted, none
 use Rattle.mda_header.proofs.read.read_mda.Goals as goal
 use Rattle.mda_header.proofs.read.read_mda.Goals.{else-committed-ne0-via-then-committed-ne0+else-not-is_inside, else-committed-ne0-via-else-committed-ne0}
 
-committed_is : (c : goal.After-is_ignored) → IsCommitted c.args.sector.now c.args.size c.if_inside.result
+committed_is : (c : goal.After-has_ignored_bit) → IsCommitted c.args.sector.now c.args.size c.if_inside.result
 committed_is c =
     elim c.else-committed-ne0.branch [
       | else-committed-ne0-via-then-committed-ne0+else-not-is_inside w ↦
@@ -14,16 +14,16 @@ committed_is c =
       | else-committed-ne0-via-else-committed-ne0 w ↦ none_committed c.args.sector.now c.args.size c.if_inside.result c.get_locn-committed.result c.get_locn-committed.ensures c.if_inside.ensures w.if-committed-ne0.false
     ]
 
-header_of : goal.After-is_ignored → MdaHeader
+header_of : goal.After-has_ignored_bit → MdaHeader
 header_of c = record {
   start = c.args.start;
   size = c.args.size;
   committed = c.if_inside.result;
   precommitted = c.if_inside-2.result;
-  ignored = c.is_ignored.result;
+  ignored = c.has_ignored_bit.result;
 }
 
-header_is : (c : goal.After-is_ignored) → IsHeader c.args.sector.now (header_of c)
+header_is : (c : goal.After-has_ignored_bit) → IsHeader c.args.sector.now (header_of c)
 unfolding header_of
 header_is c = record {
   sound = c.in_default.ensures.sound;
@@ -31,7 +31,7 @@ header_is c = record {
   size = c.in_default.ensures.size_xl;
   committed = committed_is c;
   precommitted = inside_precommitted c.args.sector.now c.args.size c.if_inside-2.result c.get_locn-precommitted.result c.get_locn-precommitted.ensures c.if_inside-2.ensures;
-  ignored = c.is_ignored.ensures;
+  ignored = c.has_ignored_bit.ensures;
 }
 
 pub returns-clause-read : goal.returns-clause-read
