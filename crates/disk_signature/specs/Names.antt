@@ -1,0 +1,43 @@
+-- The kinds of signatures, as an administrator knows them.
+use Rattle.std.specs.Prelude.{ℕ, List, codes}
+use Rattle.disk_signature.specs.declared.kind.Kind.{Kind}
+use Rattle.disk_signature.specs.declared.kind.Kind.TheVariants as kind
+
+-- what a kind is called
+abbrev pub name_of : Kind → List ℕ
+name_of kind.DamagedLabel = codes "LVM2 label that is damaged"
+name_of kind.Lvm1 = codes "LVM1 physical volume"
+name_of kind.Luks = codes "LUKS encrypted volume"
+name_of kind.BitLocker = codes "BitLocker encrypted volume"
+name_of kind.MdRaid = codes "Linux RAID member"
+name_of kind.IntelRaid = codes "Intel RAID member"
+name_of kind.DdfRaid = codes "DDF RAID member"
+name_of kind.Bcache = codes "bcache device"
+name_of kind.Vdo = codes "VDO device"
+name_of kind.BlueStore = codes "Ceph BlueStore device"
+name_of kind.Swap = codes "swap space"
+name_of kind.Ext = codes "ext file system"
+name_of kind.Xfs = codes "XFS file system"
+name_of kind.Btrfs = codes "Btrfs file system"
+name_of kind.Bcachefs = codes "bcachefs file system"
+name_of kind.Jfs = codes "JFS file system"
+name_of kind.ReiserFs = codes "ReiserFS file system"
+name_of kind.F2fs = codes "F2FS file system"
+name_of kind.Erofs = codes "EROFS file system"
+name_of kind.Nilfs2 = codes "NILFS2 file system"
+name_of kind.Gfs2 = codes "GFS2 file system"
+name_of kind.Ocfs2 = codes "OCFS2 file system"
+name_of kind.Vmfs = codes "VMFS volume"
+name_of kind.Squashfs = codes "SquashFS file system"
+name_of kind.Cramfs = codes "cramfs file system"
+name_of kind.Iso9660 = codes "ISO 9660 file system"
+name_of kind.Udf = codes "UDF file system"
+name_of kind.HfsPlus = codes "HFS+ file system"
+name_of kind.Hfs = codes "HFS file system"
+name_of kind.Apfs = codes "APFS container"
+name_of kind.Minix = codes "Minix file system"
+name_of kind.Ntfs = codes "NTFS file system"
+name_of kind.ExFat = codes "exFAT file system"
+name_of kind.Fat = codes "FAT file system"
+name_of kind.Gpt = codes "GUID partition table"
+name_of kind.Dos = codes "DOS partition table or boot sector"
