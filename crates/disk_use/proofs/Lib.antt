@@ -1,0 +1,5 @@
+pub mod Finding
+pub mod Freed
+pub mod Looking
+pub mod Scanning
+pub mod Showing

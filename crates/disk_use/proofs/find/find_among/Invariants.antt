@@ -1,0 +1,6 @@
+-- The disks so far were looked at.
+use Rattle.disk_use.proofs.Finding.{AreLookedAt}
+use Rattle.disk_use.proofs.find.find_among.Given as goal
+
+abbrev pub invariant-loop-pv : goal.invariant-loop-pv
+invariant-loop-pv g l = AreLookedAt l.new (g.S.Shelf.state l.initial.shelf) l.taken l.pv-index l.marked.items (g.S.Shelf.state l.shelf)
