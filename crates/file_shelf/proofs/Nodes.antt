@@ -1,53 +1,59 @@
--- The nodes in a set of them.
-use Rattle.std.proofs.Common.{◌≡◌, ◌≢◌, ℕ, zero, suc, List, [], ◌∷◌, All, Contains, refl, sym, ap, subst, ◌∙◌, arith}
-use Rattle.std.specs.BTreeSet.{insert_key}
-use Rattle.std.specs.Ordering.{match_ordering, nat_cmp, ordering_then}
-use Rattle.std.specs.declared.cmp.Ordering.{Ordering}
-use Rattle.std.specs.declared.cmp.Ordering.TheVariants.{Less, Equal, Greater}
+-- Files by their nodes, as one more is opened.
+use Rattle.std.proofs.Common.{◌≡◌, ◌≢◌, ◌<◌, ◌+◌, ℕ, false, List, [], ◌∷◌, ◌++◌, length, get_or, All, Option, Some, None, IfSome, ◌⊎◌, inl, inr, ⊎_elim, sym, ap, subst, ◌∙◌, arith}
+use Rattle.std.specs.BTreeMap.{BTreeMap, Updates, get, insert_entry, is_at, values}
+use Rattle.std.specs.Map.{values_of}
+use Rattle.std.specs.Ordering.{nat_cmp}
+use Rattle.std.specs.declared.cmp.Ordering.TheVariants.{Equal}
+use Rattle.std.proofs.lemmas.Bool.{cases_Bool, cases_lt}
+use Rattle.std.proofs.lemmas.List.{get_or_append_left, get_or_push, length_push}
+use Rattle.std.proofs.lemmas.List.Elements.{All-weaker}
 use Rattle.std.proofs.lemmas.Map.Lookups.{exact_pairs, exact_unsigned}
+use Rattle.std.proofs.lemmas.Map.Views.{All-values-insert_entry, tells_apart}
 use Rattle.file_shelf.specs.declared.image.Node.{Node}
-
-module _ {K : Type 0} (cmp : K → K → Ordering) where
-  later : (x k : K) (xs : List K) → Contains xs k → Contains (x ∷ xs) k
-  later x k xs there = (suc there.0, omega (arith, there.1), there.2)
-
-  kept_in : (x k n : K) (xs : List K) (o : Ordering) → Contains (x ∷ xs) n → (Contains xs n → Contains (insert_key cmp xs k) n) → Contains (match_ordering o (k ∷ x ∷ xs) (x ∷ xs) (x ∷ insert_key cmp xs k)) n
-  kept_in x k n xs Less was rest = later k n (x ∷ xs) was
-  kept_in x k n xs Equal was rest = was
-  kept_in x k n xs Greater (zero, within, is) rest = (zero, omega arith, is)
-  kept_in x k n xs Greater (suc i, within, is) rest = later x n (insert_key cmp xs k) (rest (i, omega arith, is))
-
-  -- the keys of a set stay where one more is put in
-  key_kept : (ks : List K) (k n : K) → Contains ks n → Contains (insert_key cmp ks k) n
-  key_kept [] k n was = absurd (omega (arith, was.1))
-  key_kept (x ∷ xs) k n was = kept_in x k n xs (cmp k x) was (key_kept xs k n)
-
-  put_in : (x k : K) (xs : List K) (o : Ordering) → (o ≡ Equal → k ≡ x) → Contains (insert_key cmp xs k) k → Contains (match_ordering o (k ∷ x ∷ xs) (x ∷ xs) (x ∷ insert_key cmp xs k)) k
-  put_in x k xs Less exact rest = (zero, omega arith, refl)
-  put_in x k xs Equal exact rest = (zero, omega arith, sym (exact refl))
-  put_in x k xs Greater exact rest = later x k (insert_key cmp xs k) rest
-
-  -- and that is one of them, where keys that compare alike are the same
-  key_put : ((k n : K) → cmp k n ≡ Equal → k ≡ n) → (ks : List K) (k : K) → Contains (insert_key cmp ks k) k
-  key_put exact [] k = (zero, omega arith, refl)
-  key_put exact (x ∷ xs) k = put_in x k xs (cmp k x) (exact k x) (key_put exact xs k)
-
--- the order of nodes
-abbrev node_cmp : Node → Node → Ordering
-node_cmp a b = ordering_then (nat_cmp a.device b.device) (nat_cmp a.inode b.inode)
+use Rattle.file_shelf.specs.Nodes.{node_cmp, AreNumbered}
 
 -- nodes that compare alike are the same
 same_node : (a b : Node) → node_cmp a b ≡ Equal → a ≡ b
-same_node a b e = ap (λ (p : ℕ × ℕ). record { device = p.0; inode = p.1 }) (exact_pairs nat_cmp nat_cmp exact_unsigned exact_unsigned (a.device, a.inode) (b.device, b.inode) e)
+same_node a b e =
+    ap (λ (p : ℕ × ℕ). record { device = p.0; inode = p.1 })
+    (exact_pairs nat_cmp nat_cmp exact_unsigned exact_unsigned (a.device, a.inode) (b.device, b.inode) e)
 
-module _ (nodes more : List Node) (node : Node) (is : more ≡ insert_key node_cmp nodes node) where
-  -- where a node was put into a set, the others stay, and it is one of them
-  pub node_kept : (other : Node) → Contains nodes other → Contains more other
-  node_kept other was = subst (λ (ks : List Node). Contains ks other) (sym is) (key_kept node_cmp nodes node other was)
+-- a number below one more is below, or that one
+below_or_last : (k n : ℕ) → k < n + 1 → (k < n) ⊎ (k ≡ n)
+below_or_last k n lt = ⊎_elim inl (λ ge. inr (omega arith)) (cases_lt k n)
 
-  pub node_put : Contains more node
-  node_put = subst (λ (ks : List Node). Contains ks node) (sym is) (key_put node_cmp same_node nodes node)
+module _ (numbers : BTreeMap Node ℕ) (nodes : List Node) (is : AreNumbered numbers nodes)
+    (node : Node) (absent : get node_cmp numbers node ≡ None) where
+  -- a node at which no number stands is another one than each of the list
+  pub node_apart : (k : ℕ) (d : Node) → k < length nodes → get_or nodes k d ≢ node
+  node_apart k d within same =
+      subst (λ (o : Option ℕ). IfSome o (λ n. ⊥)) (sym absent ∙ sym (ap (get node_cmp numbers) same) ∙ is.0 k d within) tt
 
--- a node that is none of these is another one than each of them
-pub node_apart : (nodes : List Node) (node other : Node) → All (λ (n : Node). n ≢ node) nodes → Contains nodes other → other ≢ node
-node_apart nodes node other apart there same = apart there.0 other there.1 (there.2 ∙ same)
+  not_alike : (k : ℕ) (d : Node) → k < length nodes → is_at (node_cmp node) (get_or nodes k d) ≡ false
+  not_alike k d within =
+      ⊎_elim
+      (λ alike. absurd (node_apart k d within (sym (tells_apart same_node node (get_or nodes k d) alike))))
+      (λ differ. differ)
+      (cases_Bool (is_at (node_cmp node) (get_or nodes k d)))
+
+  module _ (more : BTreeMap Node ℕ) (n : ℕ) (last : n ≡ length nodes) (updates : Updates node_cmp numbers more node (Some n))
+      (put : more.entries ≡ insert_entry node_cmp numbers.entries node n) where
+    number_at : (k : ℕ) (d : Node) → (k < length nodes) ⊎ (k ≡ length nodes) → get node_cmp more (get_or (nodes ++ node ∷ []) k d) ≡ Some k
+    number_at k d (inl lt) =
+        ap (get node_cmp more) (get_or_append_left nodes (node ∷ []) d k lt)
+        ∙ updates.2 (get_or nodes k d) (not_alike k d lt)
+        ∙ is.0 k d lt
+    number_at k d (inr at) = ap (get node_cmp more) (get_or_push nodes node d k (sym at)) ∙ updates.1 ∙ ap Some (last ∙ sym at)
+
+    -- and once its number is put there, it is one of them
+    pub numbered_push : AreNumbered more (nodes ++ node ∷ [])
+    numbered_push =
+        let below : ℕ → ℕ → Type 0 = λ n k. k < n in
+        let longer = length_push nodes node in
+        let values_below =
+        All-values-insert_entry node_cmp node n (below (length (nodes ++ node ∷ []))) numbers.entries
+        (All-weaker (below (length nodes)) (below (length (nodes ++ node ∷ []))) (λ k lt. omega (arith, lt, longer)) (values numbers) is.1)
+        (omega (arith, last, longer)) in (
+          λ k d within. number_at k d (below_or_last k (length nodes) (omega (arith, within, longer))),
+          subst (λ es. All (below (length (nodes ++ node ∷ []))) (values_of es)) (sym put) values_below,
+        )

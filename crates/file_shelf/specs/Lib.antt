@@ -1,4 +1,5 @@
 pub mod Answering
 pub mod Bytes
+pub mod Nodes
 pub mod Opened
 pub mod Sizes

@@ -1,8 +1,9 @@
 //! What a stream answers to the system's results.
-ghost use Rattle.std.specs.Prelude.{◌≡◌, ◌≢◌, ◌≤◌, ◌<◌, ◌↔◌, ℕ, length, IfOk, IfErr, IsTrue};
+ghost use Rattle.std.specs.Prelude.{◌≡◌, ◌≢◌, ◌≤◌, ◌<◌, ℕ, length, Ok, IfOk, IfErr, IsErrAnd};
 ghost use Rattle.std.specs.IoError.{error_kind};
 ghost use Rattle.file_shelf.specs.Answering.{answer_to, faults_after};
 
+use crate::trying::unless_interrupted;
 use lvm_script::Failed;
 use std::io;
 use std::io::{ErrorKind, Print, Read};
@@ -22,25 +23,28 @@ pub fn answer(told: io::Result<usize>, faults: &mut u64) -> Result<usize, Failed
     }
 }
 
-// Whether a signal interrupted the call, which is then to be made again.
-fn is_interrupted(e: &io::Error) -> bool
-    ensures { IsTrue result ↔ (error_kind e.now ≡ ErrorKind.Interrupted) }
-{
-    e.kind() == ErrorKind::Interrupted
-}
-
 /// Reads from the input, and tries again where a signal interrupts it.
 pub fn read_some<I: Read>(input: &mut I, into: &mut [u8]) -> io::Result<usize>
     ensures within { IfOk result (λ n. n ≤ length into.old) }
     ensures interrupted { IfErr result (λ e. error_kind e ≢ ErrorKind.Interrupted) }
 {
     for _ in 0..u64::MAX {
-        match input.read(into) {
-            Err(e) if is_interrupted(&e) => {}
-            told => return told,
+        if let Some(told) = unless_interrupted(input.read(into)) {
+            return told;
         }
     }
     Err(io::Error::from(ErrorKind::TimedOut))
+}
+
+// What came of a write of so many bytes. To take nothing of a piece that isn't empty is an error.
+fn taken(told: io::Result<usize>, length: usize) -> io::Result<usize>
+    ensures nothing { told ≡ Ok 0 → 0 < length → IsErrAnd result (λ e. error_kind e ≡ ErrorKind.WriteZero) }
+    ensures told { (told ≡ Ok 0 → length ≡ 0) → result ≡ told }
+{
+    match told {
+        Ok(0) if length > 0 => Err(io::Error::from(ErrorKind::WriteZero)),
+        told => told,
+    }
 }
 
 /// Writes to the output, and tries again where a signal interrupts it. To take nothing of a piece that isn't empty is an
@@ -51,11 +55,8 @@ pub fn write_some<R: Print>(rt: &R, from: &[u8]) -> io::Result<usize>
     ensures interrupted { IfErr result (λ e. error_kind e ≢ ErrorKind.Interrupted) }
 {
     for _ in 0..u64::MAX {
-        match rt.write_some(from) {
-            Ok(n) if n > 0 || from.is_empty() => return Ok(n),
-            Ok(_) => return Err(io::Error::from(ErrorKind::WriteZero)),
-            Err(e) if is_interrupted(&e) => {}
-            Err(e) => return Err(e),
+        if let Some(told) = unless_interrupted(rt.write_some(from)) {
+            return taken(told, from.len());
         }
     }
     Err(io::Error::from(ErrorKind::TimedOut))

@@ -12,7 +12,9 @@ use disk_model::{Done, Op, Shelf};
 use op_queue::{OpQueue, Waiting, disk_of};
 use std::alloc::{AllocError, Global};
 use std::fs::{Files, OpenFile};
+use std::io::Eprint;
 use std::os::unix::fs::FileExt;
+use std::time::Clock;
 
 /// Open files as a row of disks of whole 512-byte sectors. It tells no content.
 ///
@@ -66,19 +68,22 @@ impl<F: ImageFile + Drop> FileShelf<F> {
     ghost use Rattle.file_shelf.specs.Opened.{IsOpened, NamesFile};
 
     /// Opens these files as the disks 0, 1 and so on, to be changed: for reading and writing, and locked for this program alone
-    /// until the shelf is dropped. The bytes of a file past its last whole sector are left alone.
+    /// until the shelf is dropped. It waits as long as another program has one of them locked, and says so on standard error
+    /// where that is longer than a second. The bytes of a file past its last whole sector are left alone.
     ///
     /// # Errors
     ///
-    /// `File` with the number of the first file that can't be opened so, and why: an error of the system, no regular file, the
-    /// same file as an earlier one, locked by another program, or fewer than 8 or more than 2^40 whole sectors. `NoMemory` where
-    /// memory is wanting.
-    pub fn open<R: Files<File = F>>(
+    /// `File` with the number of a file that can't be opened so, and why. First each file is opened: an error of the system, no
+    /// regular file, or the same file as an earlier one. Then each is locked: an error of the system. Then each is measured: an
+    /// error of the system, or fewer than 8 or more than 2^40 whole sectors. In the first and the last step it is the first
+    /// file at fault. `NoMemory` where memory is wanting.
+    pub fn open<R: Files<File = F> + Clock + Eprint>(
         rt: &R,
         alloc: Global,
         names: &Vec<String>,
     ) -> Result<Self, OpenFault>
         ensures ok { IfOk result (λ shelf. IsOpened (vec_len names.now) (⟦<FileShelf<F> as Shelf>⟧.state shelf)) }
+        ensures locked { IfOk result (λ shelf. All (λ image. F.Holds image.file Access.Change) shelf.images.items) }
         ensures file { IfErr result (NamesFile (vec_len names.now)) }
     {
         let images = open_all(rt, alloc, Access::Change, names)?;
@@ -86,17 +91,18 @@ impl<F: ImageFile + Drop> FileShelf<F> {
     }
 
     /// Opens these files as the disks 0, 1 and so on, to be read alone: a write to one of them fails. Others may read them
-    /// meanwhile, and none may change them.
+    /// meanwhile, and none may change them. It waits, as `open` does, for programs that change them.
     ///
     /// # Errors
     ///
-    /// As `open`; a file that is locked to be read can be opened.
-    pub fn open_to_read<R: Files<File = F>>(
+    /// As `open`.
+    pub fn open_to_read<R: Files<File = F> + Clock + Eprint>(
         rt: &R,
         alloc: Global,
         names: &Vec<String>,
     ) -> Result<Self, OpenFault>
         ensures ok { IfOk result (λ shelf. IsOpened (vec_len names.now) (⟦<FileShelf<F> as Shelf>⟧.state shelf)) }
+        ensures locked { IfOk result (λ shelf. All (λ image. F.Holds image.file Access.Read) shelf.images.items) }
         ensures file { IfErr result (NamesFile (vec_len names.now)) }
     {
         let images = open_all(rt, alloc, Access::Read, names)?;
@@ -111,7 +117,8 @@ impl<F: FileExt + OpenFile + Drop> FileShelf<F> {
     fn over(alloc: Global, images: Vec<Image<F>>) -> Result<Self, AllocError>
         requires few { vec_len images < 2 ^ 32 }
         requires sizes { All (λ image. IsSize image.sectors) images.items }
-        ensures { IfOk result (λ shelf. state_of shelf.queue ≡ opened_state (map (λ image. image.sectors) images.items)) }
+        ensures state { IfOk result (λ shelf. state_of shelf.queue ≡ opened_state (map (λ image. image.sectors) images.items)) }
+        ensures images { IfOk result (λ shelf. shelf.images ≡ images) }
     {
         let sizes = sizes_of(alloc, &images)?;
         let queue = OpQueue::new(alloc, sizes)?;

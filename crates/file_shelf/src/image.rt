@@ -1,10 +1,12 @@
 //! The file of one disk: opened, locked and measured.
-ghost use Rattle.std.specs.Prelude.{◌<ℤ◌, pos, IfOk, IfSome, ◌≢◌, All};
+ghost use Rattle.std.specs.Prelude.{◌≡◌, ◌<ℤ◌, pos, IfOk, IfSome, None};
+ghost use Rattle.std.specs.BTreeMap.{get};
+ghost use Rattle.file_shelf.specs.Nodes.{node_cmp};
 ghost use Rattle.file_shelf.specs.Sizes.{IsSize};
 
 use crate::descriptors::is_spared;
 use crate::sizes::size_of_disk;
-use std::collections::BTreeSet;
+use std::collections::BTreeMap;
 use std::fs::{File, Files, Metadata, OpenFile, OpenOptions, TryLockError};
 use std::os::fd::AsRawFd;
 use std::os::unix::fs::{FileExt, MetadataExt};
@@ -13,20 +15,46 @@ use thiserror::Error;
 
 /// A file that can be the file of a disk. Its lock lasts until the file is closed.
 pub trait ImageFile: FileExt + OpenFile + AsRawFd {
+    ghost use Rattle.file_shelf.specs.declared.image.Access.{Access};
+
+    /// It was locked as this access wants.
+    ghost Holds: { Self → Access → Type 0 };
+
     /// Locks it for this program alone, unless another open file has it locked.
-    fn try_lock(&self) -> Result<(), TryLockError>;
+    fn try_lock(&self) -> Result<(), TryLockError>
+        ensures { IfOk result (λ _. Holds self.now Access.Change) };
 
     /// Locks it so that others can only lock it in this way too, unless another open file has it locked for itself alone.
-    fn try_lock_shared(&self) -> Result<(), TryLockError>;
+    fn try_lock_shared(&self) -> Result<(), TryLockError>
+        ensures { IfOk result (λ _. Holds self.now Access.Read) };
+
+    /// Locks it for this program alone, once no other open file has it locked.
+    fn lock(&self) -> io::Result<()>
+        ensures { IfOk result (λ _. Holds self.now Access.Change) };
+
+    /// Locks it so that others can only lock it in this way too, once no other open file has it locked for itself alone.
+    fn lock_shared(&self) -> io::Result<()>
+        ensures { IfOk result (λ _. Holds self.now Access.Read) };
 }
 
+// What the system does is trusted: each call that is well has locked the file.
 impl ImageFile for File {
+    ghost Holds = { λ _ _. Unit {0} };
+
     fn try_lock(&self) -> Result<(), TryLockError> {
         File::try_lock(self)
     }
 
     fn try_lock_shared(&self) -> Result<(), TryLockError> {
         File::try_lock_shared(self)
+    }
+
+    fn lock(&self) -> io::Result<()> {
+        File::lock(self)
+    }
+
+    fn lock_shared(&self) -> io::Result<()> {
+        File::lock_shared(self)
     }
 }
 
@@ -51,9 +79,6 @@ pub enum OpenCause {
     /// An earlier name of the same run reaches the same file.
     #[error("the same file is named twice")]
     NamedTwice,
-    /// Another program has it locked.
-    #[error("in use by another program")]
-    InUse,
     /// It has so many whole sectors of 512 bytes, fewer than 8.
     #[error("too small: {0} sectors of 512 bytes, and a disk has at least 8")]
     FewSectors(u64),
@@ -76,20 +101,18 @@ impl From<io::Error> for OpenCause {
     }
 }
 
-impl From<TryLockError> for OpenCause {
-    fn from(e: TryLockError) -> OpenCause {
-        match e {
-            TryLockError::WouldBlock => OpenCause::InUse,
-            TryLockError::Error(e) => OpenCause::System(e),
-        }
-    }
-}
-
 /// Which file of the system it is: two names reach the same file exactly where their files have the same node.
 #[derive(Clone, Copy, Debug, PartialEq, Eq, PartialOrd, Ord)]
 pub struct Node {
     pub device: u64,
     pub inode: u64,
+}
+
+/// The file of a disk that is open, with its node. Its size isn't known yet.
+#[derive(Debug, Drop)]
+pub struct Unmeasured<F> {
+    pub file: F,
+    pub node: Node,
 }
 
 /// The file of a disk: locked, with its node and its size in sectors.
@@ -130,28 +153,35 @@ where
     }
 }
 
-/// Opens the file of a disk, and locks it. Its node is none of these. Its size is asked for once it is locked.
-pub fn open_image<R: Files>(
+/// Opens the file of a disk, which is none of those with a number.
+pub fn open_file<R: Files>(
     rt: &R,
     access: Access,
     name: &str,
-    others: &BTreeSet<Node>,
-) -> Result<Image<R::File>, OpenCause>
+    numbers: &BTreeMap<Node, u32>,
+) -> Result<Unmeasured<R::File>, OpenCause>
 where
     R::File: ImageFile,
-    ensures size { IfOk result (λ image. IsSize image.sectors) }
-    ensures spared { IfOk result (λ image. IfSome (R.File.raw_fd image.file) (λ fd. pos 2 <ℤ fd)) }
-    ensures other { IfOk result (λ image. All (λ other. other ≢ image.node) others.now.keys) }
+    ensures spared { IfOk result (λ opened. IfSome (R.File.raw_fd opened.file) (λ fd. pos 2 <ℤ fd)) }
+    ensures other { IfOk result (λ opened. get node_cmp numbers.now opened.node ≡ None) }
 {
     let file = open_regular(rt, access, name)?;
     let node = node_of(&file.metadata()?)?;
-    if others.contains(&node) {
-        return Err(OpenCause::NamedTwice);
+    if numbers.contains_key(&node) {
+        Err(OpenCause::NamedTwice)
+    } else {
+        Ok(Unmeasured { file, node })
     }
-    match access {
-        Access::Read => file.try_lock_shared()?,
-        Access::Change => file.try_lock()?,
-    }
+}
+
+/// The file with its size, which is asked for once it is locked: until then another may change it.
+pub fn measured<F: ImageFile + Drop>(opened: Unmeasured<F>) -> Result<Image<F>, OpenCause>
+    requires locked { (access : Access) × F.Holds opened.file access }
+    ensures file { IfOk result (λ image. image.file ≡ opened.file) }
+    ensures node { IfOk result (λ image. image.node ≡ opened.node) }
+    ensures size { IfOk result (λ image. IsSize image.sectors) }
+{
+    let Unmeasured { file, node } = opened;
     let sectors = size_of_disk(file.metadata()?.len())?;
     Ok(Image {
         file,

@@ -1,5 +1,5 @@
 //! What a file does for an operation.
-ghost use Rattle.std.specs.Prelude.{◌≡◌, ◌≤◌, ◌+◌, ◌^◌, ℕ, List, length};
+ghost use Rattle.std.specs.Prelude.{◌≡◌, ◌≤◌, ◌↔◌, ◌+◌, ◌*◌, ◌^◌, ℕ, List, length, IsOk, IsTrue};
 ghost use Rattle.disk_model.specs.Operations.{Lies, work_of};
 ghost use Rattle.file_shelf.specs.Bytes.{IsInFile};
 
@@ -7,6 +7,7 @@ use crate::copying::{SECTOR, gather, scatter};
 use disk_model::Op;
 use sector_base::Sectors;
 use std::fs::OpenFile;
+use std::io;
 use std::os::unix::fs::FileExt;
 
 /// How many bytes are read or written at once.
@@ -15,12 +16,18 @@ pub const AT_ONCE: usize = 65_536;
 // The place of a sector in its file, in bytes.
 fn offset(sector: u64) -> u64
     requires { sector ≤ 2 ^ 40 }
+    ensures { result ≡ 512 * sector }
 {
     512 * sector
 }
 
 // Reads from the sector `first` on until all are filled. What comes after a fault stays.
-fn read_span<F: FileExt>(file: &F, first: u64, into: &mut Sectors, bytes: &mut [u8]) -> bool
+fn read_span<F: FileExt>(
+    file: &F,
+    first: u64,
+    into: &mut Sectors,
+    bytes: &mut [u8],
+) -> io::Result<()>
     requires within { first + length into.old ≤ 2 ^ 40 }
     requires room { length bytes.old ≡ AT_ONCE }
     ensures { length into.new ≡ length into.old }
@@ -29,20 +36,15 @@ fn read_span<F: FileExt>(file: &F, first: u64, into: &mut Sectors, bytes: &mut [
     while done < into.len() {
         let count = (into.len() - done).min(AT_ONCE / SECTOR);
         let piece = &mut bytes[..SECTOR * count];
-        if file
-            .read_exact_at(piece, offset(first + done as u64))
-            .is_err()
-        {
-            return false;
-        }
+        file.read_exact_at(piece, offset(first + done as u64))?;
         scatter(piece, into, done, count);
         done += count;
     }
-    true
+    Ok(())
 }
 
 // Writes all, from the sector `first` on, up to a fault.
-fn write_span<F: FileExt>(file: &F, first: u64, from: &Sectors, bytes: &mut [u8]) -> bool
+fn write_span<F: FileExt>(file: &F, first: u64, from: &Sectors, bytes: &mut [u8]) -> io::Result<()>
     requires within { first + length from.now ≤ 2 ^ 40 }
     requires room { length bytes.old ≡ AT_ONCE }
 {
@@ -51,15 +53,17 @@ fn write_span<F: FileExt>(file: &F, first: u64, from: &Sectors, bytes: &mut [u8]
         let count = (from.len() - done).min(AT_ONCE / SECTOR);
         let piece = &mut bytes[..SECTOR * count];
         gather(from, done, count, piece);
-        if file
-            .write_all_at(piece, offset(first + done as u64))
-            .is_err()
-        {
-            return false;
-        }
+        file.write_all_at(piece, offset(first + done as u64))?;
         done += count;
     }
-    true
+    Ok(())
+}
+
+// Whether all was done that was asked of the system.
+fn is_well(told: io::Result<()>) -> bool
+    ensures { IsTrue result ↔ IsOk told }
+{
+    told.is_ok()
 }
 
 /// Carries the operation out, and says whether it went well. A flush syncs the file.
@@ -72,13 +76,13 @@ pub fn carry_out<F: FileExt + OpenFile>(file: &F, op: Op, bytes: &mut [u8]) -> (
     match op {
         Op::Read(span, buffer) => {
             let mut buffer = buffer;
-            let well = read_span(file, span.first, &mut buffer, bytes);
-            (Op::Read(span, buffer), well)
+            let told = read_span(file, span.first, &mut buffer, bytes);
+            (Op::Read(span, buffer), is_well(told))
         }
         Op::Write(span, sectors) => {
-            let well = write_span(file, span.first, &sectors, bytes);
-            (Op::Write(span, sectors), well)
+            let told = write_span(file, span.first, &sectors, bytes);
+            (Op::Write(span, sectors), is_well(told))
         }
-        Op::Flush(pv) => (Op::Flush(pv), file.sync_all().is_ok()),
+        Op::Flush(pv) => (Op::Flush(pv), is_well(file.sync_all())),
     }
 }

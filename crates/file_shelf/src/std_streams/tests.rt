@@ -16,15 +16,23 @@ fn write_to<W: Sink>(sink: &mut W, from: &[u8]) -> (Option<usize>, u64) {
     (n, sink.faults())
 }
 
+// Some ways to fail, all of which are faults.
+const KINDS: [ErrorKind; 4] = [
+    ErrorKind::Other,
+    ErrorKind::IsADirectory,
+    ErrorKind::StorageFull,
+    ErrorKind::UnexpectedEof,
+];
+
 fn failure() -> io::Error {
     io::Error::from(ErrorKind::Other)
 }
 
-// An input that a signal interrupts so many times, and that then fails or fills each piece.
+// An input that a signal interrupts so many times, and that then fails in this way or fills each piece.
 #[derive(Drop)]
 struct Planned {
     interrupts: u32,
-    fails: bool,
+    fails: Option<ErrorKind>,
 }
 
 impl Read for Planned {
@@ -32,25 +40,26 @@ impl Read for Planned {
         if self.interrupts > 0 {
             self.interrupts -= 1;
             Err(io::Error::from(ErrorKind::Interrupted))
-        } else if self.fails {
-            Err(failure())
         } else {
-            Ok(buf.len())
+            match self.fails {
+                Some(kind) => Err(io::Error::from(kind)),
+                None => Ok(buf.len()),
+            }
         }
     }
 }
 
-// An output that a signal interrupts so many times, and that then takes so many bytes of each write, or fails.
+// An output that a signal interrupts so many times, and that then takes so many bytes of each write, or fails in this way.
 #[derive(Drop)]
 struct Takes {
     interrupts: Cell<u32>,
-    most: Option<usize>,
+    most: Result<usize, ErrorKind>,
 }
 
 fn output_of(most: usize) -> Takes {
     Takes {
         interrupts: Cell::new(0),
-        most: Some(most),
+        most: Ok(most),
     }
 }
 
@@ -74,8 +83,8 @@ impl Print for Takes {
             return Err(io::Error::from(ErrorKind::Interrupted));
         }
         match self.most {
-            Some(most) => Ok(bytes.len().min(most)),
-            None => Err(failure()),
+            Ok(most) => Ok(bytes.len().min(most)),
+            Err(kind) => Err(io::Error::from(kind)),
         }
     }
 }
@@ -91,15 +100,17 @@ fn a_source_counts_its_faults(rt: HostRuntime) {
     assert_eq!(rt; &piece, b"lvs");
     assert_eq!(rt; read_from(&mut given, &mut piece), (Some(1), 0));
     assert_eq!(rt; read_from(&mut given, &mut piece), (Some(0), 0));
-    let mut source = StdSource {
-        input: Planned {
-            interrupts: 0,
-            fails: true,
-        },
-        faults: u64::MAX - 1,
-    };
-    assert_eq!(rt; read_from(&mut source, &mut piece), (None, u64::MAX));
-    assert_eq!(rt; read_from(&mut source, &mut piece), (None, u64::MAX));
+    for kind in KINDS {
+        let mut source = StdSource {
+            input: Planned {
+                interrupts: 0,
+                fails: Some(kind),
+            },
+            faults: u64::MAX - 1,
+        };
+        assert_eq!(rt; read_from(&mut source, &mut piece), (None, u64::MAX));
+        assert_eq!(rt; read_from(&mut source, &mut piece), (None, u64::MAX));
+    }
     let mut input = StdSource::new(&rt);
     assert_eq!(rt; read_from(&mut input, &mut []), (Some(0), 0));
 }
@@ -121,13 +132,15 @@ fn a_sink_that_takes_nothing_is_at_fault(rt: HostRuntime) {
 // An error of the system is a fault, and nothing was written.
 #[test]
 fn a_sink_that_fails_is_at_fault(rt: HostRuntime) {
-    let mut broken = StdSink::new(Takes {
-        interrupts: Cell::new(0),
-        most: None,
-    });
-    assert_eq!(rt; write_to(&mut broken, b"ok\n"), (None, 1));
-    assert_eq!(rt; write_bytes(&mut broken, b"ok\n"), Err(Failed));
-    assert_eq!(rt; broken.faults(), 2);
+    for kind in KINDS {
+        let mut broken = StdSink::new(Takes {
+            interrupts: Cell::new(0),
+            most: Err(kind),
+        });
+        assert_eq!(rt; write_to(&mut broken, b"ok\n"), (None, 1));
+        assert_eq!(rt; write_bytes(&mut broken, b"ok\n"), Err(Failed));
+        assert_eq!(rt; broken.faults(), 2);
+    }
 }
 
 // What a signal interrupts is tried again, and is no fault.
@@ -136,7 +149,7 @@ fn tries_again_after_an_interrupt(rt: HostRuntime) {
     let mut source = StdSource {
         input: Planned {
             interrupts: 3,
-            fails: false,
+            fails: None,
         },
         faults: 0,
     };
@@ -144,7 +157,7 @@ fn tries_again_after_an_interrupt(rt: HostRuntime) {
     assert_eq!(rt; read_from(&mut source, &mut piece), (Some(3), 0));
     let mut sink = StdSink::new(Takes {
         interrupts: Cell::new(3),
-        most: Some(2),
+        most: Ok(2),
     });
     assert_eq!(rt; write_to(&mut sink, b"ok\n"), (Some(2), 0));
 }

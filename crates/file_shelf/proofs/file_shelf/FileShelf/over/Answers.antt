@@ -19,5 +19,5 @@ invariant_of-result g c =
       room = c.in_ok-bytes.ensures.len;
     }
 
-pub returns : goal.returns
-returns g c = c.in_ok-queue.ensures.state ∙ ap opened_state c.in_ok-sizes.ensures
+pub returns-clause-state : goal.returns-clause-state
+returns-clause-state g c = c.in_ok-queue.ensures.state ∙ ap opened_state c.in_ok-sizes.ensures
