@@ -4,6 +4,7 @@ pub mod CommandSpec
 pub mod Commands
 pub mod Disks
 pub mod Endings
+pub mod Guarded
 pub mod History
 pub mod Meets
 pub mod Outcomes

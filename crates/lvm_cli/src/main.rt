@@ -1,7 +1,8 @@
 //! `lvm`, a volume manager over disk images in lvm2's own on-disk format.
 //!
-//! `lvm_run` is all that the program does, over any row of disks and any streams, and what is promised are its clauses. `main`
-//! makes the real files, clock and streams, and calls it.
+//! `lvm_run` is all that the program does, over any row of disks and any streams, and what is promised are its clauses.
+//! `guarded_run` calls it once no disk that the command takes is in use. `main` makes the real files, clock and streams, and
+//! calls that.
 #![tactic(auto)]
 
 ghost use Rattle.std.specs.Prelude.{◌≡◌, List, Some, IfOk};
@@ -14,7 +15,10 @@ mod changing;
 mod commands;
 mod ending;
 mod entered;
+mod force;
+mod guarded;
 mod lvm_run;
+mod not_run;
 mod opening;
 mod outcome;
 mod output;
@@ -30,9 +34,11 @@ mod usage;
 
 use arguments::arguments;
 use file_shelf::{StdSink, StdSource};
-use lvm_run::lvm_run;
+use force::take_force;
+use guarded::guarded_run;
 use lvm_script::DiskNames;
 use lvm_words::{WordsRefusal, disk_names};
+use not_run::say_not_run;
 use seed::{ids_of_system, seconds, since_1970};
 use startup::{NO_MEMORY, NOT_TO_BE_HAD, WORDS_REFUSED, open_disks, say_fault};
 use std::alloc::{AllocError, Global};
@@ -47,9 +53,10 @@ fn main(rt: HostRuntime) -> ExitCode {
         let _ = eprintln!(rt; "neither random numbers nor a clock to draw ids from");
         return ExitCode::from(NOT_TO_BE_HAD);
     };
-    let Ok(words) = arguments(&rt) else {
+    let Ok(mut words) = arguments(&rt) else {
         return ExitCode::from(NO_MEMORY);
     };
+    let forced = take_force(&mut words);
     let Ok(names) = named_disks(rt.alloc(), &words) else {
         return ExitCode::from(NO_MEMORY);
     };
@@ -60,9 +67,10 @@ fn main(rt: HostRuntime) -> ExitCode {
     };
     let mut script = StdSource::new(&rt);
     let mut out = StdSink::new(&rt);
-    let ended = lvm_run(
+    let ended = guarded_run(
         &rt,
         rt.alloc(),
+        forced,
         &words,
         &mut script,
         &mut out,
@@ -71,10 +79,15 @@ fn main(rt: HostRuntime) -> ExitCode {
         seconds(since),
         &OpenGate,
     );
-    if ended.status == WORDS_REFUSED {
-        say_usage(&rt, rt.alloc(), &words);
+    match ended {
+        Ok(ended) => {
+            if ended.status == WORDS_REFUSED {
+                say_usage(&rt, rt.alloc(), &words);
+            }
+            ExitCode::from(ended.status)
+        }
+        Err((why, _)) => ExitCode::from(say_not_run(&rt, names, why)),
     }
-    ExitCode::from(ended.status)
 }
 
 // Says on standard error which word is at fault, and how the command is used.

@@ -55,7 +55,7 @@ fn push_fault(
         text.push_str(word.as_str())?;
         text.push(' ')?;
     }
-    text.push_str(text_of(fault))?;
+    text.push_str(text_of(fault, word))?;
     text.push('\n')?;
     match CommandName::named(first.as_bytes()) {
         Some(name) if name.is_for_words() => push_usage(text, name),
@@ -84,11 +84,19 @@ fn push_usage(text: &mut String, name: CommandName) -> Result<(), AllocError> {
     text.push('\n')
 }
 
-// What is said of a faulty word behind it, or alone of words that are wrong as a whole.
-fn text_of(fault: LineFault) -> &'static str {
+// Whether the word is a number or a size behind a minus.
+fn is_negative(word: &String) -> bool {
+    matches!(word.as_bytes(), [b'-', b'0'..=b'9', ..])
+}
+
+// What is said of this faulty word behind it, or alone of words that are wrong as a whole.
+fn text_of(fault: LineFault, word: Option<&String>) -> &'static str {
     match fault {
         LineFault::UnknownWord => "is no command",
         LineFault::NotHere => "stands in scripts alone",
+        LineFault::Faulty(Fault::BadOption) if word.is_some_and(is_negative) => {
+            "has a minus: a number or size says here how much there is to be, and not how much less"
+        }
         LineFault::Faulty(Fault::BadOption) => {
             "is no option of the command, stands a second time, or is no policy of allocation"
         }

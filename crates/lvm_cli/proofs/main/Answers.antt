@@ -7,8 +7,8 @@ use Rattle.lvm_words.specs.Disks.{disks_named}
 use Rattle.lvm_cli.proofs.OpenedDisks.{opened_disks_as}
 use Rattle.lvm_cli.proofs.main.Goals as goal
 
-pub lvm_run-ended-requires-clause-disks : goal.lvm_run-ended-requires-clause-disks
-lvm_run-ended-requires-clause-disks g c κs = λ names named.
+pub guarded_run-ended-requires-clause-disks : goal.guarded_run-ended-requires-clause-disks
+guarded_run-ended-requires-clause-disks g c κs = λ names named.
     let list = c.as_vec-names.result.now in
     let again = subst (λ (w : List (String _)). disks_named (words_of w) ≡ Some names) (sym c.deref.ensures.value) named in
     let are : names ≡ words_of list.items = c.in-Ok-named_disks.ensures names again ∙ sym c.as_vec-names.ensures in

@@ -16,7 +16,8 @@ fn list_of(alloc: Global, words: &[&str]) -> Result<Vec<String>, AllocError> {
 fn the_faulty_word_is_told_with_the_usage_of_its_command(rt: HostRuntime) -> Result<(), Fail> {
     let pvcreate = "usage: lvm -d NAME [-d NAME ...] pvcreate [--metadatacopies 0|1] PV\n";
     let lvs = "usage: lvm -d NAME [-d NAME ...] lvs\n";
-    let rows: [(&[&str], &str, &str); 8] = [
+    let lvreduce = "usage: lvm -d NAME [-d NAME ...] lvreduce (-l N | -L SIZE) VG/LV\n";
+    let rows: [(&[&str], &str, &str); 9] = [
         (
             &["-d", "a", "pvcreate", "--metadatacopies", "2", "a"],
             "lvm: 2 is outside of what is allowed here\n",
@@ -60,6 +61,11 @@ fn the_faulty_word_is_told_with_the_usage_of_its_command(rt: HostRuntime) -> Res
             &["-d", "-d", "lvs", "-h"],
             "lvm: -h is no option of the command, stands a second time, or is no policy of allocation\n",
             lvs,
+        ),
+        (
+            &["-d", "a", "lvreduce", "-L", "-4m", "vg0/data"],
+            "lvm: -4m has a minus: a number or size says here how much there is to be, and not how much less\n",
+            lvreduce,
         ),
         (
             &["-d", "a", "pvmove", "a"],
