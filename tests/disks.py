@@ -33,14 +33,15 @@ def sealed(body, number):
     return b"LABELONE" + struct.pack("<QI", number, crc(body)) + body
 
 
-def label(name, sectors, areas=(AREA,), data=((PE_START * SECTOR, 0),), contents=32, kind=b"LVM2 001", number=1):
-    """The label of a physical volume with this id."""
+def label(name, sectors, areas=(AREA,), data=((PE_START * SECTOR, 0),), contents=32, kind=b"LVM2 001", number=1, flags=1):
+    """The label of a physical volume with this id. The lowest of the flags says that a group uses it; without flags the header
+    has no extension."""
     body = struct.pack("<I8s", contents, kind) + plain(name).encode() + struct.pack("<Q", sectors * SECTOR)
     for pairs in (data, areas):
         for offset, size in pairs:
             body += struct.pack("<QQ", offset, size)
         body += struct.pack("<QQ", 0, 0)
-    return sealed(body + struct.pack("<IIQQ", 2, 1, 0, 0), number)
+    return sealed(body if flags is None else body + struct.pack("<IIQQ", 2, flags, 0, 0), number)
 
 
 def header(area, entry=None, ignored=False, said=None):

@@ -34,6 +34,22 @@ def areas(image):
     return pairs(image, behind)[0]
 
 
+def is_marked(image):
+    """Whether its label says that a group uses the physical volume."""
+    at = label_at(image)
+    if at is None:
+        return False
+    _, behind = pairs(image, at + 72)
+    _, behind = pairs(image, behind)
+    version, flags = struct.unpack_from("<II", image, behind)
+    return version > 0 and flags & 1 == 1
+
+
+def is_left(image):
+    """Whether its label says that a group uses it and no area tells of one."""
+    return is_marked(image) and not any(texts(image))
+
+
 def text(image, area):
     """The committed text of the area, b"" where it has none, and None where the area is ignored."""
     start, size = area

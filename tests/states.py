@@ -149,6 +149,10 @@ class Command:
         self.words, self.change, self.is_done, self.again = words, change, is_done, again
         self.disks, self.areas, self.creates, self.source = disks, areas, creates, source
 
+    def takes(self):
+        """The disks that are to be free before it."""
+        return self.disks if self.words.split()[0] in ("pvcreate", "vgcreate", "vgextend") else []
+
     def after(self, state):
         return state if self.is_done(state) else self.change(state)
 
