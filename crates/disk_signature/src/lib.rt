@@ -11,6 +11,3 @@ mod table;
 
 pub use find::find_signature;
 pub use kind::Kind;
-
-#[cfg(test)]
-mod tests;

@@ -15,6 +15,3 @@ mod use_refusal;
 pub use find::find_use;
 pub use in_use::{InUse, Use};
 pub use use_refusal::UseRefusal;
-
-#[cfg(test)]
-mod tests;

@@ -16,6 +16,3 @@ mod text_bytes;
 
 pub use laws::one_reading;
 pub use scanning::{ScanStopped, scan};
-
-#[cfg(test)]
-mod tests;

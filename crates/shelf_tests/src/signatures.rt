@@ -1,11 +1,11 @@
 //! Disks in memory: one for each signature, blank and short ones, two signatures on one, and reads that fail.
-ghost use Rattle.std.specs.Prelude.{◌<◌, ◌≡◌, ◌≤◌, ◌+◌, ◌^◌, [], ◌∷◌, length, IfOk};
-ghost use Rattle.dev_shelf.specs.DiskRow.{new_state};
+ghost use Rattle.std.specs.Prelude.{◌<◌, ◌≡◌, ◌≤◌, ◌+◌, ◌^◌, length, IfOk};
 
-use crate::{Kind, find_signature};
-use dev_shelf::{Fail as Failure, Images, MemShelf, Shelf, ShelfPlan};
+use crate::disks::shelf_of_one;
+use dev_shelf::{Fail as Failure, Shelf};
 use disk_contents::ReadRefusal;
 use disk_model::DiskFault;
+use disk_signature::{Kind, find_signature};
 use sector_base::{Bytes512, Sectors};
 use std::alloc::{AllocError, Global};
 use std::test::Fail;
@@ -105,26 +105,11 @@ static EXPECTED: [Expected; 76] = [
     Expected(Kind::Dos, 0, 510, b"U\xaa"),
 ];
 
-// A shelf of this disk, on which these operations are to fail.
-fn shelf_of(alloc: Global, disk: Sectors, fails: Vec<Failure>) -> Result<MemShelf, AllocError>
-    ensures { IfOk result (λ shelf. ⟦<MemShelf as Shelf>⟧.state shelf ≡ new_state (disk ∷ [])) }
-{
-    let mut disks = Vec::new(alloc);
-    disks.push(disk)?;
-    let plan = ShelfPlan {
-        picks: Vec::new(alloc),
-        fails,
-        holds: Vec::new(alloc),
-        limit: 0,
-    };
-    MemShelf::new(alloc, Images::from_vec(disks), plan)
-}
-
 // What the disk tells.
 fn kind_on(alloc: Global, disk: Sectors) -> Result<Option<Kind>, Fail>
     requires { length disk < 2 ^ 32 }
 {
-    let mut shelf = shelf_of(alloc, disk, Vec::new(alloc))?;
+    let mut shelf = shelf_of_one(alloc, disk, Vec::new(alloc))?;
     Ok(find_signature(alloc, &mut shelf, 0)?)
 }
 
@@ -198,7 +183,7 @@ fn a_failed_read_is_answered(rt: HostRuntime) -> Result<(), Fail> {
     for tag in [0, 75u64] {
         let mut fails = Vec::new(alloc);
         fails.push(Failure { tag, fresh: 0 })?;
-        let mut shelf = shelf_of(alloc, Sectors::zeroed(alloc, SECTORS)?, fails)?;
+        let mut shelf = shelf_of_one(alloc, Sectors::zeroed(alloc, SECTORS)?, fails)?;
         let answer = find_signature(alloc, &mut shelf, 0);
         assert_eq!(rt; answer, Err(ReadRefusal::ReadFailed(DiskFault { pv: 0 })));
         assert_eq!(rt; shelf.steps(), 2 * tag + 2);

@@ -1,68 +1,22 @@
 //! Disks in memory: a blank one, one with a signature, marked ones with and without their group, and a read that fails.
-ghost use Rattle.std.specs.Prelude.{◌≡◌, ◌≤◌, [], ◌∷◌, length, IfOk};
-ghost use Rattle.dev_shelf.specs.DiskRow.{new_state};
+ghost use Rattle.std.specs.Prelude.{◌≡◌, ◌≤◌, length, IfOk};
 
-use crate::{InUse, Use, UseRefusal, find_use};
-use dev_shelf::{Fail as Failure, Images, MemShelf, Shelf, ShelfPlan};
-use lvm_id::parse_plain;
+use crate::disks::{AREA, SUM, header, header_sector, shelf_of_two, text, volume_sector};
+use disk_use::{InUse, Use, UseRefusal, find_use};
 use lvm_script::{Command, DiskNames, Names};
-use mda_header::{Locn, MdaHeader, write_mda};
-use pv_header::{Extent, Extents, PvHeader, write_pv};
+use mda_header::Locn;
+use pv_header::Extent;
 use pv_label::seal_label;
 use sector_base::{Bytes512, Sectors, Text};
 use std::alloc::{AllocError, Global};
 use std::process::Abort;
 use std::test::Fail;
 
-// A group of one volume, as it is printed: 477 bytes.
-const TEXT: &[u8] = b"vg0 {\n\
-id = \"400000-0050-0000-0060-0000-0070-000000\"\n\
-seqno = 1\n\
-format = \"lvm2\"\n\
-status = [\"RESIZEABLE\", \"READ\", \"WRITE\"]\n\
-flags = []\n\
-extent_size = 8192\n\
-max_lv = 0\n\
-max_pv = 0\n\
-metadata_copies = 0\n\
-physical_volumes {\n\
-pv0 {\n\
-id = \"000000-0010-0000-0001-0000-0030-000000\"\n\
-device = \"a\"\n\
-status = [\"ALLOCATABLE\"]\n\
-flags = []\n\
-dev_size = 131072\n\
-pe_start = 2048\n\
-pe_count = 0\n\
-}\n\
-}\n\
-}\n\
-contents = \"Text Format Volume Group\"\n\
-version = 1\n\
-description = \"\"\n\
-creation_host = \"localhost\"\n\
-creation_time = 0\n";
-
-fn text() -> &'static [u8] {
-    TEXT
-}
-
-const DATA: Extent = Extent {
-    offset: 16_384,
-    size: 0,
-};
-
-// An area of a header and seven sectors more, from sector 8 on.
-const AREA: Extent = Extent {
-    offset: 4_096,
-    size: 4_096,
-};
-
-// The text, in the ring's first sector. The checksum is from a bitwise computation outside of this program.
+// The text, in the ring's first sector.
 const FIRST: Locn = Locn {
     offset: 512,
     size: 478,
-    sum: 0xE76D_5F4C,
+    sum: SUM,
 };
 
 // A blank disk of 64 sectors.
@@ -91,23 +45,11 @@ fn disk_with(
 }
 
 // A disk whose label says that a group uses it, with these metadata areas.
-fn marked(rt: &impl Abort, alloc: Global, areas: &[Extent]) -> Result<Sectors, AllocError>
+fn marked(alloc: Global, areas: &[Extent]) -> Result<Sectors, Fail>
     requires { length areas.now ≤ 2 }
     ensures { IfOk result (λ disk. length disk ≡ 64) }
 {
-    let id = parse_plain(b"00000000100000000100000030000000")
-        .ok()
-        .expect(rt, "an id");
-    let header = PvHeader {
-        id,
-        device_bytes: 32_768,
-        data_areas: Extents::from_vec(Vec::from_slice(alloc, &[DATA])?),
-        areas: Extents::from_vec(Vec::from_slice(alloc, areas)?),
-        version: 2,
-        flags: 1,
-    };
-    let mut label = Bytes512::zeroed();
-    write_pv(&header, &mut label);
+    let mut label = volume_sector(alloc, areas, 1)?;
     seal_label(&mut label, 1);
     let mut disk = blank(alloc)?;
     disk.set(1, label);
@@ -115,51 +57,17 @@ fn marked(rt: &impl Abort, alloc: Global, areas: &[Extent]) -> Result<Sectors, A
 }
 
 // A marked disk that holds the text of its group.
-fn listed(rt: &impl Abort, alloc: Global) -> Result<Sectors, AllocError>
+fn listed(rt: &impl Abort, alloc: Global) -> Result<Sectors, Fail>
     ensures { IfOk result (λ disk. length disk ≡ 64) }
 {
-    let header = MdaHeader {
-        start: AREA.offset,
-        size: AREA.size,
-        committed: Some(FIRST),
-        precommitted: None,
-        ignored: false,
-    };
-    let mut first = Bytes512::zeroed();
-    write_mda(&header, &mut first);
     let text = text();
     assert!(rt; text.len() <= 512);
     let mut second = Bytes512::zeroed();
     second.put(0, text);
-    let mut disk = marked(rt, alloc, &[AREA])?;
-    disk.set(8, first);
+    let mut disk = marked(alloc, &[AREA])?;
+    disk.set(8, header_sector(&header(AREA, Some(FIRST))));
     disk.set(9, second);
     Ok(disk)
-}
-
-// A shelf of these disks, on which the operation with this tag fails, if one is to.
-fn shelf_of(
-    alloc: Global,
-    first: Sectors,
-    second: Sectors,
-    fails: Option<u64>,
-) -> Result<MemShelf, AllocError>
-    ensures { IfOk result (λ shelf. ⟦<MemShelf as Shelf>⟧.state shelf ≡ new_state (first ∷ second ∷ [])) }
-{
-    let mut disks = Vec::new(alloc);
-    disks.push(first)?;
-    disks.push(second)?;
-    let mut failures = Vec::new(alloc);
-    if let Some(tag) = fails {
-        failures.push(Failure { tag, fresh: 0 })?;
-    }
-    let plan = ShelfPlan {
-        picks: Vec::new(alloc),
-        fails: failures,
-        holds: Vec::new(alloc),
-        limit: 0,
-    };
-    MemShelf::new(alloc, Images::from_vec(disks), plan)
 }
 
 // The names of both disks.
@@ -205,7 +113,7 @@ fn found(
 ) -> Result<Result<Option<InUse>, UseRefusal>, AllocError>
     requires { (length first ≡ 64) × (length second ≡ 64) }
 {
-    let mut shelf = shelf_of(alloc, first, second, fails)?;
+    let mut shelf = shelf_of_two(alloc, first, second, fails)?;
     let names = disk_names(alloc)?;
     Ok(find_use(alloc, &mut shelf, &names, command))
 }
@@ -223,8 +131,8 @@ fn answer(
 fn a_blank_disk_is_free(rt: HostRuntime) -> Result<(), Fail> {
     let alloc = rt.alloc();
     let command = pvcreate(alloc)?;
-    let first = blank(alloc).ok().expect(&rt, "there is memory");
-    let second = blank(alloc).ok().expect(&rt, "there is memory");
+    let first = blank(alloc)?;
+    let second = blank(alloc)?;
     let found = found(alloc, first, second, None, &command);
     assert!(rt; answer(&rt, found).is_none());
     Ok(())
@@ -237,7 +145,7 @@ fn a_disk_with_a_signature_is_in_use(rt: HostRuntime) -> Result<(), Fail> {
     let ext = disk_with(&rt, alloc, 2, 56, &[0x53, 0xEF])
         .ok()
         .expect(&rt, "there is memory");
-    let second = blank(alloc).ok().expect(&rt, "there is memory");
+    let second = blank(alloc)?;
     let found = found(alloc, ext, second, None, &command);
     let found = answer(&rt, found).expect(&rt, "a disk in use");
     assert!(rt; found.pv == 0 && matches!(found.by, Use::Signature(_)));
@@ -248,8 +156,8 @@ fn a_disk_with_a_signature_is_in_use(rt: HostRuntime) -> Result<(), Fail> {
 fn a_marked_disk_without_its_group_is_in_use(rt: HostRuntime) -> Result<(), Fail> {
     let alloc = rt.alloc();
     let command = vgextend(&rt, alloc, b"b");
-    let first = blank(alloc).ok().expect(&rt, "there is memory");
-    let second = marked(&rt, alloc, &[]).ok().expect(&rt, "there is memory");
+    let first = blank(alloc)?;
+    let second = marked(alloc, &[])?;
     let found = found(alloc, first, second, None, &command);
     let found = answer(&rt, found).expect(&rt, "a disk in use");
     assert!(rt; found.pv == 1 && matches!(found.by, Use::Group));
@@ -260,8 +168,8 @@ fn a_marked_disk_without_its_group_is_in_use(rt: HostRuntime) -> Result<(), Fail
 fn a_marked_disk_of_a_group_is_free(rt: HostRuntime) -> Result<(), Fail> {
     let alloc = rt.alloc();
     let command = vgextend(&rt, alloc, b"a");
-    let first = listed(&rt, alloc).ok().expect(&rt, "there is memory");
-    let second = blank(alloc).ok().expect(&rt, "there is memory");
+    let first = listed(&rt, alloc)?;
+    let second = blank(alloc)?;
     let found = found(alloc, first, second, None, &command);
     assert!(rt; answer(&rt, found).is_none());
     Ok(())
@@ -271,8 +179,8 @@ fn a_marked_disk_of_a_group_is_free(rt: HostRuntime) -> Result<(), Fail> {
 fn a_failed_read_is_refused(rt: HostRuntime) -> Result<(), Fail> {
     let alloc = rt.alloc();
     let command = vgextend(&rt, alloc, b"a");
-    let first = blank(alloc).ok().expect(&rt, "there is memory");
-    let second = blank(alloc).ok().expect(&rt, "there is memory");
+    let first = blank(alloc)?;
+    let second = blank(alloc)?;
     let found = found(alloc, first, second, Some(0), &command);
     let refused = found.ok().expect(&rt, "there is memory").err();
     assert!(rt; refused == Some(UseRefusal::ReadFailed(0)));
