@@ -2,7 +2,7 @@
 use Rattle.std.proofs.Common.{◌≡◌, ℕ, refl, sym, subst, arith}
 use Rattle.disk_model.specs.State.{State}
 use Rattle.file_shelf.specs.Opened.{IsOpened}
-use Rattle.lvm_cli.specs.Disks.{AreDisks}
+use Rattle.lvm_run.specs.Disks.{AreDisks}
 
 opened_disks : (count : ℕ) (state : State) → IsOpened count state → AreDisks count state
 opened_disks count state opened = subst (AreDisks count) (sym opened.3) (record {

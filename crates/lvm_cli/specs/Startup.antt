@@ -6,7 +6,7 @@ use Rattle.lvm_script.specs.declared.request.Request.{Request}
 use Rattle.lvm_script.specs.declared.request.Request.TheVariants.{One}
 use Rattle.lvm_script.specs.Lines.{changes}
 use Rattle.lvm_words.specs.declared.command_line.CommandLine.{CommandLine}
-use Rattle.lvm_cli.specs.Commands.{is_built}
+use Rattle.lvm_run.specs.Commands.{is_built}
 
 -- what is asked for runs, and changes something
 abbrev pub changes_by : Request → Bool

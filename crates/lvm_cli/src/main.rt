@@ -1,8 +1,6 @@
 //! `lvm`, a volume manager over disk images in lvm2's own on-disk format.
 //!
-//! `lvm_run` is all that the program does, over any row of disks and any streams, and what is promised are its clauses.
-//! `guarded_run` calls it once no disk that the command takes is in use. `main` makes the real files, clock and streams, and
-//! calls that.
+//! `main` makes the real files, clock and streams, and calls `guarded_run` (`lvm_run`), which is all that the program does.
 #![tactic(auto)]
 
 ghost use Rattle.std.specs.Prelude.{◌≡◌, List, Some, IfOk};
@@ -10,32 +8,16 @@ ghost use Rattle.lvm_script.specs.Options.{Word, words_of};
 ghost use Rattle.lvm_words.specs.Disks.{disks_named};
 
 mod arguments;
-mod built;
-mod changing;
-mod commands;
-mod ending;
-mod entered;
 mod force;
-mod guarded;
-mod lvm_run;
 mod not_run;
-mod opening;
-mod outcome;
-mod output;
-mod ran;
-mod scan_refusal;
-mod scanned;
 mod seed;
-mod sourced;
 mod startup;
-#[cfg(test)]
-mod tests;
 mod usage;
 
 use arguments::arguments;
 use file_shelf::{StdSink, StdSource};
 use force::take_force;
-use guarded::guarded_run;
+use lvm_run::guarded_run;
 use lvm_script::DiskNames;
 use lvm_words::{WordsRefusal, disk_names};
 use not_run::say_not_run;

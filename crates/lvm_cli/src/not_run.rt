@@ -1,22 +1,15 @@
-//! Why nothing ran, and what is said of it.
+//! What is said where nothing ran.
 ghost use Rattle.std.specs.Prelude.{◌≡◌, length};
-ghost use Rattle.lvm_cli.specs.Guarded.{NamesOne, status_not_run};
+ghost use Rattle.lvm_run.specs.Guarded.{NamesOne};
+ghost use Rattle.lvm_cli.specs.NotRun.{status_not_run};
 
 use crate::startup::{NO_MEMORY, NOT_TO_BE_HAD};
-use disk_use::{InUse, Use, UseRefusal};
+use disk_use::{Use, UseRefusal};
+use lvm_run::NotRun;
 use std::io::Eprint;
 
 /// The exit status where a disk is in use.
 const REFUSED: u8 = 5;
-
-/// Why nothing ran.
-#[derive(Clone, Copy, Debug)]
-pub enum NotRun {
-    /// A disk that the command would take is in use.
-    InUse(InUse),
-    /// It couldn't be told whether one is.
-    Untold(UseRefusal),
-}
 
 /// Says on standard error in one line why nothing ran, where the disks have these names, and gives the exit status.
 pub fn say_not_run<R: Eprint>(rt: &R, names: &[String], why: NotRun) -> u8

@@ -5,9 +5,9 @@ ghost use Rattle.lvm_cli.specs.Startup.{changes_disks, opening_status};
 ghost use Rattle.lvm_script.specs.Options.{words_of};
 ghost use Rattle.lvm_words.specs.CommandLines.{command_line_of};
 
-use crate::built::is_built;
 use disk_model::Shelf;
 use file_shelf::{FileShelf, ImageFile, OpenFault};
+use lvm_run::is_built;
 use lvm_script::Request;
 use lvm_words::{CommandLine, WordsRefusal, read_command_line};
 use std::alloc::{AllocError, Global};

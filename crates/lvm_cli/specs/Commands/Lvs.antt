@@ -1,8 +1,0 @@
--- lvs(8): the visible volumes of the group in force.
-use Rattle.lvm_cli.specs.declared.commands.scan_report.ScanReport.TheVariants.{Lvs}
-use Rattle.lvm_cli.specs.CommandSpec.{CommandSpec}
-use Rattle.lvm_cli.specs.ScanReport.{scan_report}
-
--- lists the visible volumes of what a scan finds
-abbrev pub lvs : CommandSpec
-lvs = scan_report Lvs

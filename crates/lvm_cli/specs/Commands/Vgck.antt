@@ -1,8 +1,0 @@
--- vgck(8): what isn't in order.
-use Rattle.lvm_cli.specs.declared.commands.scan_report.ScanReport.TheVariants.{Vgck}
-use Rattle.lvm_cli.specs.CommandSpec.{CommandSpec}
-use Rattle.lvm_cli.specs.ScanReport.{scan_report}
-
--- names what isn't in order in what a scan finds
-abbrev pub vgck : CommandSpec
-vgck = scan_report Vgck

@@ -1,0 +1,69 @@
+-- The line of a command that words ask for can be planned.
+use Rattle.std.proofs.Common.{◌≡◌, ◌∙◌, ℕ, List, Option, Some, None, IfSome, IsSomeAnd, is_some, true, true≢false, refl, ap, sym}
+use Rattle.lvm_id.specs.LvmId.{IsId}
+use Rattle.lvm_script.specs.declared.command.Command.{Command}
+use Rattle.lvm_script.specs.declared.command.Command.TheVariants.{Pvcreate, Pvmove, Pvck, Pvs, Vgcreate, Vgextend, Vgreduce, Vgremove, Vgrename, Vgcfgbackup, Vgcfgrestore, Vgck, Vgs, Lvcreate, Lvextend, Lvreduce, Lvremove, Lvrename, Lvs, Read, Fill, Write, List as ListVolumes, Wait, Resync}
+use Rattle.lvm_script.specs.declared.line.Line.{Line}
+use Rattle.lvm_script.specs.Lines.{changes, draws, line_of}
+use Rattle.lvm_script.specs.Options.{Word}
+use Rattle.lvm_words.specs.declared.asked.Task.{Task}
+use Rattle.lvm_words.specs.declared.asked.Task.TheVariants.{One, Session, Demo}
+use Rattle.lvm_words.specs.declared.command_line.CommandLine.{CommandLine}
+use Rattle.lvm_words.specs.CommandLines.{HasId, command_line_of, request_in, task_of}
+use Rattle.group_ops.specs.Planning.{IsPlanned}
+use Rattle.lvm_run.specs.Commands.{is_built}
+use Rattle.lvm_run.specs.Runs.{CanPlan, CanPlanTask}
+use Rattle.lvm_run.proofs.MeantWords.{IsMeant, planned}
+
+-- a command that draws an id has one
+by_command : (command : Command) (id : Option (List ℕ)) → IsMeant command → (draws command ≡ true → IsSomeAnd id IsId) → is_built command ≡ true
+    → changes command ≡ true → IsPlanned id command
+by_command (Pvcreate pv copies) id meant drawn built changing = drawn refl
+by_command (Vgcreate vg extent_size pvs) id meant drawn built changing = (drawn refl, meant.0, meant.1, meant.2, meant.3)
+by_command (Vgextend vg pvs) id meant drawn built changing = tt
+by_command (Vgreduce vg pv) id meant drawn built changing = tt
+by_command (Vgremove vg) id meant drawn built changing = tt
+by_command (Vgrename vg new) id meant drawn built changing = meant
+by_command (Vgcfgrestore vg text) id meant drawn built changing = tt
+by_command (Lvcreate new) id meant drawn built changing = (drawn refl, meant)
+by_command (Lvextend path growth pvs) id meant drawn built changing = meant
+by_command (Lvreduce path amount) id meant drawn built changing = meant
+by_command (Lvremove path) id meant drawn built changing = tt
+by_command (Lvrename vg old new) id meant drawn built changing = meant
+by_command (Pvck pv) id meant drawn built changing = absurd (true≢false (sym changing))
+by_command Pvs id meant drawn built changing = absurd (true≢false (sym changing))
+by_command (Vgcfgbackup vg) id meant drawn built changing = absurd (true≢false (sym changing))
+by_command Vgck id meant drawn built changing = absurd (true≢false (sym changing))
+by_command Vgs id meant drawn built changing = absurd (true≢false (sym changing))
+by_command Lvs id meant drawn built changing = absurd (true≢false (sym changing))
+by_command (Pvmove moving) id meant drawn built changing = absurd (true≢false (sym built))
+by_command (Read path start count) id meant drawn built changing = absurd (true≢false (sym built))
+by_command (Fill path start count value) id meant drawn built changing = absurd (true≢false (sym built))
+by_command (Write path start hex) id meant drawn built changing = absurd (true≢false (sym built))
+by_command ListVolumes id meant drawn built changing = absurd (true≢false (sym built))
+by_command Wait id meant drawn built changing = absurd (true≢false (sym built))
+by_command (Resync path) id meant drawn built changing = absurd (true≢false (sym built))
+
+-- an id that is there is one
+some_id : (id : Option (List ℕ)) → is_some id ≡ true → IfSome id IsId → IsSomeAnd id IsId
+some_id None some valid = absurd (true≢false (sym some))
+some_id (Some id) some valid = valid
+
+-- the line of a task, and else this one
+abbrev line_or : Line → Task → Line
+line_or line (One own) = own
+line_or line _ = line
+
+by_line : (line : Line) (ids : ℕ → List ℕ) → line ≡ line_of 1 line.command ids → IsMeant line.command → IfSome line.id IsId → CanPlan line
+by_line line ids is meant valid = record {
+  first = ap (λ (l : Line). l.number) is;
+  planned = by_command line.command line.id meant
+      (λ drawn. let there : is_some line.id ≡ true = ap (λ (l : Line). is_some l.id) is ∙ rw drawn refl in some_id line.id there valid);
+}
+
+-- the task that words ask for, where it has drawn its id
+pub can_plan : (words : List Word) (line : CommandLine) (task : Task) (ids : ℕ → List ℕ) → command_line_of words ≡ Some line → line.request ≡ request_in task
+    → task ≡ task_of (request_in task) ids → HasId task → CanPlanTask task
+can_plan words line (One own) ids is asked drawn valid = by_line own ids (ap (line_or own) drawn) (planned words line own.command is asked) valid
+can_plan words line (Session group workers) ids is asked drawn valid = tt
+can_plan words line (Demo seed lines workers) ids is asked drawn valid = tt

@@ -1,0 +1,80 @@
+-- A run that takes no disk which is in use, unless it is told to.
+use Rattle.std.specs.Prelude.{◌≡◌, ◌≢◌, ◌<◌, ◌⊎◌, ℕ, List, All, Contains, Some}
+use Rattle.sector_base.specs.declared.spans.Span.{Span}
+use Rattle.disk_model.specs.Faults.{HasSameFaults}
+use Rattle.disk_model.specs.Since.{writes_submitted}
+use Rattle.disk_model.specs.State.{State}
+use Rattle.disk_model.specs.Steps.{Image, Step, Told, now_after, steps_on}
+use Rattle.disk_use.specs.declared.in_use.InUse.{InUse as UsedDisk}
+use Rattle.disk_use.specs.Faults.{IsUseFault}
+use Rattle.disk_use.specs.Looks.{Looks}
+use Rattle.disk_use.specs.Taken.{is_new, taken_by}
+use Rattle.disk_use.specs.Uses.{IsFree, IsUsedBy}
+use Rattle.lvm_script.specs.declared.command.Command.{Command}
+use Rattle.lvm_script.specs.declared.request.Request.TheVariants.{One}
+use Rattle.lvm_script.specs.Options.{Word}
+use Rattle.lvm_words.specs.declared.command_line.CommandLine.{CommandLine}
+use Rattle.lvm_words.specs.CommandLines.{command_line_of}
+use Rattle.vg_scan.specs.Scans.{HoldsNow}
+use Rattle.lvm_run.specs.declared.not_run.NotRun.{NotRun}
+use Rattle.lvm_run.specs.declared.not_run.NotRun.TheVariants.{InUse, Untold}
+
+-- ---- what is in use
+
+-- the words ask for this command, on disks of these names
+pub record Asks (words : List Word) (names : List Word) (command : Command) : Type 0 where
+  pub line : CommandLine
+  pub is_line : command_line_of words ≡ Some line
+  pub is_names : names ≡ line.names
+  pub is_command : line.request ≡ One command
+
+-- the command that the words ask for takes the disk, and would lose what is in use there
+pub record TakesUsed (words : List Word) (image : Image) (sizes : List ℕ) (pv : ℕ) : Type 0 where
+  pub names : List Word
+  pub command : Command
+  pub asks : Asks words names command
+  pub taken : Contains (taken_by names command) pv
+  pub used : ¬ IsFree (is_new command) image sizes pv
+
+-- no write to this disk was submitted
+pub record IsLeft (pv : ℕ) (old new : Told) : Type 0 where
+  pub since : List Step
+  pub steps : new ≡ steps_on since old
+  pub none : All (λ (write : Span × List (List ℕ)). write.0.pv ≢ pv) (writes_submitted since)
+
+-- none was to such a disk, where the disks tell their record
+abbrev pub LeavesUsed : List Word → State → State → Type 0
+LeavesUsed words old new =
+    (pv : ℕ) (before : Told) → old.told ≡ Some before → TakesUsed words (now_after before.opened before.steps) old.sizes pv
+    → (after : Told) × (new.told ≡ Some after) × IsLeft pv before after
+
+-- nothing that is in use is lost where the command that the words ask for takes its disks
+abbrev pub AreFree : List Word → State → Type 0
+AreFree words state =
+    (names : List Word) (command : Command) → Asks words names command
+    → HoldsNow state.told (λ image. All (IsFree (is_new command) image state.sizes) (taken_by names command))
+
+-- nothing was done, or nothing but reads
+abbrev pub LooksAtMost : State → State → Type 0
+LooksAtMost old new = (new ≡ old) ⊎ Looks old new
+
+-- ---- why nothing ran
+
+-- the disk, which the command that the words ask for takes, is in use
+pub record IsInUse (words : List Word) (old : State) (used : UsedDisk) (new : State) : Type 0 where
+  pub names : List Word
+  pub command : Command
+  pub asks : Asks words names command
+  pub taken : Contains (taken_by names command) used.pv
+  pub by : HoldsNow old.told (λ image. IsUsedBy (is_new command) image old.sizes used.pv used.by)
+  pub faults : HasSameFaults old new
+
+-- a disk is in use, or it isn't known whether one is
+abbrev pub IsWhyNotRun : List Word → State → NotRun → State → Type 0
+IsWhyNotRun words old (InUse used) new = IsInUse words old used new
+IsWhyNotRun words old (Untold refusal) new = IsUseFault old new refusal
+
+-- a disk that is in use is one of so many
+abbrev pub NamesOne : ℕ → NotRun → Type 0
+NamesOne count (InUse used) = used.pv < count
+NamesOne count (Untold refusal) = Unit {0}

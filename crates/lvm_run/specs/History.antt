@@ -1,0 +1,108 @@
+-- The journal and the answers of a run, and the promise to the administrator.
+use Rattle.std.specs.Prelude.{◌≡◌, ◌≤◌, ℕ, ◌+◌, Bool, true, false, List, [], ◌∷◌, map, Option, Some, None, vec_capacity, vec_len}
+use Rattle.std.specs.Option.{option_map_or}
+use Rattle.disk_model.specs.Durability.{IsBase}
+use Rattle.disk_model.specs.State.{State}
+use Rattle.disk_model.specs.Steps.{Image, Told}
+use Rattle.image_scans.specs.Laws.{none_out}
+use Rattle.image_scans.specs.Versions.{FindsVersion, Version}
+use Rattle.line_history.specs.EachSet.{SetsAgree}
+use Rattle.line_history.specs.Histories.{HasRunHistory, journal_of_line}
+use Rattle.line_table.specs.declared.journal.JournalEntry.{JournalEntry}
+use Rattle.lvm_report.specs.AnswerLines.{answers_text}
+use Rattle.lvm_script.specs.Lines.{line_of, with_text}
+use Rattle.lvm_script.specs.Options.{Word}
+use Rattle.lvm_script.specs.declared.answer.Answer.{Answer}
+use Rattle.lvm_script.specs.declared.answer.Answer.TheVariants as answer
+use Rattle.lvm_script.specs.declared.line.Line.{Line}
+use Rattle.lvm_script.specs.declared.request.Request.{Request}
+use Rattle.lvm_script.specs.declared.request.Request.TheVariants.{One}
+use Rattle.lvm_words.specs.CommandLines.{command_line_of}
+use Rattle.lvm_words.specs.declared.asked.Task.{Task}
+use Rattle.lvm_words.specs.declared.asked.Task.TheVariants as task
+use Rattle.lvm_words.specs.declared.command_line.CommandLine.{CommandLine}
+use Rattle.volume_history.specs.Commands.{commits}
+use Rattle.lvm_run.specs.Outcomes.{output_of}
+use Rattle.lvm_run.specs.Runs.{names_of}
+use Rattle.lvm_run.specs.declared.entered.Entered.{Entered}
+use Rattle.lvm_run.specs.declared.outcome.Outcome.{Outcome}
+use Rattle.lvm_run.specs.declared.outcome.Outcome.TheVariants.{Ended, Answered, Reported}
+
+-- a line that was begun, with its answer
+abbrev pub Said : Type 0
+Said = Line × Option Answer
+
+-- the answer of the line, where it was begun: a report is ok, and a line for which memory was wanting wasn't begun
+abbrev pub said_of : Outcome → Option Answer
+said_of (Ended ending) = None
+said_of (Answered number answer.NoMemory) = None
+said_of (Answered number said) = Some said
+said_of (Reported text whole) = Some answer.Fine
+
+-- the journal of a line that was begun after so many steps and took place after so many, if it did, where the run ended after so
+-- many
+abbrev pub journal_by : ℕ → Option ℕ → ℕ → Outcome → List JournalEntry
+journal_by begun took ended outcome = option_map_or (λ (said : Answer). journal_of_line begun took ended) (said_of outcome) []
+
+-- the line, where it was begun
+abbrev pub lines_by : Line → Outcome → List Said
+lines_by line outcome = option_map_or (λ (said : Answer). (line, Some said) ∷ []) (said_of outcome) []
+
+-- the line that is asked for, with this text, if it restores a group, where it was begun
+abbrev pub lines_asked : Request → List ℕ → (ℕ → List ℕ) → Outcome → List Said
+lines_asked (One command) text ids outcome = lines_by (with_text text (line_of 1 command ids)) outcome
+lines_asked _ text ids outcome = []
+
+-- the same of a task
+abbrev pub lines_of_task : Task → List ℕ → Outcome → List Said
+lines_of_task (task.One line) text outcome = lines_by (with_text text line) outcome
+lines_of_task _ text outcome = []
+
+-- and of words
+abbrev pub lines_of_words : List Word → List ℕ → (ℕ → List ℕ) → Outcome → List Said
+lines_of_words words text ids outcome = option_map_or (λ (line : CommandLine). lines_asked line.request text ids outcome) (command_line_of words) []
+
+-- where the line has committed a group or removed it and was answered ok, no set of the disks finds an older version of it than
+-- all of them
+abbrev pub NoneOlder : List Said → List ℕ → Told → Type 0
+NoneOlder ((line, Some answer.Fine) ∷ []) sizes ended = commits line.command ≡ true → SetsAgree sizes ended
+NoneOlder _ sizes ended = Unit {0}
+
+-- The promise: where the disks tell their record, each of their sectors has one possible value when they are handed in, and a
+-- scan of them finds one whole version of the group, or none, the journal and the answers are those of one legal history of
+-- plain volumes, and stopped at any moment since then, scanning the disks finds one whole version, in force or of the
+-- pending command, where every sector of every volume is its last acknowledged write or a later one. A command is pending at
+-- the end only where its commit, or the clearing that removes a group, failed in its last step; and no set of the disks finds an
+-- older version than the last acknowledged one.
+abbrev pub KeepsPromise : List Word → ℕ → State → List JournalEntry → List Said → State → Type 0
+KeepsPromise names now old journal lines new =
+    (handed : Told) → old.told ≡ Some handed → (base : Image) → IsBase handed base → (version : Option Version) → FindsVersion old.sizes base none_out version
+    → (ended : Told) → new.told ≡ Some ended → HasRunHistory handed base old.sizes names now ended journal lines × NoneOlder lines old.sizes ended
+
+-- of each of these lines, its number and its answer
+abbrev pub answers_of : List Said → List (ℕ × Option Answer)
+answers_of lines = map (λ (line : Said). (line.0.number, line.1)) lines
+
+-- whether it is the answer of a line that was begun
+abbrev pub is_answer : Outcome → Bool
+is_answer (Answered number answer.NoMemory) = false
+is_answer (Answered number said) = true
+is_answer _ = false
+
+-- what a run of these words has entered that came to this outcome, where the source gave this text: the answers of the lines that
+-- were asked for and begun, which are what it prints where a line has answered, and their journal, and these keep the promise
+pub record HasEntered (words : List Word) (now : ℕ) (text : List ℕ) (ids : ℕ → List ℕ) (old : State) (outcome : Outcome) (journal : List JournalEntry) (answers : List (ℕ × Option Answer)) (new : State) : Type 0 where
+  pub answers_xl : answers ≡ answers_of (lines_of_words words text ids outcome)
+  pub printed : is_answer outcome ≡ true → output_of (names_of words) outcome ≡ answers_text (names_of words) answers
+  pub promise : KeepsPromise (names_of words) now old journal (lines_of_words words text ids outcome) new
+
+-- ---- what is kept of them in memory
+
+-- nothing is entered
+abbrev pub IsNothing : Entered → Type 0
+IsNothing entered = (entered.journal.items ≡ []) × (entered.answers.items ≡ [])
+
+-- there is room for one line
+pub record HasRoom (entered : Entered) : Type 0 where
+  pub journal : vec_len entered.journal + 3 ≤ vec_capacity entered.journal
+  pub answers : vec_len entered.answers + 1 ≤ vec_capacity entered.answers

@@ -1,0 +1,15 @@
+pub mod Backup
+pub mod Changing
+pub mod CommandSpec
+pub mod Commands
+pub mod Disks
+pub mod Endings
+pub mod Guarded
+pub mod History
+pub mod Meets
+pub mod Outcomes
+pub mod Runs
+pub mod Scan
+pub mod ScanEndings
+pub mod ScanReport
+pub mod Sourced

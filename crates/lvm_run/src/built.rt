@@ -1,0 +1,36 @@
+//! The commands that are built.
+ghost use Rattle.std.specs.Prelude.{◌≡◌};
+ghost use Rattle.lvm_run.specs.Commands.{is_built};
+
+use lvm_script::Command;
+
+/// Which commands run so far, as it is told to a user.
+pub const BUILT: &str =
+    "So far pvs, vgs, lvs, vgck, pvck, vgcfgbackup, vgcfgrestore, pvcreate, vgcreate, vgextend, vgreduce, vgremove, vgrename, lvcreate, lvextend, lvreduce, lvremove and lvrename run.\n";
+
+/// Whether the command is built. Words that ask for another are refused until it is.
+pub fn is_built(command: &Command) -> bool
+    ensures { result ≡ is_built command.now }
+{
+    matches!(
+        command,
+        Command::Pvcreate { .. }
+            | Command::Pvck { .. }
+            | Command::Vgcreate { .. }
+            | Command::Vgextend { .. }
+            | Command::Vgreduce { .. }
+            | Command::Vgremove { .. }
+            | Command::Vgrename { .. }
+            | Command::Lvcreate(_)
+            | Command::Lvextend { .. }
+            | Command::Lvreduce { .. }
+            | Command::Lvremove { .. }
+            | Command::Lvrename { .. }
+            | Command::Vgcfgbackup { .. }
+            | Command::Vgcfgrestore { .. }
+            | Command::Pvs
+            | Command::Vgs
+            | Command::Lvs
+            | Command::Vgck
+    )
+}

@@ -1,0 +1,126 @@
+//! What ends a run before its lines.
+ghost use Rattle.std.specs.Prelude.{◌≡◌, [], ◌++◌, codes, is_ok};
+ghost use Rattle.sector_base.specs.Shown.{shown_text};
+ghost use Rattle.lvm_script.specs.Streams.{WritesText};
+ghost use Rattle.lvm_run.specs.Endings.{ending_text, status_of_ending};
+ghost use Rattle.lvm_run.specs.Endings.{repair_values, shown_scan};
+
+use crate::scan_refusal::ScanRefusal;
+use lvm_script::{DiskNames, Failed, Shown, Sink, write_bytes, write_kind};
+
+/// What ends a run before its lines. It prints one line, or none.
+#[derive(Debug, Drop)]
+pub enum Ending {
+    /// The words have no meaning; nothing was done.
+    WordsRefused,
+    /// Memory was wanting. It prints nothing.
+    NoMemory,
+    /// A read of the source failed.
+    SourceFailed,
+    /// The source gives more than 16,777,216 bytes.
+    ScriptTooLong,
+    /// The opening flush of the disk with this number failed.
+    OpenFailed(u32),
+    /// A read of the disk with this number failed.
+    ScanReadFailed(u32),
+    /// The disks aren't taken as they are. Whether each of them was read.
+    ScanRefused { refusal: ScanRefusal, whole: bool },
+    /// A write or flush of the repair failed on the disk with this number.
+    RepairFailed(u32),
+    /// The text of the group has no room in a stale area of the disk with this number: how many sectors it needs, and how
+    /// many there are.
+    RepairRefused { pv: u32, need: u64, room: u64 },
+}
+
+impl Ending {
+    /// The exit status where the output was printed whole.
+    pub fn status(&self) -> u8
+        ensures { result ≡ status_of_ending self.now }
+    {
+        match self {
+            Ending::WordsRefused => 3,
+            Ending::NoMemory => 2,
+            Ending::SourceFailed => 4,
+            Ending::OpenFailed(_) | Ending::ScanReadFailed(_) | Ending::RepairFailed(_) => 6,
+            Ending::ScriptTooLong | Ending::RepairRefused { .. } => 5,
+            Ending::ScanRefused { whole, .. } => { if *whole { 5 } else { 6 } }
+        }
+    }
+
+    /// Writes its line, where the disks have these names.
+    pub fn write<W: Sink>(&self, out: &mut W, names: &DiskNames) -> Result<(), Failed>
+        ensures { WritesText (W.written out.old) (W.fault_count out.old) (ending_text names.now self.now)
+            (is_ok result) (W.written out.new) (W.fault_count out.new) }
+    {
+        match self {
+            Ending::WordsRefused => write_bytes(out, b"words refused\n"),
+            Ending::NoMemory => write_bytes(out, b""),
+            Ending::SourceFailed => write_bytes(out, b"source failed\n"),
+            Ending::ScriptTooLong => write_bytes(out, b"script too long\n"),
+            Ending::OpenFailed(pv) => write_line(out, b"open failed ", names.bytes_of(*pv)),
+            Ending::ScanReadFailed(pv) => {
+                write_line(out, b"scan refused ReadFailed ", names.bytes_of(*pv))
+            }
+            Ending::ScanRefused { refusal, .. } => write_scan_refusal(out, refusal, names),
+            Ending::RepairFailed(pv) => write_line(out, b"repair failed ", names.bytes_of(*pv)),
+            Ending::RepairRefused { pv, need, room } => {
+                write_repair_refusal(out, *pv, *need, *room, names)
+            }
+        }
+    }
+}
+
+// Writes a line of two parts.
+fn write_line<W: Sink>(out: &mut W, first: &[u8], second: &[u8]) -> Result<(), Failed>
+    ensures { WritesText (W.written out.old) (W.fault_count out.old) (first.now ++ second.now ++ codes "\n")
+        (is_ok result) (W.written out.new) (W.fault_count out.new) }
+{
+    write_bytes(out, first)?;
+    write_bytes(out, second)?;
+    write_bytes(out, b"\n")
+}
+
+// Writes the line of a refusal of the scan.
+fn write_scan_refusal<W: Sink>(
+    out: &mut W,
+    refusal: &ScanRefusal,
+    names: &DiskNames,
+) -> Result<(), Failed>
+    ensures { WritesText (W.written out.old) (W.fault_count out.old) (codes "scan refused " ++ shown_text (shown_scan names.now refusal.now) ++ codes "\n")
+        (is_ok result) (W.written out.new) (W.fault_count out.new) }
+{
+    write_bytes(out, b"scan refused ")?;
+    refusal.write(out, names)?;
+    write_bytes(out, b"\n")
+}
+
+// Writes the line of a repair for which there is no room on this disk.
+fn write_repair_refusal<W: Sink>(
+    out: &mut W,
+    pv: u32,
+    need: u64,
+    room: u64,
+    names: &DiskNames,
+) -> Result<(), Failed>
+    ensures { WritesText (W.written out.old) (W.fault_count out.old) (codes "repair refused" ++ shown_text ([], repair_values names.now pv need room) ++ codes "\n")
+        (is_ok result) (W.written out.new) (W.fault_count out.new) }
+{
+    write_bytes(out, b"repair refused")?;
+    write_room(out, pv, need, room, names)?;
+    write_bytes(out, b"\n")
+}
+
+// Writes the disk, how many sectors are needed there, and how many there are, each behind a space.
+fn write_room<W: Sink>(
+    out: &mut W,
+    pv: u32,
+    need: u64,
+    room: u64,
+    names: &DiskNames,
+) -> Result<(), Failed>
+    ensures { WritesText (W.written out.old) (W.fault_count out.old) (shown_text ([], repair_values names.now pv need room))
+        (is_ok result) (W.written out.new) (W.fault_count out.new) }
+{
+    let pv = Shown::Text(names.bytes_of(pv));
+    write_kind(out, "", &[pv, Shown::Number(need), Shown::Number(room)])
+}

@@ -1,0 +1,118 @@
+//! A run that takes no disk which is in use, unless it is told to.
+ghost use Rattle.std.specs.Prelude.{◌≡◌, ◌<◌, ◌^◌, ℕ, false, List, length, IfErr, IfOk, IfSome, MatchOption, MatchResult};
+ghost use Rattle.disk_model.specs.State.{State};
+ghost use Rattle.lvm_script.specs.Options.{words_of};
+ghost use Rattle.lvm_run.specs.declared.not_run.NotRun.TheVariants.{InUse as Used, Untold};
+ghost use Rattle.lvm_run.specs.declared.outcome.Outcome.{Outcome as OutcomeRecord};
+ghost use Rattle.lvm_run.specs.Disks.{HasDisks};
+ghost use Rattle.lvm_run.specs.Guarded.{AreFree, IsWhyNotRun, LeavesUsed, LooksAtMost, NamesOne};
+ghost use Rattle.lvm_run.specs.History.{HasEntered};
+ghost use Rattle.lvm_run.specs.Outcomes.{Ends};
+ghost use Rattle.lvm_run.specs.Runs.{RunsWords, names_of};
+ghost use Rattle.lvm_run.specs.Sourced.{source};
+
+use crate::not_run::NotRun;
+use crate::run::{Ended, lvm_run};
+use disk_model::Shelf;
+use disk_use::{InUse, UseRefusal, find_use};
+use lvm_id::Words64;
+use lvm_script::{Request, Sink, Source};
+use lvm_words::{WordsRefusal, read_command_line};
+use std::alloc::Global;
+use std::sync::Wait;
+use std::thread::Threads;
+use table_lock::Gate;
+
+/// Runs the program's words as `lvm_run` does. Before anything else, unless it is forced, the disks that the command would take
+/// are looked at; where one of them is in use, or that can't be told, nothing runs.
+pub fn guarded_run<
+    T: Threads + Wait + Sync,
+    S: Shelf + Send,
+    R: Source,
+    W: Sink,
+    N: Words64,
+    G: Gate + Sync,
+>(
+    rt: &T,
+    alloc: Global,
+    forced: bool,
+    words: &Vec<String>,
+    script: &mut R,
+    out: &mut W,
+    shelf: S,
+    ids: &mut N,
+    now: u64,
+    gate: &G,
+) -> Result<Ended<S>, (NotRun, S)>
+    requires disks { HasDisks (words_of words.now.items) (S.state shelf) }
+    requires time { now < 2 ^ 48 }
+
+    // What was run was run on the disks as they were handed in, which were looked at at most.
+    ensures run { MatchResult result
+        (λ ended. (start : State) × LooksAtMost (S.state shelf) start
+        × ((outcome : OutcomeRecord) × (text : List ℕ)
+        × RunsWords (words_of words.now.items) now text (source (R.left script.old) (R.fault_count script.old)) (source (R.left script.new) (R.fault_count script.new))
+        (N.upcoming ids.old) start outcome (N.upcoming ids.new) (S.state ended.shelf)
+        × Ends (names_of (words_of words.now.items)) outcome ended.status (W.written out.old) (W.fault_count out.old) (W.written out.new) (W.fault_count out.new)
+        × HasEntered (words_of words.now.items) now text (N.upcoming ids.old) start outcome ended.entered.journal.items ended.entered.answers.items (S.state ended.shelf)))
+        (λ refused. LooksAtMost (S.state shelf) (S.state refused.1) × (forced ≡ false)
+        × IsWhyNotRun (words_of words.now.items) (S.state shelf) refused.0 (S.state refused.1)) }
+
+    // Unless it is forced no disk is written that the command would take and that is in use.
+    ensures kept { forced ≡ false → MatchResult result
+        (λ ended. LeavesUsed (words_of words.now.items) (S.state shelf) (S.state ended.shelf))
+        (λ refused. LeavesUsed (words_of words.now.items) (S.state shelf) (S.state refused.1)) }
+    ensures named { IfErr result (λ refused. NamesOne (length (S.state shelf).sizes) refused.0) }
+{
+    let mut shelf = shelf;
+    match find_unless(forced, alloc, words, &mut shelf) {
+        Ok(None) => Ok(lvm_run(rt, alloc, words, script, out, shelf, ids, now, gate)),
+        Ok(Some(used)) => Err((NotRun::InUse(used), shelf)),
+        Err(refusal) => Err((NotRun::Untold(refusal), shelf)),
+    }
+}
+
+// The first disk that the command of these words takes and that is in use. Nothing is looked at where the run is forced.
+fn find_unless<S: Shelf>(
+    forced: bool,
+    alloc: Global,
+    words: &[String],
+    shelf: &mut S,
+) -> Result<Option<InUse>, UseRefusal>
+    requires disks { HasDisks (words_of words.now) (S.state shelf.old) }
+    ensures looks { LooksAtMost (S.state shelf.old) (S.state shelf.new) }
+    ensures cause { MatchResult result
+        (λ found. MatchOption found (forced ≡ false → AreFree (words_of words.now) (S.state shelf.old))
+        (λ used. (forced ≡ false) × IsWhyNotRun (words_of words.now) (S.state shelf.old) (Used used) (S.state shelf.new)))
+        (λ refusal. (forced ≡ false) × IsWhyNotRun (words_of words.now) (S.state shelf.old) (Untold refusal) (S.state shelf.new)) }
+    ensures named { IfOk result (λ found. IfSome found (λ used. used.pv < length (S.state shelf.old).sizes)) }
+{
+    if forced {
+        return Ok(None);
+    }
+    find_asked(alloc, words, shelf)
+}
+
+// The first disk that the command of these words takes and that is in use.
+fn find_asked<S: Shelf>(
+    alloc: Global,
+    words: &[String],
+    shelf: &mut S,
+) -> Result<Option<InUse>, UseRefusal>
+    requires disks { HasDisks (words_of words.now) (S.state shelf.old) }
+    ensures looks { LooksAtMost (S.state shelf.old) (S.state shelf.new) }
+    ensures cause { MatchResult result
+        (λ found. MatchOption found (AreFree (words_of words.now) (S.state shelf.old))
+        (λ used. IsWhyNotRun (words_of words.now) (S.state shelf.old) (Used used) (S.state shelf.new)))
+        (λ refusal. IsWhyNotRun (words_of words.now) (S.state shelf.old) (Untold refusal) (S.state shelf.new)) }
+    ensures named { IfOk result (λ found. IfSome found (λ used. used.pv < length (S.state shelf.old).sizes)) }
+{
+    match read_command_line(alloc, words) {
+        Ok(line) => match &line.request {
+            Request::One(command) => find_use(alloc, shelf, &line.names, command),
+            _ => Ok(None),
+        },
+        Err(WordsRefusal::NoMeaning) => Ok(None),
+        Err(WordsRefusal::NoMemory) => Err(UseRefusal::NoMemory),
+    }
+}

@@ -1,0 +1,26 @@
+//! All that the program does, over any row of disks, any streams and any source of ids.
+//!
+//! `lvm_run` runs the words of a command line, and what is promised of the program are its clauses. `guarded_run` calls it once no
+//! disk that the command takes is in use, or where it is forced.
+#![tactic(auto)]
+
+mod built;
+mod changing;
+mod commands;
+mod ending;
+mod entered;
+mod guarded;
+mod not_run;
+mod opening;
+mod outcome;
+mod output;
+mod ran;
+mod run;
+mod scan_refusal;
+mod scanned;
+mod sourced;
+
+pub use built::{BUILT, is_built};
+pub use guarded::guarded_run;
+pub use not_run::NotRun;
+pub use run::{Ended, lvm_run};
