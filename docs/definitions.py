@@ -13,7 +13,7 @@ nothing that is promised rests on their wording. `docs/definitions.py` writes th
 """
 PROGRAMS = {
     "commands_manual": {"missing", "unknown"},
-    "lvm_cli": {"lvm_run", "guarded_run", "take_force", "main", "arguments", "seconds", "since_1970", "ids_of_system", "open_disks", "say_fault", "say_not_run"},
+    "lvm_cli": {"take_force", "main", "arguments", "seconds", "since_1970", "ids_of_system", "open_disks", "say_fault", "say_not_run"},
 }
 NAME = r"[^\s{}(),;:]+"
 
