@@ -7,3 +7,9 @@ pub mod CrashImage
 pub mod EveryImage
 pub mod FlushedValues
 pub mod Untouched
+pub mod HeldSteps
+pub mod HeldCalls
+pub mod ReadyRecord
+pub mod LettingGo
+pub mod ReadyPlaces
+pub mod Rows

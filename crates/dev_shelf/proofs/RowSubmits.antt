@@ -8,16 +8,16 @@ use Rattle.disk_model.specs.declared.ops.Op.TheVariants.{Read, Write, Flush}
 use Rattle.disk_model.specs.Steps.{Work, Step, Submitted, Completed}
 use Rattle.disk_model.specs.Record.{IsNewTag, Operation}
 use Rattle.disk_model.specs.Operations.{Lies, work_of, sectors_of}
-use Rattle.disk_model.specs.Submitting.{works_of}
 use Rattle.disk_model.specs.Calls.{Submits}
 use Rattle.op_queue.specs.Queue.{state_of as queue_state}
 use Rattle.op_queue.specs.QueueInvariant.{IsGood as IsGoodQueue}
 use Rattle.op_queue.proofs.Telling.{submits_telling}
 use Rattle.dev_shelf.specs.declared.mem_shelf.recorded.RecordedWork.{RecordedWork}
+use Rattle.dev_shelf.specs.declared.mem_shelf.recorded.RecordedOp.{RecordedOp}
 use Rattle.dev_shelf.specs.declared.mem_shelf.recorded.RecordedStep.{RecordedStep}
 use Rattle.dev_shelf.specs.declared.mem_shelf.recorded.RecordedStep.TheVariants.{Began}
 use Rattle.dev_shelf.specs.declared.mem_shelf.disk_row.DiskRow.{DiskRow}
-use Rattle.dev_shelf.specs.DiskRow.{image_of, work_at, steps_onto, steps_of, sizes_of, told_by, state_of}
+use Rattle.dev_shelf.specs.DiskRow.{image_of, operation_at, work_at, steps_onto, steps_of, sizes_of, told_by, state_of}
 use Rattle.dev_shelf.specs.DiskRowInvariant.{IsKept, recorded_work, WritesWithin, IsGood}
 use Rattle.dev_shelf.proofs.Recorded.{work_kept, steps_kept, steps_push, kept_more}
 
@@ -33,18 +33,22 @@ within_of sizes (Read span buffer) lies = tt
 within_of sizes (Write span sectors) lies = lies
 within_of sizes (Flush pv) lies = tt
 
+-- the operation's sectors are among so many that are kept
+abbrev pub HasKept : ℕ → RecordedOp → Type 0
+HasKept size op = IsKept size op.work
+
 -- what is recorded of operations stays so where more sectors are kept
-works_kept : (written more : List (List ℕ)) (ws : List RecordedWork) → All (IsKept (length written)) ws → map (work_at (written ++ more)) ws ≡ map (work_at written) ws
-works_kept written more [] h = refl
-works_kept written more (w ∷ ws) h =
-    let P : RecordedWork → Type 0 = IsKept (length written) in
-    let here : work_at (written ++ more) w ≡ work_at written w = work_kept written more w (All-head P w ws h) in
-    rw (here, works_kept written more ws (All-tail P w ws h)) refl
+ops_kept : (written more : List (List ℕ)) (ops : List RecordedOp) → All (HasKept (length written)) ops → map (operation_at (written ++ more)) ops ≡ map (operation_at written) ops
+ops_kept written more [] h = refl
+ops_kept written more (op ∷ ops) h =
+    let P : RecordedOp → Type 0 = HasKept (length written) in
+    let here : work_at (written ++ more) op.work ≡ work_at written op.work = work_kept written more op.work (All-head P op ops h) in
+    rw (here, ops_kept written more ops (All-tail P op ops h)) refl
 
 -- the submission of an operation
 module _ (old new : DiskRow) (op : Op) (tag : ℕ) (recorded : RecordedWork) (more : List (List ℕ)) (good : IsGood old) (lies : Lies (queue_state old.queue).sizes op)
     (written : new.written.items ≡ old.written.items ++ more) (steps : new.steps.items ≡ old.steps.items ++ Began tag recorded ∷ [])
-    (works : new.works.items ≡ old.works.items ++ recorded ∷ [])
+    (in_flight : new.in_flight.items ≡ old.in_flight.items ++ record { tag = tag; work = recorded } ∷ [])
     (work : work_at new.written.items recorded ≡ work_of op) (kept : IsKept (length new.written.items) recorded)
     (opened : new.opened ≡ old.opened) (submits : Submits (queue_state old.queue) op tag (queue_state new.queue)) where
   -- the record has the submission
@@ -64,31 +68,34 @@ module _ (old new : DiskRow) (op : Op) (tag : ℕ) (recorded : RecordedWork) (mo
   longer : length old.written.items ≤ length new.written.items
   longer = omega (arith, ap (λ (l : List (List ℕ)). length l) written, length-append old.written.items more)
 
-  -- what is recorded of each operation in flight is what it does
-  works_new : map (work_at new.written.items) new.works.items ≡ works_of (queue_state new.queue).in_flight
-  works_new =
-      let work_in : Operation → Work = λ o. o.work in
+  -- each operation in flight is recorded
+  recorded_new : map (operation_at new.written.items) new.in_flight.items ≡ (queue_state new.queue).in_flight
+  recorded_new =
       let one : work_at (old.written.items ++ more) recorded ≡ work_of op = subst (λ (l : List (List ℕ)). work_at l recorded ≡ work_of op) written work in
-      rw (works, written)
-      (map-append (work_at (old.written.items ++ more)) old.works.items (recorded ∷ [])
-      ∙ ap (λ (l : List Work). l ++ work_at (old.written.items ++ more) recorded ∷ []) (works_kept old.written.items more old.works.items good.works_kept ∙ good.works)
-      ∙ ap (λ (w : Work). works_of (queue_state old.queue).in_flight ++ w ∷ []) one)
-      ∙ sym (map-append work_in (queue_state old.queue).in_flight (record { tag = tag; work = work_of op } ∷ []))
-      ∙ ap works_of (sym submits.in_flight)
+      let with_work : Work → Operation = λ w. record { tag = tag; work = w } in
+      rw (in_flight, written)
+      (map-append (operation_at (old.written.items ++ more)) old.in_flight.items (record { tag = tag; work = recorded } ∷ [])
+      ∙ ap (λ (l : List Operation). l ++ with_work (work_at (old.written.items ++ more) recorded) ∷ [])
+      (ops_kept old.written.items more old.in_flight.items good.recorded_kept ∙ good.recorded)
+      ∙ ap (λ (w : Work). (queue_state old.queue).in_flight ++ with_work w ∷ []) one)
+      ∙ sym submits.in_flight
 
   -- the row is good
   pub good_new : IsGoodQueue new.queue → new.current ≡ old.current → All IsSector more → vec_len new.written ≤ vec_len old.written + sectors_of op → vec_capacity new.written ≡ vec_capacity old.written
-      → vec_len new.works ≡ vec_len old.works + 1 → vec_capacity new.works ≡ vec_capacity old.works
+      → vec_len new.in_flight ≡ vec_len old.in_flight + 1 → vec_capacity new.in_flight ≡ vec_capacity old.in_flight
       → vec_len new.steps ≡ vec_len old.steps + 1 → vec_capacity new.steps ≡ vec_capacity old.steps → IsGood new
-  good_new queue now sectors len_written cap_written len_works cap_works len_steps cap_steps =
+  good_new queue now sectors len_written cap_written len_flying cap_flying len_steps cap_steps =
       let one_more : length (queue_state new.queue).in_flight ≡ length (queue_state old.queue).in_flight + 1 =
       ap (λ (l : List Operation). length l) submits.in_flight ∙ length-append (queue_state old.queue).in_flight (record { tag = tag; work = work_of op } ∷ []) in
       record {
         queue = queue;
         sizes = rw opened (submits.sizes ∙ good.sizes);
         in_flight = submits.in_flight ∙ rw (good.in_flight, steps_new) refl;
-        works = works_new;
-        works_kept = rw works (All-push (IsKept (length new.written.items)) old.works.items recorded (All-weaker (IsKept (length old.written.items)) (IsKept (length new.written.items)) (λ w h. kept_more _ _ w longer h) old.works.items good.works_kept) kept);
+        recorded = recorded_new;
+        recorded_kept = rw in_flight
+            (All-push (HasKept (length new.written.items)) old.in_flight.items (record { tag = tag; work = recorded })
+            (All-weaker (HasKept (length old.written.items)) (HasKept (length new.written.items)) (λ o h. kept_more _ _ o.work longer h)
+            old.in_flight.items good.recorded_kept) kept);
         follows = rw steps_new (new_more _ tag (steps_of old) submits.fresh good.next, good.follows);
         next = rw steps_new (submits.next, new_more _ _ (steps_of old) (omega (arith, submits.fresh, submits.next)) good.next);
         within = rw (opened, steps_new) (within_of (sizes_of old) op (subst (λ (l : List ℕ). Lies l op) good.sizes lies), good.within);
@@ -100,6 +107,6 @@ module _ (old new : DiskRow) (op : Op) (tag : ℕ) (recorded : RecordedWork) (mo
         count = rw opened good.count;
         steps = omega (arith, good.steps, submits.steps, len_steps);
         steps_room = omega (arith, good.steps_room, submits.spare_ops, one_more, len_steps, cap_steps);
-        works_room = omega (arith, good.works_room, submits.spare_ops, len_works, cap_works);
+        recorded_room = omega (arith, good.recorded_room, submits.spare_ops, len_flying, cap_flying);
         written_room = omega (arith, good.written_room, submits.spare_sectors, len_written, cap_written);
       }

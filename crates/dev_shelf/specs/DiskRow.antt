@@ -2,10 +2,12 @@
 use Rattle.std.specs.Prelude.{ℕ, true, List, [], ◌∷◌, length, take, drop, map, replicate, slice_index_or, Some}
 use Rattle.dev_shelf.specs.declared.mem_shelf.recorded.RecordedWork.{RecordedWork}
 use Rattle.dev_shelf.specs.declared.mem_shelf.recorded.RecordedWork.TheVariants.{Reads, Writes, Flushes}
+use Rattle.dev_shelf.specs.declared.mem_shelf.recorded.RecordedOp.{RecordedOp}
 use Rattle.dev_shelf.specs.declared.mem_shelf.recorded.RecordedStep.{RecordedStep}
 use Rattle.dev_shelf.specs.declared.mem_shelf.recorded.RecordedStep.TheVariants.{Began, Ended}
 use Rattle.dev_shelf.specs.declared.mem_shelf.disk_row.DiskRow.{DiskRow}
 use Rattle.disk_model.specs.Steps.{Image, Work, Reading, Writing, Flushing, Step, Submitted, Completed, Told}
+use Rattle.disk_model.specs.Record.{Operation}
 use Rattle.disk_model.specs.State.{State}
 use Rattle.op_queue.specs.Queue.{opened_state, state_of as queue_state}
 
@@ -26,6 +28,10 @@ abbrev pub work_at : List (List ℕ) → RecordedWork → Work
 work_at written (Reads span) = Reading span
 work_at written (Writes span from) = Writing span (take span.count (drop from written))
 work_at written (Flushes pv) = Flushing pv
+
+-- the operation in flight that is recorded so
+abbrev pub operation_at : List (List ℕ) → RecordedOp → Operation
+operation_at written op = record { tag = op.tag; work = work_at written op.work }
 
 -- the step that is recorded so
 abbrev pub step_at : List (List ℕ) → RecordedStep → Step

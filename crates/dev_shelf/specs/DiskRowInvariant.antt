@@ -9,18 +9,18 @@ use Rattle.disk_model.specs.declared.ops.Op.{Op}
 use Rattle.disk_model.specs.declared.ops.Op.TheVariants.{Read}
 use Rattle.dev_shelf.specs.declared.mem_shelf.recorded.RecordedWork.{RecordedWork}
 use Rattle.dev_shelf.specs.declared.mem_shelf.recorded.RecordedWork.TheVariants.{Reads, Writes, Flushes}
+use Rattle.dev_shelf.specs.declared.mem_shelf.recorded.RecordedOp.{RecordedOp}
 use Rattle.dev_shelf.specs.declared.mem_shelf.recorded.RecordedStep.{RecordedStep}
 use Rattle.dev_shelf.specs.declared.mem_shelf.recorded.RecordedStep.TheVariants.{Began, Ended}
 use Rattle.dev_shelf.specs.declared.mem_shelf.disk_row.DiskRow.{DiskRow}
 use Rattle.disk_model.specs.Steps.{Image, Work, Reading, Writing, Flushing, Step, Submitted, Completed, now_after, value_at}
-use Rattle.disk_model.specs.Record.{in_flight_after, IsRecord, IsNewTag}
+use Rattle.disk_model.specs.Record.{Operation, in_flight_after, IsRecord, IsNewTag}
 use Rattle.disk_model.specs.Operations.{Fills}
 use Rattle.disk_model.specs.State.{IsLawful}
-use Rattle.disk_model.specs.Submitting.{works_of}
 use Rattle.op_queue.specs.Queue.{state_of as queue_state}
 use Rattle.op_queue.specs.QueueInvariant.{IsGood as IsGoodQueue, good_prop as queue_prop, lawful_of as queue_lawful}
 use Rattle.op_queue.proofs.Telling.{lawful_telling}
-use Rattle.dev_shelf.specs.DiskRow.{image_of, lengths_of, work_at, step_at, steps_onto, steps_of, sizes_of, told_by, state_of}
+use Rattle.dev_shelf.specs.DiskRow.{image_of, lengths_of, operation_at, step_at, steps_onto, steps_of, sizes_of, told_by, state_of}
 use Rattle.std.proofs.Common.{arith, subst, sym, ◌∙◌, zero, suc, ◌-◌, drop}
 use Rattle.std.proofs.Props.{props}
 use Rattle.std.proofs.lemmas.List.Elements.{All-head, All-tail}
@@ -63,9 +63,9 @@ pub record IsGood (row : DiskRow) : Type 0 where
   pub queue : IsGoodQueue row.queue
   pub sizes : (queue_state row.queue).sizes ≡ sizes_of row
   pub in_flight : (queue_state row.queue).in_flight ≡ in_flight_after (steps_of row)
-  -- what is recorded of each operation in flight is what it does
-  pub works : map (work_at row.written.items) row.works.items ≡ works_of (queue_state row.queue).in_flight
-  pub works_kept : All (IsKept (length row.written.items)) row.works.items
+  -- each operation in flight is recorded
+  pub recorded : map (operation_at row.written.items) row.in_flight.items ≡ (queue_state row.queue).in_flight
+  pub recorded_kept : All (λ (op : RecordedOp). IsKept (length row.written.items) op.work) row.in_flight.items
   pub follows : IsRecord (steps_of row)
   pub next : IsNewTag (queue_state row.queue).next_tag (steps_of row)
   pub within : AllWithin (sizes_of row) (steps_of row)
@@ -78,7 +78,7 @@ pub record IsGood (row : DiskRow) : Type 0 where
   pub count : vec_len row.opened < 2 ^ 32
   pub steps : vec_len row.steps ≡ (queue_state row.queue).steps
   pub steps_room : vec_len row.steps + 2 * (queue_state row.queue).spare_ops + length (queue_state row.queue).in_flight ≤ vec_capacity row.steps
-  pub works_room : vec_len row.works + (queue_state row.queue).spare_ops ≤ vec_capacity row.works
+  pub recorded_room : vec_len row.in_flight + (queue_state row.queue).spare_ops ≤ vec_capacity row.in_flight
   pub written_room : vec_len row.written + (queue_state row.queue).spare_sectors ≤ vec_capacity row.written
 
 -- each recorded step is a step

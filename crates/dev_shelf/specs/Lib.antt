@@ -3,4 +3,6 @@ pub mod DiskRowInvariant
 pub mod ChosenImage
 pub mod RowValues
 pub mod Plan
+pub mod HeldLaws
+pub mod RowHolds
 pub mod MemShelf

@@ -13,6 +13,3 @@ pub use disk_model::{DiskFault, Done, Op, Shelf, flush, put_sector, read_span, r
 pub use images::Images;
 pub use mem_shelf::MemShelf;
 pub use plan::{Fail, Hold, ShelfPlan};
-
-#[cfg(test)]
-mod tests;

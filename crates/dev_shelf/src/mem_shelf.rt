@@ -1,5 +1,5 @@
 //! A row of disks in memory, which keeps the images at opening and the record of all steps.
-ghost use Rattle.std.specs.Prelude.{◌≡◌, ◌≤◌, ◌<◌, ◌^◌, ◌↔◌, [], length, IfOk, IfSome, IsNone, MatchOption, Contains};
+ghost use Rattle.std.specs.Prelude.{◌≡◌, ◌≢◌, ◌≤◌, ◌<◌, ◌^◌, ◌↔◌, [], length, IfOk, IfSome, IsNone, IsTrue, MatchOption, Contains};
 ghost use Rattle.disk_model.specs.Calls.{Completes, MakesReady};
 ghost use Rattle.disk_model.specs.CrashValues.{IsImage};
 ghost use Rattle.disk_model.specs.Moments.{EachImage, at_moment};
@@ -10,6 +10,7 @@ ghost use Rattle.dev_shelf.specs.DiskRowInvariant.{IsGood, good_prop};
 mod completion;
 mod crash_image;
 mod disk_row;
+mod holding;
 mod numbers;
 mod recorded;
 mod submission;
@@ -20,6 +21,7 @@ use crate::{Images, ShelfPlan};
 use crash_image::disks_at;
 use disk_model::{Done, Op, Shelf};
 use disk_row::DiskRow;
+use holding::Holding;
 use numbers::next_of;
 use op_queue::OpQueue;
 use sector_base::{Sectors, see_sectors};
@@ -33,20 +35,21 @@ pub struct MemShelf {
     row: DiskRow,
     picks: Vec<u64>,
     picked: usize,
+    holding: Holding,
     ghost good: { IsGood row } by { good_prop row },
+    // each operation that was let go has a tag of its own
+    ghost forced: { holding.forced ≤ holding.let_go },
 }
 
 impl MemShelf {
-    ghost use Rattle.dev_shelf.specs.Plan.{FollowsPlan};
+    ghost use Rattle.dev_shelf.specs.Plan.{FollowsPlan, after_vain, before_settling, held_back, whole_plan};
     ghost use Rattle.dev_shelf.specs.MemShelf.{plan_left, state_of_shelf};
 
-    /// Disks with these images, nothing in flight and nothing spare. The plan may hold nothing back yet, and its
-    /// `limit` does nothing. Only memory can be wanting.
+    /// Disks with these images, nothing in flight and nothing spare. Only memory can be wanting.
     pub fn new(alloc: Global, images: Images, plan: ShelfPlan) -> Result<MemShelf, AllocError>
-        requires disks { length images < 2 ^ 32 }
-        requires holds { plan.holds.items ≡ [] }
+        requires { length images < 2 ^ 32 }
         ensures state { IfOk result (λ shelf. state_of_shelf shelf ≡ new_state images) }
-        ensures plan { IfOk result (λ shelf. plan_left shelf ≡ record { picks = plan.picks.items; fails = plan.fails.items }) }
+        ensures plan { IfOk result (λ shelf. plan_left shelf ≡ whole_plan plan) }
     {
         see_sectors(images.as_slice());
         let current = copies(alloc, images.as_slice())?;
@@ -56,7 +59,7 @@ impl MemShelf {
             opened: images.into_vec(),
             current,
             queue,
-            works: Vec::new(alloc),
+            in_flight: Vec::new(alloc),
             steps: Vec::new(alloc),
             written: Vec::new(alloc),
             fails: plan.fails,
@@ -66,6 +69,7 @@ impl MemShelf {
             row,
             picks: plan.picks,
             picked: 0,
+            holding: Holding::new(plan.holds, plan.limit),
         })
     }
 
@@ -93,20 +97,72 @@ impl MemShelf {
         Ok(Images::from_vec(disks))
     }
 
-    // Completes the next operation of the plan, if one is in flight.
-    fn complete_next(&mut self) -> Option<Done>
-        ensures none { IsNone result ↔ ((state_of_shelf self.old).in_flight ≡ []) }
-        ensures cases { MatchOption result (MakesReady (state_of_shelf self.old) (state_of_shelf self.new)) (λ done. Completes (state_of_shelf self.old) done (state_of_shelf self.new)) }
-        ensures ready { IfSome result (λ done. Contains (state_of_shelf self.old).ready done.tag) }
-        ensures plan { MatchOption result (plan_left self.new ≡ plan_left self.old)
-            (λ done. FollowsPlan (state_of_shelf self.old) (plan_left self.old) done (state_of_shelf self.new) (plan_left self.new)) }
+    /// How many operations were let go, by the plan's limit or by `settle`.
+    pub fn forced(&self) -> u64
+        ensures { result ≡ (plan_left self.now).forced }
     {
-        if self.row.queue.in_flight() == 0 {
-            return None;
-        }
+        self.holding.forced
+    }
+
+    // Whether an operation is ready.
+    fn has_ready(&self) -> bool
+        ensures { IsTrue result ↔ ((state_of_shelf self.now).ready ≢ []) }
+    {
+        self.holding.ready_count(&self.row) > 0
+    }
+
+    // Completes the next operation of the plan, of those that are ready.
+    fn complete_ready(&mut self) -> Done
+        requires { (state_of_shelf self.old).ready ≢ [] }
+        ensures completes { Completes (state_of_shelf self.old) result (state_of_shelf self.new) }
+        ensures ready { Contains (state_of_shelf self.old).ready result.tag }
+        ensures plan { FollowsPlan (state_of_shelf self.old) (plan_left self.old) result (state_of_shelf self.new) (plan_left self.new) }
+    {
+        let ready = self.holding.ready_count(&self.row);
         let pick = next_of(&self.picks, &mut self.picked);
-        let at = pick as usize % self.row.queue.in_flight();
-        Some(self.row.complete(at))
+        let at = self
+            .holding
+            .place_of_ready(&self.row, pick as usize % ready);
+        self.holding.vain = 0;
+        self.row.complete(at)
+    }
+
+    // Counts a vain answer, where something is in flight and nothing is ready, and may let the oldest go.
+    fn count_vain(&mut self)
+        requires { (state_of_shelf self.old).ready ≡ [] }
+        ensures plan { plan_left self.new ≡ after_vain (state_of_shelf self.old).in_flight (plan_left self.old) }
+        ensures state { state_of_shelf self.new ≡ held_back (plan_left self.new) (state_of_shelf self.old) }
+    {
+        if self.row.in_flight.is_empty() {
+            return;
+        }
+        if self.holding.limit.saturating_sub(self.holding.vain) > 1 {
+            self.holding.vain += 1;
+        } else {
+            self.let_oldest_go();
+        }
+    }
+
+    // Lets the oldest operation in flight go, where none is ready.
+    fn let_oldest_go(&mut self)
+        requires ready { (state_of_shelf self.old).ready ≡ [] }
+        requires in_flight { (state_of_shelf self.old).in_flight ≢ [] }
+        ensures plan { plan_left self.new ≡ before_settling [] (state_of_shelf self.old).in_flight (plan_left self.old) }
+        ensures state { state_of_shelf self.new ≡ held_back (plan_left self.new) (state_of_shelf self.old) }
+    {
+        self.holding.let_go(self.row.in_flight[0].tag);
+    }
+
+    // Makes an operation ready that is in flight: where none is, the oldest is let go.
+    fn make_ready(&mut self)
+        requires { (state_of_shelf self.old).in_flight ≢ [] }
+        ensures ready { (state_of_shelf self.new).ready ≢ [] }
+        ensures plan { plan_left self.new ≡ before_settling (state_of_shelf self.old).ready (state_of_shelf self.old).in_flight (plan_left self.old) }
+        ensures state { state_of_shelf self.new ≡ held_back (plan_left self.new) (state_of_shelf self.old) }
+    {
+        if !self.has_ready() {
+            self.let_oldest_go();
+        }
     }
 }
 
@@ -114,13 +170,15 @@ impl Shelf for MemShelf {
     ghost use Rattle.std.specs.Prelude.{OnOk, OnErr};
     ghost use Rattle.disk_model.specs.Operations.{Lies, sectors_of};
     ghost use Rattle.disk_model.specs.Calls.{Submits, Reserves};
+    ghost use Rattle.dev_shelf.specs.DiskRow.{state_of};
     ghost use Rattle.dev_shelf.specs.DiskRowInvariant.{lawful_of};
-    ghost use Rattle.dev_shelf.specs.Plan.{FollowsPlan};
+    ghost use Rattle.dev_shelf.specs.HeldLaws.{lawful_back};
+    ghost use Rattle.dev_shelf.specs.Plan.{FollowsPlan, Settles, after_vain};
     ghost use Rattle.dev_shelf.specs.MemShelf.{plan_left, state_of_shelf};
 
     ghost state = { state_of_shelf };
 
-    ghost lawful = { λ shelf. lawful_of shelf.row shelf.good };
+    ghost lawful = { λ shelf. lawful_back (plan_left shelf) (state_of shelf.row) (lawful_of shelf.row shelf.good) };
 
     fn count(&self) -> u32 {
         self.row.queue.count()
@@ -160,19 +218,27 @@ impl Shelf for MemShelf {
         ensures none { IsNone result ↔ ((state_of_shelf self.old).ready ≡ []) }
         ensures cases { MatchOption result (MakesReady (state_of_shelf self.old) (state_of_shelf self.new)) (λ done. Completes (state_of_shelf self.old) done (state_of_shelf self.new)) }
         ensures ready { IfSome result (λ done. Contains (state_of_shelf self.old).ready done.tag) }
-        ensures plan { MatchOption result (plan_left self.new ≡ plan_left self.old)
+        ensures plan { MatchOption result (plan_left self.new ≡ after_vain (state_of_shelf self.old).in_flight (plan_left self.old))
             (λ done. FollowsPlan (state_of_shelf self.old) (plan_left self.old) done (state_of_shelf self.new) (plan_left self.new)) }
     {
-        self.complete_next()
+        if self.has_ready() {
+            return Some(self.complete_ready());
+        }
+        self.count_vain();
+        None
     }
 
     fn settle(&mut self) -> Option<Done>
         ensures none { IsNone result ↔ ((state_of_shelf self.old).in_flight ≡ []) }
         ensures cases { MatchOption result (MakesReady (state_of_shelf self.old) (state_of_shelf self.new)) (λ done. Completes (state_of_shelf self.old) done (state_of_shelf self.new)) }
         ensures plan { MatchOption result (plan_left self.new ≡ plan_left self.old)
-            (λ done. FollowsPlan (state_of_shelf self.old) (plan_left self.old) done (state_of_shelf self.new) (plan_left self.new)) }
+            (λ done. Settles (state_of_shelf self.old) (plan_left self.old) done (state_of_shelf self.new) (plan_left self.new)) }
     {
-        self.complete_next()
+        if self.row.queue.in_flight() == 0 {
+            return None;
+        }
+        self.make_ready();
+        Some(self.complete_ready())
     }
 }
 

@@ -1,5 +1,5 @@
-//! Tests of the crates that read disks, over disks in memory: what stands on a disk, the signature there, whether it is in use,
-//! what a scan finds, and the report on one disk.
+//! Tests of the disks in memory, and over them of reads of a disk, the signature that stands there, and whether it is in use. What a
+//! scan finds and what is reported is shown by rows of text that run through `lvm_run`.
 //!
 //! They stand in a crate of their own, above `dev_shelf`, so that none of those crates has the shelf in memory below it.
 #![tactic(auto)]
@@ -9,9 +9,7 @@ mod contents;
 #[cfg(test)]
 mod disks;
 #[cfg(test)]
-mod reports;
-#[cfg(test)]
-mod scans;
+mod shelves;
 #[cfg(test)]
 mod signatures;
 #[cfg(test)]

@@ -28,13 +28,13 @@ impl DiskRow {
         ensures plan { self.new.fails.items ≡ self.old.fails.items }
     {
         let Waiting { tag, op } = self.queue.take(at);
-        let work = self.works.remove(at);
+        let recorded = self.in_flight.remove(at);
         let failure = planned_failure(&self.fails, tag);
         let well = failure.is_none();
         let fresh = failure.unwrap_or(0);
         let op = carry_out(&mut self.current, op, well, fresh);
         self.steps
-            .push_reserved(RecordedStep::Ended(tag, work, well, fresh));
+            .push_reserved(RecordedStep::Ended(tag, recorded.work, well, fresh));
         self.queue.complete(tag, op, well)
     }
 }

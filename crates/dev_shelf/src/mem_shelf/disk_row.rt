@@ -1,5 +1,5 @@
 //! The disks of a shelf in memory.
-use super::recorded::{RecordedStep, RecordedWork};
+use super::recorded::{RecordedOp, RecordedStep};
 use crate::Fail;
 use op_queue::OpQueue;
 use sector_base::{Bytes512, Sectors};
@@ -11,7 +11,7 @@ pub struct DiskRow {
     pub current: Vec<Sectors>,
     pub queue: OpQueue,
     /// What is recorded of each operation in flight, the oldest first.
-    pub works: Vec<RecordedWork>,
+    pub in_flight: Vec<RecordedOp>,
     pub steps: Vec<RecordedStep>,
     /// The sectors of all writes, one write after another.
     pub written: Vec<Bytes512>,

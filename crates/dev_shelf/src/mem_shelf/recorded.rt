@@ -16,3 +16,10 @@ pub enum RecordedStep {
     Began(u64, RecordedWork),
     Ended(u64, RecordedWork, bool, u32),
 }
+
+/// An operation in flight, as it is recorded.
+#[derive(Clone, Copy, Debug, Drop)]
+pub struct RecordedOp {
+    pub tag: u64,
+    pub work: RecordedWork,
+}

@@ -7,7 +7,7 @@ ghost use Rattle.dev_shelf.specs.DiskRow.{state_of, work_at};
 ghost use Rattle.dev_shelf.specs.DiskRowInvariant.{IsGood, IsKept};
 
 use super::disk_row::DiskRow;
-use super::recorded::{RecordedStep, RecordedWork};
+use super::recorded::{RecordedOp, RecordedStep, RecordedWork};
 use disk_model::Op;
 use sector_base::{Bytes512, Sectors};
 use std::alloc::AllocError;
@@ -27,7 +27,7 @@ impl DiskRow {
         let more_ops = ops.max(self.queue.spare_ops()) as usize;
         let more_sectors = sectors.max(self.queue.spare_sectors()) as usize;
         self.steps.reserve(2 * more_ops + self.queue.in_flight())?;
-        self.works.reserve(more_ops)?;
+        self.in_flight.reserve(more_ops)?;
         self.written.reserve(more_sectors)?;
         self.queue.reserve(ops, sectors)
     }
@@ -45,7 +45,7 @@ impl DiskRow {
         let work = recorded(&mut self.written, &op);
         let tag = self.queue.submit(op);
         self.steps.push_reserved(RecordedStep::Began(tag, work));
-        self.works.push_reserved(work);
+        self.in_flight.push_reserved(RecordedOp { tag, work });
         tag
     }
 }

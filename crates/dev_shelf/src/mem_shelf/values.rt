@@ -181,8 +181,8 @@ fn is_tag(write: Option<u64>, tag: u64) -> bool
     }
 }
 
-// Whether the span covers the sector.
-fn is_covered(span: &Span, pv: u32, sector: u64) -> bool
+/// Whether the span covers the sector.
+pub fn is_covered(span: &Span, pv: u32, sector: u64) -> bool
     ensures { result ≡ covers span.now pv sector }
 {
     span.pv == pv && span.first <= sector && sector - span.first < u64::from(span.count)

@@ -13,6 +13,6 @@ returns-clause-good c =
 pub returns-clause-submits : goal.returns-clause-submits
 returns-clause-submits c =
     let old = c.args.self.now in
-    let new : DiskRow = record old { queue = c.submit-tag.new.self; works = c.push_reserved-2.new.self; steps = c.push_reserved.new.self; written = c.recorded-work.new.written } in
+    let new : DiskRow = record old { queue = c.submit-tag.new.self; in_flight = c.push_reserved-2.new.self; steps = c.push_reserved.new.self; written = c.recorded-work.new.written } in
     submits_new old new c.args.op c.submit-tag.result c.recorded-work.result c.recorded-work.ensures.kept.0 c.requires.good c.requires.lies c.recorded-work.ensures.kept.1 c.push_reserved.ensures.items c.push_reserved-2.ensures.items
     c.recorded-work.ensures.work c.recorded-work.ensures.is_kept refl c.submit-tag.ensures.submits

@@ -2,7 +2,7 @@
 ghost use Rattle.std.specs.Prelude.{◌≡◌, ◌<◌, ◌≤◌, ◌+◌, [], ◌∷◌, length, slice_index_or, IfOk};
 ghost use Rattle.dev_shelf.specs.DiskRow.{new_state};
 
-use crate::{Fail, Images, MemShelf, Op, Shelf, ShelfPlan, put_sector, run_one};
+use dev_shelf::{Fail, Hold, Images, MemShelf, Op, Shelf, ShelfPlan, put_sector, run_one};
 use sector_base::{Bytes512, Sectors, Span};
 use std::alloc::{AllocError, Global};
 use std::process::Abort;
@@ -228,6 +228,7 @@ fn a_flush_drops_what_was_overtaken_when_it_was_submitted(rt: HostRuntime) -> Re
 fn submit_other<S: Shelf>(alloc: Global, shelf: &mut S) -> Result<(), Failed>
     requires disk { 0 < length (S.state shelf.old).sizes }
     requires sectors { 3 ≤ slice_index_or (S.state shelf.old).sizes 0 0 }
+    ensures { (S.state shelf.new).sizes ≡ (S.state shelf.old).sizes }
 {
     shelf.reserve(1, 1)?;
     let span = Span {
@@ -252,6 +253,83 @@ fn a_sector_with_one_value_takes_no_choice(rt: HostRuntime) -> Result<(), Failed
         assert_eq!(rt; (first, other), want);
     }
     assert_eq!(rt; byte_at(&rt, &shelf, 2, &Vec::new(alloc), 2)?, 0);
+    Ok(())
+}
+
+// A shelf of a disk of 8 sectors, on which a write of sector 0 is held until one of sector 2 is flushed.
+fn holding_disk(alloc: Global, picks: Vec<u64>, limit: u64) -> Result<MemShelf, AllocError>
+    ensures { IfOk result (λ shelf. (images : _) × (length images ≡ 1) × (length (slice_index_or images 0 []) ≡ 8) × (⟦<MemShelf as Shelf>⟧.state shelf ≡ new_state images)) }
+{
+    let mut disks = Vec::new(alloc);
+    disks.push(Sectors::zeroed(alloc, 8)?)?;
+    let mut holds = Vec::new(alloc);
+    holds.push(Hold {
+        pv: 0,
+        sector: 0,
+        until_pv: 0,
+        until: 2,
+    })?;
+    let plan = ShelfPlan {
+        picks,
+        fails: Vec::new(alloc),
+        holds,
+        limit,
+    };
+    MemShelf::new(alloc, Images::from_vec(disks), plan)
+}
+
+// The tag of the operation that is reaped, if one is.
+fn reaped<S: Shelf>(shelf: &mut S) -> Option<u64>
+    ensures { (S.state shelf.new).sizes ≡ (S.state shelf.old).sizes }
+{
+    Some(shelf.reap()?.tag)
+}
+
+#[test]
+fn a_held_write_waits_for_the_flush_of_another(rt: HostRuntime) -> Result<(), Failed> {
+    let alloc = rt.alloc();
+    let mut shelf = holding_disk(alloc, Vec::new(alloc), 1_000)?;
+    submit_write(alloc, &mut shelf, 1)?;
+    submit_other(alloc, &mut shelf)?;
+    assert_eq!(rt; reaped(&mut shelf), Some(1));
+    assert_eq!(rt; reaped(&mut shelf), None);
+    submit_flush(&mut shelf)?;
+    assert_eq!(rt; reaped(&mut shelf), Some(2));
+    assert_eq!(rt; reaped(&mut shelf), Some(0));
+    assert_eq!(rt; shelf.forced(), 0);
+    Ok(())
+}
+
+#[test]
+fn a_pick_is_taken_of_those_that_are_ready(rt: HostRuntime) -> Result<(), Failed> {
+    let alloc = rt.alloc();
+    let mut shelf = holding_disk(alloc, picks(alloc, &[3])?, 1)?;
+    submit_write(alloc, &mut shelf, 1)?;
+    submit_other(alloc, &mut shelf)?;
+    submit_flush(&mut shelf)?;
+    // Number 3 modulo 2 is the flush. It was submitted after the write that the held one waits for.
+    assert_eq!(rt; reaped(&mut shelf), Some(2));
+    assert_eq!(rt; reaped(&mut shelf), Some(1));
+    assert_eq!(rt; reaped(&mut shelf), Some(0));
+    assert_eq!(rt; shelf.forced(), 0);
+    Ok(())
+}
+
+#[test]
+fn the_oldest_held_write_is_let_go_after_vain_answers(rt: HostRuntime) -> Result<(), Failed> {
+    let alloc = rt.alloc();
+    let mut shelf = holding_disk(alloc, Vec::new(alloc), 2)?;
+    submit_write(alloc, &mut shelf, 1)?;
+    submit_write(alloc, &mut shelf, 2)?;
+    assert_eq!(rt; reaped(&mut shelf), None);
+    assert_eq!(rt; reaped(&mut shelf), None);
+    assert_eq!(rt; shelf.forced(), 1);
+    assert_eq!(rt; reaped(&mut shelf), Some(0));
+    assert_eq!(rt; reaped(&mut shelf), None);
+    assert_eq!(rt; shelf.forced(), 1);
+    // What waits for the second lets it go at once.
+    assert_eq!(rt; shelf.settle().ok_or("none")?.tag, 1);
+    assert_eq!(rt; (shelf.forced(), shelf.steps()), (2, 4));
     Ok(())
 }
 

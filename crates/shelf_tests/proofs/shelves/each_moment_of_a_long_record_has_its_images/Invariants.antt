@@ -1,6 +1,6 @@
 use Rattle.std.proofs.Common.{◌≡◌, [], ◌∷◌}
 use Rattle.dev_shelf.specs.MemShelf.{state_of_shelf}
-use Rattle.dev_shelf.proofs.tests.each_moment_of_a_long_record_has_its_images.Given as goal
+use Rattle.shelf_tests.proofs.shelves.each_moment_of_a_long_record_has_its_images.Given as goal
 
 abbrev pub invariant-loop-put : goal.invariant-loop-put
 invariant-loop-put g l = record {
