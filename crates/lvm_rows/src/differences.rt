@@ -56,7 +56,14 @@ fn other_difference(
 fn difference_in(alloc: Global, what: &What, ran: &mut Ran) -> Result<Option<String>, AllocError> {
     match what {
         What::Steps(wanted) => differs(alloc, "steps", *wanted, ran.ended.shelf.steps()),
-        What::Forced(wanted) => differs(alloc, "forced operations", *wanted, 0),
+        What::Forced(wanted) => {
+            differs(
+                alloc,
+                "forced operations",
+                *wanted,
+                ran.ended.shelf.forced(),
+            )
+        }
         What::Left(wanted) => unread(alloc, *wanted, ran),
         What::Journal(wanted) => journal(alloc, wanted, ran.ended.journal()),
         What::Answers(wanted) => {

@@ -70,9 +70,6 @@ fn shelf_for(
 ) -> Result<Option<MemShelf>, Stop>
     ensures { IfOk result (λ found. IfSome found (λ shelf. HasDisks (words_of run.now.words.items) (⟦<MemShelf as Shelf>⟧.state shelf))) }
 {
-    if !run.settings.holds.is_empty() {
-        return Err(failed(alloc, run.line, "no shelf holds writes back yet"));
-    }
     if images.len() > 64 || !are_named(alloc, &run.words, &images)? {
         return Ok(None);
     }
@@ -84,7 +81,7 @@ fn shelf_for(
     let plan = ShelfPlan {
         picks: Vec::from_slice(alloc, &run.settings.picks)?,
         fails,
-        holds: Vec::new(alloc),
+        holds: Vec::from_slice(alloc, &run.settings.holds)?,
         limit: run.settings.limit,
     };
     Ok(Some(MemShelf::new(alloc, images, plan)?))

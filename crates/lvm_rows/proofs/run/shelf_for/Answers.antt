@@ -1,6 +1,6 @@
 use Rattle.std.proofs.Common.{◌≡◌, ℕ, List, Some, length, sym, subst}
 use Rattle.std.specs.declared.string.String.{String}
-use Rattle.dev_shelf.specs.DiskRow.{state_of}
+use Rattle.dev_shelf.specs.MemShelf.{state_of_shelf}
 use Rattle.lvm_script.specs.Options.{words_of}
 use Rattle.lvm_words.specs.Disks.{disks_named}
 use Rattle.lvm_run.specs.Disks.{AreDisks}
@@ -12,4 +12,4 @@ returns c = λ names named.
     let again = subst (λ (list : List (String _)). disks_named (words_of list) ≡ Some names) (sym c.deref.ensures.value) named in
     let are = c.in_ok-are_named.ensures (cc) names again in
     let made = subst (AreDisks (length c.args.images)) (sym c.in_ok-new.ensures.state) (new_disks c.args.images are.1) in
-    subst (λ (n : ℕ). AreDisks n (state_of c.in_ok-new.field-0.row)) (sym are.0) made
+    subst (λ (n : ℕ). AreDisks n (state_of_shelf c.in_ok-new.field-0)) (sym are.0) made
