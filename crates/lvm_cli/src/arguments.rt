@@ -19,6 +19,3 @@ pub fn arguments<R: Env + AllocGlobal>(rt: &R) -> Result<Vec<String>, AllocError
         Err(_) => Err(AllocError),
     }
 }
-
-#[cfg(test)]
-mod tests;

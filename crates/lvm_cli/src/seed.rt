@@ -56,6 +56,3 @@ pub fn ids_of_system<R: RandomSource>(rt: &R, since: Option<Duration>) -> Option
     let state = mixed_seed(random_number(rt), clock)?;
     Some(MixWords { state })
 }
-
-#[cfg(test)]
-mod tests;

@@ -76,6 +76,3 @@ pub fn say_fault<R: Eprint>(rt: &R, names: &Vec<String>, fault: OpenFault) -> u8
         }
     }
 }
-
-#[cfg(test)]
-mod tests;

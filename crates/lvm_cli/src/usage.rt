@@ -108,6 +108,3 @@ fn text_of(fault: LineFault, word: Option<&String>) -> &'static str {
         LineFault::SessionFull => "is more than a session takes",
     }
 }
-
-#[cfg(test)]
-mod tests;
