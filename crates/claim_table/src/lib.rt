@@ -16,8 +16,6 @@ mod places;
 mod regions;
 mod sorted;
 mod table;
-#[cfg(test)]
-mod tests;
 
 pub use claim::{By, Claim, Entry};
 pub use laws::claims_stay_apart;

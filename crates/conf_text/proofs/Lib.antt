@@ -28,3 +28,4 @@ pub mod EntryParts
 pub mod OpenEnds
 pub mod Causes
 mod Rows
+mod MoreRows

@@ -15,8 +15,6 @@ mod refusal;
 mod scan;
 mod section;
 mod sink;
-#[cfg(test)]
-mod tests;
 mod token;
 mod tree;
 mod writer;

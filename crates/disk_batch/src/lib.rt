@@ -19,8 +19,6 @@ mod batching;
 mod in_turn;
 mod laws;
 mod submitting;
-#[cfg(test)]
-mod tests;
 mod writes;
 
 pub use alone::write_all;

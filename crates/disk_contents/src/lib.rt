@@ -16,6 +16,3 @@ pub use find::find_pv;
 pub use laws::one_finding;
 pub use read_refusal::ReadRefusal;
 pub use reading::read_sectors;
-
-#[cfg(test)]
-mod tests;

@@ -21,6 +21,3 @@ pub use giving::alloc;
 pub use part::{Given, Part, PartRun, PartRuns};
 pub use refusal::AllocRefusal;
 pub use request::Request;
-
-#[cfg(test)]
-mod tests;

@@ -17,6 +17,3 @@ pub use all_free::all_free_runs;
 pub use extent_run::{ExtentRun, ExtentRuns, FreeRuns};
 pub use free::{free_count, free_runs};
 pub use used_extents::used;
-
-#[cfg(test)]
-mod tests;

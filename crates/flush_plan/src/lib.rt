@@ -12,8 +12,6 @@
 mod laws;
 mod plan;
 mod records;
-#[cfg(test)]
-mod tests;
 
 pub use laws::stable_is_flushed_after;
 pub use plan::FlushPlan;

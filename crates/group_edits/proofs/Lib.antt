@@ -60,3 +60,4 @@ pub mod ReducedGroup
 pub mod ReducedPlaces
 pub mod RestoredGroup
 pub mod Placed
+mod NineVolumes

@@ -30,6 +30,3 @@ pub use rename_group::renamed_group;
 pub use rename_volume::renamed_volume;
 pub use restore_group::restored_group;
 pub use shorten_volume::{extents, is_layered, kept_extents, shortened_volume};
-
-#[cfg(test)]
-mod tests;

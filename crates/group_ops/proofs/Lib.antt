@@ -39,3 +39,4 @@ pub mod CountedSegments
 pub mod SoundBackup
 pub mod Restoring
 pub mod GroupExamples
+mod RefusedExamples

@@ -47,6 +47,3 @@ pub use refusal::PlanRefusal;
 pub use state::{Change, GroupState, Labels, NewLabel, Spans};
 pub use vgreduce::plan_vgreduce;
 pub use vgremove::plan_vgremove;
-
-#[cfg(test)]
-mod tests;

@@ -8,6 +8,3 @@ mod volumes;
 pub use map::IdMap;
 pub use members::Members;
 pub use volumes::{lvs_by_id, pvs_by_id};
-
-#[cfg(test)]
-mod tests;

@@ -8,8 +8,6 @@
 
 mod journal;
 mod table;
-#[cfg(test)]
-mod tests;
 
 pub use journal::{Answers, EntryKind, Journal, JournalEntry};
 pub use table::LineTable;

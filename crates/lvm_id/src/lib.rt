@@ -18,6 +18,3 @@ pub use mix_words::MixWords;
 pub use parse::{parse_hyphen, parse_plain};
 pub use refusal::IdRefusal;
 pub use words::Words64;
-
-#[cfg(test)]
-mod tests;

@@ -7,6 +7,3 @@ mod rule;
 
 pub use name::{GroupName, VolumeName};
 pub use refusal::NameRefusal;
-
-#[cfg(test)]
-mod tests;

@@ -80,6 +80,3 @@ pub fn write_answered<W: Sink>(
     answer.write(out, names)?;
     write_bytes(out, b"\n")
 }
-
-#[cfg(test)]
-mod tests;

@@ -16,8 +16,6 @@ mod pvck_report;
 mod report;
 mod reports;
 mod runs;
-#[cfg(test)]
-mod tests;
 mod vgck_lines;
 mod volume_lines;
 

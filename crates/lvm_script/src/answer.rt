@@ -121,6 +121,3 @@ fn write_both<W: Sink>(out: &mut W, first: &[u8], second: &[u8]) -> Result<(), F
     write_bytes(out, first)?;
     write_bytes(out, second)
 }
-
-#[cfg(test)]
-mod tests;

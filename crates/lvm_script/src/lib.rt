@@ -72,6 +72,3 @@ pub use text_sink::TextSink;
 pub use values::{fault_in, is_disk_name};
 pub use words::{line_of, read_request};
 pub use writing::{write_all, write_bytes, write_number};
-
-#[cfg(test)]
-mod tests;

@@ -2,9 +2,6 @@
 
 use crate::CommandName;
 
-#[cfg(test)]
-mod tests;
-
 impl CommandName {
     /// The words that may follow its name, as a manual writes them: `[ ]` around words that may be left out, ` | ` between
     /// words of which one is chosen, `( )` around those of which one is needed, `...` behind a word that may stand again.

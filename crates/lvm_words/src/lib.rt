@@ -17,6 +17,3 @@ pub use command_line::{CommandLine, read_command_line};
 pub use disks::disk_names;
 pub use fault::{WordsFault, fault_of_command_line};
 pub use refusal::WordsRefusal;
-
-#[cfg(test)]
-mod tests;

@@ -178,6 +178,3 @@ fn argument_passes(name: CommandName, number: usize, word: &[u8]) -> bool
         None => true,
     }
 }
-
-#[cfg(test)]
-mod tests;

@@ -9,8 +9,6 @@ mod entry;
 mod header;
 mod read;
 mod refusal;
-#[cfg(test)]
-mod tests;
 mod write;
 
 pub use entry::{Entry, read_entry};

@@ -4,3 +4,4 @@ pub mod RingPlaces
 pub mod SectorParts
 pub mod SpanLaws
 pub mod TextBytes
+mod Rows

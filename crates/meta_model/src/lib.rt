@@ -23,6 +23,3 @@ pub use segment::{Leg, Legs, On, SegKind, Segment, Segments};
 pub use status::{LvStatus, VgStatus};
 pub use table::{PushRefusal, Table};
 pub use tables::{LvRows, LvTable, PvTable};
-
-#[cfg(test)]
-mod tests;

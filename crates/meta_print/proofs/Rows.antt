@@ -10,7 +10,8 @@ use Rattle.meta_model.specs.declared.pv.Pv.{Pv}
 use Rattle.meta_model.specs.declared.lv.Lv.{Lv}
 use Rattle.meta_model.specs.declared.segment.On.TheVariants as on
 use Rattle.meta_model.specs.declared.segment.SegKind.TheVariants.{Striped, Mirror}
-use Rattle.meta_print.specs.Layout.{segment_entries, segments_entries, lvs_entries, tree_of, backup_of}
+use Rattle.meta_model.specs.declared.status.LvStatus.{LvStatus}
+use Rattle.meta_print.specs.Layout.{pv_entries, segment_entries, segments_entries, lv_words, lvs_entries, tree_of, backup_of}
 
 abbrev lines : List (List ℕ) → List ℕ
 lines ls = flat_map (λ l. l ++ 10 ∷ []) ls
@@ -163,3 +164,33 @@ moving_volume : printed (lvs_entries vg1 ((codes "pvmove0", move) ∷ [])) ≡ l
     codes "}" ∷ [])
 unfolding digits hyphen_form kind
 moving_volume = refl
+
+-- a device's name is quoted, and a volume that isn't there is flagged
+abbrev lost : Pv
+lost = record pv { device = codes "/dev/\"x\\y\""; allocatable = false; missing = true }
+
+lost_volume : printed (pv_entries (codes "pv1", lost)) ≡ lines (
+    codes "pv1 {" ∷
+    codes "id = \"000000-0010-0000-0001-0000-0030-000000\"" ∷
+    codes "device = \"/dev/\\\"x\\\\y\\\"\"" ∷
+    codes "status = []" ∷
+    codes "flags = [\"MISSING\"]" ∷
+    codes "dev_size = 131072" ∷
+    codes "pe_start = 2048" ∷
+    codes "pe_count = 15" ∷
+    codes "}" ∷ [])
+unfolding digits hyphen_form kind
+lost_volume = refl
+
+-- each status word has its place
+abbrev all_set : LvStatus
+all_set = record { read = true; write = true; visible = true; fixed_minor = true; pvmove = true; locked = true; notsynced = true }
+
+all_words : lv_words all_set
+    ≡ codes "READ" ∷ codes "WRITE" ∷ codes "VISIBLE" ∷ codes "FIXED_MINOR" ∷ codes "PVMOVE" ∷ codes "LOCKED" ∷ codes "NOTSYNCED" ∷ []
+all_words = refl
+
+-- the time is the last number: 19 digits more than a zero
+last_time : length (printed (tree_of vg0 18446744073709551615)) ≡ 497
+unfolding digits hyphen_form kind
+last_time = refl

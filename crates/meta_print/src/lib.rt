@@ -7,8 +7,6 @@ mod lvs;
 mod names;
 mod pvs;
 mod segments;
-#[cfg(test)]
-mod tests;
 mod text;
 mod words;
 

@@ -9,3 +9,4 @@ pub mod PrintedIds
 pub mod Steps
 pub mod WordLists
 mod WorkedRows
+mod KeyRows

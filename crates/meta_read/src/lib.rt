@@ -20,6 +20,3 @@ mod words;
 
 pub use passed::Unknown;
 pub use read::group_of;
-
-#[cfg(test)]
-mod tests;

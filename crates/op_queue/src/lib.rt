@@ -8,6 +8,3 @@
 mod queue;
 
 pub use queue::{OpQueue, Waiting, disk_of};
-
-#[cfg(test)]
-mod tests;

@@ -6,8 +6,6 @@
 
 mod laws;
 mod splitting;
-#[cfg(test)]
-mod tests;
 
 pub use laws::{pieces_cover_requests, pieces_lie_in_one_region};
 pub use splitting::{Pieces, split};

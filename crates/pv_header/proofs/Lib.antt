@@ -5,3 +5,4 @@ pub mod Filled
 pub mod ReadLists
 pub mod WrittenLists
 pub mod WrittenHeader
+mod Rows

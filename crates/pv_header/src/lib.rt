@@ -14,8 +14,6 @@ mod list_read;
 mod list_write;
 mod next_start;
 mod refusal;
-#[cfg(test)]
-mod tests;
 
 pub use extent_list::{Extent, Extents};
 pub use header::PvHeader;

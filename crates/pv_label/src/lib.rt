@@ -8,8 +8,6 @@
 mod read;
 mod refusal;
 mod seal;
-#[cfg(test)]
-mod tests;
 
 pub use read::{LABEL_SECTORS, LabelFound, begins_like_label, read_label};
 pub use refusal::LabelRefusal;

@@ -6,8 +6,6 @@
 
 mod log;
 mod region;
-#[cfg(test)]
-mod tests;
 
 pub use log::RegionLog;
 pub use region::Region;

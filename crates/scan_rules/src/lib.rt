@@ -26,6 +26,3 @@ pub use laws::{
     silent_disks_change_nothing,
 };
 pub use readings::{AreaGives, AreaRead, DiskRead, GroupCopy, PvRead, Readings};
-
-#[cfg(test)]
-mod tests;

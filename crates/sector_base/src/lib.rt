@@ -16,8 +16,6 @@ mod sector_list;
 mod shown;
 mod span_of;
 mod spans;
-#[cfg(test)]
-mod tests;
 mod texts;
 
 pub use bytes512::Bytes512;

@@ -26,6 +26,3 @@ pub use primary_place::{primary, primary_in};
 pub use region::MirrorAt;
 pub use sector_places::Places;
 pub use volume_size::sectors;
-
-#[cfg(test)]
-mod tests;

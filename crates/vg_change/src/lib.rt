@@ -16,8 +16,6 @@ mod clears;
 mod fault;
 mod flushing;
 mod label_sector;
-#[cfg(test)]
-mod tests;
 mod zeros;
 
 pub use batches::{label_writes, prepared, push_batch};

@@ -33,6 +33,3 @@ mod stripes;
 
 pub use checked::Checked;
 pub use checking::{CheckRefused, check};
-
-#[cfg(test)]
-mod tests;

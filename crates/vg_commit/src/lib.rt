@@ -21,8 +21,6 @@ mod prepared;
 mod preparing;
 mod puts;
 mod refusal;
-#[cfg(test)]
-mod tests;
 
 pub use committed::Committed;
 pub use committing::{ComStep, Committing, Precommitted};

@@ -1,5 +1,4 @@
 pub mod AllRead
-pub mod BareDisks
 pub mod HeaderDisks
 pub mod HeaderNumbers
 pub mod KeptLists

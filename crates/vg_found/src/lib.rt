@@ -20,6 +20,3 @@ pub use laws::{areas_are_shaped, whole_has_its_disks};
 pub use pv_disks::disks_of;
 pub use stale::stale_disks;
 pub use whole::{NotWhole, ScanRefused, Whole};
-
-#[cfg(test)]
-mod tests;

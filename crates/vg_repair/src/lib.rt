@@ -16,8 +16,6 @@ mod laws;
 mod repaired;
 mod repairing;
 mod stale_set;
-#[cfg(test)]
-mod tests;
 
 pub use fault::RepairFault;
 pub use laws::leaves_all;

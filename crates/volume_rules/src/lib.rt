@@ -11,6 +11,3 @@ mod runs;
 pub use laws::rules_are_tested;
 pub use rule::Rule;
 pub use runs::{lie_apart, sort_runs};
-
-#[cfg(test)]
-mod tests;

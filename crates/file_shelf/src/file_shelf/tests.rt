@@ -1,18 +1,15 @@
-//! Real files and files that fail, through the bound.
+//! Real files and files that fail, through the bound. How locks are waited for is tried on the built program.
 use super::FileShelf;
 use crate::OpenFault;
 use crate::image::{Access, Image, Node};
 use disk_model::{Done, Op, Shelf};
 use sector_base::{Bytes512, Sectors, Span};
-use std::alloc::{AllocError, Allocator, Global};
+use std::alloc::{AllocError, Global};
 use std::cell::Cell;
-use std::fmt::Display;
-use std::fs::{File, Files, Metadata, OpenFile, OpenOptions};
-use std::io::{Eprint, ErrorKind};
-use std::os::unix::fs::{FileExt, MetadataExt, symlink};
+use std::fs::{File, Files, Metadata, OpenFile};
+use std::io::ErrorKind;
+use std::os::unix::fs::{FileExt, symlink};
 use std::process::Abort;
-use std::test::Fail;
-use std::time::{Clock, Duration};
 use std::{fs, io, process};
 
 // The name of a file of this test alone.
@@ -102,128 +99,191 @@ fn fault_of(rt: &HostRuntime, access: Access, names: &Vec<String>) -> Result<Str
     }
 }
 
+// A file of this test alone, with so many bytes, all the same.
+fn file_of(stop: &impl Abort, rt: &HostRuntime, what: &str, byte: u8, len: usize) -> String {
+    let name = name_of(rt, what).expect(stop, "memory");
+    let bytes = vec![in rt.alloc(); byte; len].expect(stop, "memory");
+    fs::write(rt, name.as_str(), bytes).expect(stop, "a file");
+    name
+}
+
+fn removed(stop: &impl Abort, rt: &HostRuntime, name: &str) {
+    fs::remove_file(rt, name).expect(stop, "the file is there");
+}
+
+fn one_name(alloc: Global, name: &str) -> Result<Vec<String>, AllocError> {
+    let mut names = Vec::new(alloc);
+    names.push(String::from_str(alloc, name)?)?;
+    Ok(names)
+}
+
+fn two_names(alloc: Global, first: &str, second: &str) -> Result<Vec<String>, AllocError> {
+    let mut names = one_name(alloc, first)?;
+    names.push(String::from_str(alloc, second)?)?;
+    Ok(names)
+}
+
+// Whether a read of these sectors goes well.
+fn read_one<S: Shelf>(stop: &impl Abort, rt: &HostRuntime, shelf: &mut S, span: Span) -> bool {
+    let buffer = Sectors::zeroed(rt.alloc(), span.count).expect(stop, "memory");
+    let tag = submit_read(stop, shelf, span, buffer).expect(stop, "memory");
+    let (done, well, _) = settle_one(shelf).expect(stop, "a read");
+    assert_eq!(stop; done, tag);
+    well
+}
+
+// The span that is written.
+const WRITTEN: Span = Span {
+    pv: 0,
+    first: 5,
+    count: 4_200,
+};
+
+// What is written to the span, flushed and read back: three operations, of which each completes in its turn.
+fn write_and_read<S: Shelf>(stop: &impl Abort, rt: &HostRuntime, shelf: &mut S) -> Sectors {
+    let sectors = counted_sectors(rt.alloc(), 4_200).expect(stop, "memory");
+    let written = submit_write(stop, shelf, WRITTEN, sectors).expect(stop, "memory");
+    let flushed = submit_flush(stop, shelf, 0).expect(stop, "memory");
+    let buffer = Sectors::zeroed(rt.alloc(), 4_200).expect(stop, "memory");
+    let read = submit_read(stop, shelf, WRITTEN, buffer).expect(stop, "memory");
+    assert_well(stop, shelf, written);
+    assert_well(stop, shelf, flushed);
+    let (tag, well, buffer) = settle_one(shelf).expect(stop, "a read");
+    assert!(stop; tag == read && well);
+    buffer.expect(stop, "a buffer")
+}
+
+// Stops unless the next completion has the tag and went well.
+fn assert_well<S: Shelf>(rt: &impl Abort, shelf: &mut S, wanted: u64) {
+    let (tag, well, _) = settle_one(shelf).expect(rt, "a completion");
+    assert!(rt; tag == wanted && well);
+}
+
+// The byte of the file that was written.
+fn byte_at(at: usize) -> u8 {
+    let sector = at / 512;
+    if sector >= 5 && sector < 4_205 {
+        ((sector - 5) % 251) as u8
+    } else {
+        7
+    }
+}
+
+// Stops unless the file has what was written at its place, and what it had elsewhere.
+fn assert_written(stop: &impl Abort, rt: &HostRuntime, name: &str) {
+    let bytes = fs::read(rt, name).expect(stop, "the file is there");
+    assert_eq!(stop; bytes.len(), 4_300 * 512 + 100);
+    for (at, byte) in bytes.iter().enumerate() {
+        assert!(stop; *byte == byte_at(at));
+    }
+}
+
 // What was written to 4,200 sectors of a file of 4,300 is read back, and stands at its place in the file.
 #[test]
-fn reads_back_what_was_written(rt: HostRuntime) -> Result<(), Fail> {
-    let name = name_of(&rt, "written")?;
-    fs::write(
-        &rt,
-        name.as_str(),
-        vec![in rt.alloc(); 7; 4_300 * 512 + 100]?,
-    )?;
-    let names = vec![in rt.alloc(); name.clone()?]?;
-    let mut shelf = FileShelf::open(&rt, rt.alloc(), &names)?;
-    assert_eq!(rt; shelf.count(), 1);
-    assert_eq!(rt; shelf.sectors(0), 4_300);
-    let span = Span {
-        pv: 0,
-        first: 5,
-        count: 4_200,
-    };
-    let sectors = counted_sectors(rt.alloc(), 4_200)?;
-    let written = submit_write(&rt, &mut shelf, span, sectors)?;
-    let flushed = submit_flush(&rt, &mut shelf, 0)?;
-    let buffer = Sectors::zeroed(rt.alloc(), 4_200)?;
-    let read = submit_read(&rt, &mut shelf, span, buffer)?;
-    assert_eq!(rt; shelf.steps(), 3);
-    let (tag, well, _) = settle_one(&mut shelf).ok_or("a write")?;
-    assert_eq!(rt; (tag, well), (written, true));
-    let (tag, well, _) = settle_one(&mut shelf).ok_or("a flush")?;
-    assert_eq!(rt; (tag, well), (flushed, true));
-    let (tag, well, buffer) = settle_one(&mut shelf).ok_or("a read")?;
-    assert_eq!(rt; (tag, well), (read, true));
-    let wanted = counted_sectors(rt.alloc(), 4_200)?;
-    let same = buffer.ok_or("a buffer")?.into_vec() == wanted.into_vec();
-    assert!(rt; same);
+fn reads_back_what_was_written(rt: HostRuntime) {
+    let name = file_of(&rt, &rt, "written", 7, 4_300 * 512 + 100);
+    let names = one_name(rt.alloc(), name.as_str()).expect(&rt, "memory");
+    let mut shelf = FileShelf::open(&rt, rt.alloc(), &names).expect(&rt, "a shelf");
+    assert!(rt; shelf.count() == 1);
+    assert!(rt; shelf.sectors(0) == 4_300);
+    let read = write_and_read(&rt, &rt, &mut shelf);
+    let wanted = counted_sectors(rt.alloc(), 4_200).expect(&rt, "memory");
+    assert!(rt; read.into_vec() == wanted.into_vec());
     assert!(rt; shelf.settle().is_none());
     assert_eq!(rt; shelf.steps(), 6);
-    assert_eq!(rt; faults_of(&rt, &shelf, 0), 0);
-    let bytes = fs::read(&rt, name.as_str())?;
-    assert_eq!(rt; bytes.len(), 4_300 * 512 + 100);
-    for (at, byte) in bytes.iter().enumerate() {
-        let sector = at / 512;
-        let wanted = if sector >= 5 && sector < 4_205 {
-            ((sector - 5) % 251) as u8
-        } else {
-            7
-        };
-        assert_eq!(rt; *byte, wanted, "at {at}");
-    }
-    fs::remove_file(&rt, name.as_str())?;
-    Ok(())
+    assert_written(&rt, &rt, name.as_str());
+    removed(&rt, &rt, name.as_str());
+}
+
+// Stops unless a read of the last sector of this disk goes so, and these are the faults of the disk 1 then.
+fn assert_read(
+    stop: &impl Abort,
+    rt: &HostRuntime,
+    shelf: &mut FileShelf<File>,
+    pv: u32,
+    well: bool,
+    faults: u64,
+) {
+    let span = Span {
+        pv,
+        first: 7,
+        count: 1,
+    };
+    assert!(stop; read_one(stop, rt, shelf, span) == well);
+    assert_eq!(stop; faults_of(stop, shelf, 0), 0);
+    assert_eq!(stop; faults_of(stop, shelf, 1), faults);
 }
 
 // A read fails where the file has become shorter, and counts as a fault of its disk alone.
 #[test]
-fn counts_the_fault_of_a_short_file(rt: HostRuntime) -> Result<(), Fail> {
-    let whole = name_of(&rt, "whole")?;
-    let cut = name_of(&rt, "cut")?;
-    fs::write(&rt, whole.as_str(), vec![in rt.alloc(); 1; 8 * 512]?)?;
-    fs::write(&rt, cut.as_str(), vec![in rt.alloc(); 2; 8 * 512]?)?;
-    let names = vec![in rt.alloc(); whole.clone()?, cut.clone()?]?;
-    let mut shelf = FileShelf::open_to_read(&rt, rt.alloc(), &names)?;
-    fs::write(&rt, cut.as_str(), vec![in rt.alloc(); 3; 7 * 512]?)?;
-    for (pv, well, faults) in [(1, false, 1), (0, true, 1), (1, false, 2)] {
-        let span = Span {
-            pv,
-            first: 7,
-            count: 1,
-        };
-        let buffer = Sectors::zeroed(rt.alloc(), 1)?;
-        let tag = submit_read(&rt, &mut shelf, span, buffer)?;
-        let (done, went, _) = settle_one(&mut shelf).ok_or("a read")?;
-        assert_eq!(rt; (done, went), (tag, well));
-        assert_eq!(rt; faults_of(&rt, &shelf, 0), 0);
-        assert_eq!(rt; faults_of(&rt, &shelf, 1), faults);
-    }
-    fs::remove_file(&rt, whole.as_str())?;
-    fs::remove_file(&rt, cut.as_str())?;
-    Ok(())
+fn counts_the_fault_of_a_short_file(rt: HostRuntime) {
+    let whole = file_of(&rt, &rt, "whole", 1, 8 * 512);
+    let cut = file_of(&rt, &rt, "cut", 2, 8 * 512);
+    let names = two_names(rt.alloc(), whole.as_str(), cut.as_str()).expect(&rt, "memory");
+    let mut shelf = FileShelf::open_to_read(&rt, rt.alloc(), &names).expect(&rt, "a shelf");
+    file_of(&rt, &rt, "cut", 3, 7 * 512);
+    assert_read(&rt, &rt, &mut shelf, 1, false, 1);
+    assert_read(&rt, &rt, &mut shelf, 0, true, 1);
+    assert_read(&rt, &rt, &mut shelf, 1, false, 2);
+    removed(&rt, &rt, whole.as_str());
+    removed(&rt, &rt, cut.as_str());
+}
+
+// Stops unless the two files can't be opened in either way, by the fault of this one.
+fn assert_fault(
+    stop: &impl Abort,
+    rt: &HostRuntime,
+    first: &str,
+    second: &str,
+    number: u32,
+    cause: &str,
+) {
+    let names = two_names(rt.alloc(), first, second).expect(stop, "memory");
+    let wanted = format!(in rt.alloc(); "file {number} can't be opened as a disk: {cause}");
+    let wanted = wanted.expect(stop, "memory");
+    let read = fault_of(rt, Access::Read, &names).expect(stop, "memory");
+    assert_eq!(stop; read.as_str(), wanted.as_str());
+    let change = fault_of(rt, Access::Change, &names).expect(stop, "memory");
+    assert_eq!(stop; change.as_str(), wanted.as_str());
 }
 
 // The first file at fault is named, with its cause, whether it is opened to be changed or to be read. Each is opened before
 // one is measured.
 #[test]
-fn names_the_first_file_at_fault(rt: HostRuntime) -> Result<(), Fail> {
-    let small = name_of(&rt, "small")?;
-    let least = name_of(&rt, "least")?;
-    let missing = name_of(&rt, "missing")?;
-    let linked = name_of(&rt, "linked")?;
-    let pointed = name_of(&rt, "pointed")?;
-    fs::write(&rt, small.as_str(), vec![in rt.alloc(); 0; 8 * 512 - 1]?)?;
-    fs::write(&rt, least.as_str(), vec![in rt.alloc(); 0; 8 * 512]?)?;
-    fs::hard_link(&rt, least.as_str(), linked.as_str())?;
-    symlink(&rt, least.as_str(), pointed.as_str())?;
-    let too_small = "too small: 7 sectors of 512 bytes, and a disk has at least 8";
+fn names_the_first_file_at_fault(rt: HostRuntime) {
+    let small = file_of(&rt, &rt, "small", 0, 8 * 512 - 1);
+    let least = file_of(&rt, &rt, "least", 0, 8 * 512);
+    let missing = name_of(&rt, "missing").expect(&rt, "memory");
+    let (small, least, missing) = (small.as_str(), least.as_str(), missing.as_str());
+    let few = "too small: 7 sectors of 512 bytes, and a disk has at least 8";
     let absent = "No such file or directory (os error 2)";
-    let irregular = "not a regular file";
+    assert_fault(&rt, &rt, small, least, 0, few);
+    assert_fault(&rt, &rt, least, small, 1, few);
+    assert_fault(&rt, &rt, small, missing, 1, absent);
+    assert_fault(&rt, &rt, missing, small, 0, absent);
+    assert_fault(&rt, &rt, least, missing, 1, absent);
+    assert_fault(&rt, &rt, least, "/dev/null", 1, "not a regular file");
+    assert_fault(&rt, &rt, "/tmp", least, 0, "not a regular file");
+    removed(&rt, &rt, small);
+    removed(&rt, &rt, least);
+}
+
+// A file is named twice, by its own name or by another one.
+#[test]
+fn names_the_file_that_is_named_twice(rt: HostRuntime) {
+    let file = file_of(&rt, &rt, "named", 0, 8 * 512);
+    let linked = name_of(&rt, "linked").expect(&rt, "memory");
+    let pointed = name_of(&rt, "pointed").expect(&rt, "memory");
+    let (file, linked, pointed) = (file.as_str(), linked.as_str(), pointed.as_str());
+    fs::hard_link(&rt, file, linked).expect(&rt, "a link");
+    symlink(&rt, file, pointed).expect(&rt, "a link");
     let twice = "the same file is named twice";
-    let cases: [(&str, &str, u32, &str); 10] = [
-        (small.as_str(), least.as_str(), 0, too_small),
-        (least.as_str(), small.as_str(), 1, too_small),
-        (small.as_str(), missing.as_str(), 1, absent),
-        (missing.as_str(), small.as_str(), 0, absent),
-        (least.as_str(), missing.as_str(), 1, absent),
-        (least.as_str(), "/dev/null", 1, irregular),
-        ("/tmp", least.as_str(), 0, irregular),
-        (least.as_str(), least.as_str(), 1, twice),
-        (linked.as_str(), least.as_str(), 1, twice),
-        (least.as_str(), pointed.as_str(), 1, twice),
-    ];
-    for (first, second, number, cause) in cases {
-        let names = vec![in rt.alloc();
-            String::from_str(rt.alloc(), first)?,
-            String::from_str(rt.alloc(), second)?,
-        ]?;
-        let wanted = format!(in rt.alloc(); "file {number} can't be opened as a disk: {cause}")?;
-        for access in [Access::Read, Access::Change] {
-            assert_eq!(rt; fault_of(&rt, access, &names)?.as_str(), wanted.as_str());
-        }
-    }
-    for name in [&small, &least, &linked, &pointed] {
-        fs::remove_file(&rt, name.as_str())?;
-    }
-    Ok(())
+    assert_fault(&rt, &rt, file, file, 1, twice);
+    assert_fault(&rt, &rt, linked, file, 1, twice);
+    assert_fault(&rt, &rt, file, pointed, 1, twice);
+    removed(&rt, &rt, file);
+    removed(&rt, &rt, linked);
+    removed(&rt, &rt, pointed);
 }
 
 // How the file is locked, as another one who opens it sees it.
@@ -238,216 +298,51 @@ fn lock_of(rt: &impl Files<File = File>, name: &str) -> io::Result<&'static str>
     }
 }
 
+// Stops unless both files are locked so.
+fn assert_locked(stop: &impl Abort, rt: &HostRuntime, first: &str, second: &str, wanted: &str) {
+    let lock = lock_of(rt, first).expect(stop, "a file");
+    assert_eq!(stop; lock, wanted);
+    let lock = lock_of(rt, second).expect(stop, "a file");
+    assert_eq!(stop; lock, wanted);
+}
+
 // Each file is locked as the access wants, as long as the shelf is there.
 #[test]
-fn locks_each_file(rt: HostRuntime) -> Result<(), Fail> {
-    let first = name_of(&rt, "locked")?;
-    let second = name_of(&rt, "locked_too")?;
-    for name in [&first, &second] {
-        fs::write(&rt, name.as_str(), vec![in rt.alloc(); 0; 8 * 512]?)?;
-    }
-    let names = vec![in rt.alloc(); first.clone()?, second.clone()?]?;
-    for (access, wanted) in [(Access::Read, "shared"), (Access::Change, "alone")] {
-        let held = open_for(&rt, access, &names)?;
-        assert_eq!(rt; lock_of(&rt, first.as_str())?, wanted);
-        assert_eq!(rt; lock_of(&rt, second.as_str())?, wanted);
-        drop(held);
-        assert_eq!(rt; lock_of(&rt, first.as_str())?, "free");
-        assert_eq!(rt; lock_of(&rt, second.as_str())?, "free");
-    }
-    fs::remove_file(&rt, first.as_str())?;
-    fs::remove_file(&rt, second.as_str())?;
-    Ok(())
-}
-
-// A system on which another program has a file locked, and lets it grow by a sector and go after so many steps of sleep, or
-// when it is said that it is waited for.
-#[derive(Drop)]
-struct Contended<'a> {
-    rt: &'a HostRuntime,
-    holder: File,
-    steps: u32,
-    slept: Cell<u32>,
-    lines: Cell<u32>,
-    line: &'a str,
-    // Another file, and whether it was locked while this one was waited for.
-    watched: &'a str,
-    locked: Cell<bool>,
-}
-
-impl<'a> Contended<'a> {
-    fn let_go(&self) {
-        let _ = self.holder.set_len(9 * 512);
-        let _ = self.holder.unlock();
-    }
-}
-
-impl<'a> Clock for Contended<'a> {
-    fn monotonic(&self) -> io::Result<Duration> {
-        Err(io::Error::from(ErrorKind::Other))
-    }
-
-    fn since_1970(&self) -> io::Result<Duration> {
-        Err(io::Error::from(ErrorKind::Other))
-    }
-
-    fn sleep(&self, duration: Duration) {
-        if duration == Duration::from_millis(20) {
-            self.slept.set(self.slept.get().saturating_add(1));
-        }
-        self.locked
-            .set(lock_of(self.rt, self.watched).ok() == Some("alone"));
-        if self.slept.get() == self.steps {
-            self.let_go();
-        }
-    }
-}
-
-impl<'a> Eprint for Contended<'a> {
-    fn eprint<D: Display + Drop>(&self, _value: D) -> io::Result<()> {
-        Err(io::Error::from(ErrorKind::Other))
-    }
-
-    fn eprintln<D: Display + Drop>(&self, value: D) -> io::Result<()> {
-        if let Ok(line) = format!(in self.rt.alloc(); "{value}") {
-            if line.as_str() == self.line {
-                self.lines.set(self.lines.get().saturating_add(1));
-            }
-        }
-        self.let_go();
-        Ok(())
-    }
-}
-
-impl<'a> Files for Contended<'a> {
-    type File = File;
-
-    type Dir = <HostRuntime as Files>::Dir;
-
-    fn open_file(&self, how: &OpenOptions, path: &str) -> io::Result<File> {
-        self.rt.open_file(how, path)
-    }
-
-    fn open_dir(&self, path: &str) -> io::Result<Self::Dir> {
-        self.rt.open_dir(path)
-    }
-
-    fn metadata(&self, path: &str) -> io::Result<Metadata> {
-        Files::metadata(self.rt, path)
-    }
-
-    fn symlink_metadata(&self, path: &str) -> io::Result<Metadata> {
-        Files::symlink_metadata(self.rt, path)
-    }
-
-    fn copy(&self, from: &str, to: &str) -> io::Result<u64> {
-        self.rt.copy(from, to)
-    }
-
-    fn rename(&self, from: &str, to: &str) -> io::Result<()> {
-        self.rt.rename(from, to)
-    }
-
-    fn remove_file(&self, path: &str) -> io::Result<()> {
-        self.rt.remove_file(path)
-    }
-
-    fn create_dir(&self, path: &str) -> io::Result<()> {
-        self.rt.create_dir(path)
-    }
-
-    fn remove_dir(&self, path: &str) -> io::Result<()> {
-        self.rt.remove_dir(path)
-    }
-
-    fn remove_dir_all<B: Allocator>(&self, alloc: B, path: &str) -> io::Result<()> {
-        self.rt.remove_dir_all(alloc, path)
-    }
-}
-
-// Opens the files of these names to be changed, of which the disk `pv` is held by another for so many steps. What is seen:
-// whether the file `watched` was locked before, the steps and lines of the wait, how the file is locked then, and its size.
-fn open_held(
-    rt: &HostRuntime,
-    names: &Vec<String>,
-    pv: u32,
-    watched: &str,
-    steps: u32,
-) -> Result<(bool, u32, u32, &'static str, u64), Fail> {
-    let held = names.get(pv as usize).ok_or("a name")?.as_str();
-    let holder = OpenOptions::new().read(true).write(true).open(rt, held)?;
-    holder.set_len(8 * 512)?;
-    holder.try_lock().ok().ok_or("a lock")?;
-    let line = format!(in rt.alloc(); "waiting for {held}, which another program has locked")?;
-    let contended = Contended {
-        rt,
-        holder,
-        steps,
-        slept: Cell::new(0),
-        lines: Cell::new(0),
-        line: line.as_str(),
-        watched,
-        locked: Cell::new(false),
-    };
-    let shelf = FileShelf::open(&contended, rt.alloc(), names)?;
-    let lock = lock_of(rt, held)?;
-    let sectors = if pv < shelf.count() {
-        shelf.sectors(pv)
-    } else {
-        0
-    };
-    let (steps, lines) = (contended.slept.get(), contended.lines.get());
-    Ok((contended.locked.get(), steps, lines, lock, sectors))
-}
-
-// A lock is waited for, and said to be after a second. The file with the lower inode is locked first, however the files are
-// named, and each is measured once it is locked.
-#[test]
-fn waits_for_locks(rt: HostRuntime) -> Result<(), Fail> {
-    let first = name_of(&rt, "contended")?;
-    let second = name_of(&rt, "contended_too")?;
-    for name in [&first, &second] {
-        fs::write(&rt, name.as_str(), vec![in rt.alloc(); 0; 8 * 512]?)?;
-    }
-    let forth = vec![in rt.alloc(); first.clone()?, second.clone()?]?;
-    let back = vec![in rt.alloc(); second.clone()?, first.clone()?]?;
-    let (one, two) = (first.as_str(), second.as_str());
-    let second_first = fs::metadata(&rt, two)?.ino() < fs::metadata(&rt, one)?.ino();
-    let seen = open_held(&rt, &forth, 0, two, 3)?;
-    assert_eq!(rt; seen, (second_first, 3, 0, "alone", 9));
-    let seen = open_held(&rt, &forth, 1, one, 50)?;
-    assert_eq!(rt; seen, (!second_first, 50, 0, "alone", 9));
-    let seen = open_held(&rt, &back, 0, one, 51)?;
-    assert_eq!(rt; seen, (!second_first, 50, 1, "alone", 9));
-    let seen = open_held(&rt, &back, 1, two, 1)?;
-    assert_eq!(rt; seen, (second_first, 1, 0, "alone", 9));
-    fs::remove_file(&rt, one)?;
-    fs::remove_file(&rt, two)?;
-    Ok(())
+fn locks_each_file(rt: HostRuntime) {
+    let first = file_of(&rt, &rt, "locked", 0, 8 * 512);
+    let second = file_of(&rt, &rt, "locked_too", 0, 8 * 512);
+    let (first, second) = (first.as_str(), second.as_str());
+    let names = two_names(rt.alloc(), first, second).expect(&rt, "memory");
+    let held = FileShelf::open_to_read(&rt, rt.alloc(), &names).expect(&rt, "a shelf");
+    assert_locked(&rt, &rt, first, second, "shared");
+    drop(held);
+    assert_locked(&rt, &rt, first, second, "free");
+    let held = FileShelf::open(&rt, rt.alloc(), &names).expect(&rt, "a shelf");
+    assert_locked(&rt, &rt, first, second, "alone");
+    drop(held);
+    assert_locked(&rt, &rt, first, second, "free");
+    removed(&rt, &rt, first);
+    removed(&rt, &rt, second);
 }
 
 // A file that is opened to be read can't be written.
 #[test]
-fn writes_no_file_that_is_opened_to_be_read(rt: HostRuntime) -> Result<(), Fail> {
-    let name = name_of(&rt, "kept")?;
-    fs::write(&rt, name.as_str(), vec![in rt.alloc(); 5; 8 * 512]?)?;
-    let names = vec![in rt.alloc(); name.clone()?]?;
-    let mut shelf = FileShelf::open_to_read(&rt, rt.alloc(), &names)?;
+fn writes_no_file_that_is_opened_to_be_read(rt: HostRuntime) {
+    let name = file_of(&rt, &rt, "kept", 5, 8 * 512);
+    let names = one_name(rt.alloc(), name.as_str()).expect(&rt, "memory");
+    let mut shelf = FileShelf::open_to_read(&rt, rt.alloc(), &names).expect(&rt, "a shelf");
     let span = Span {
         pv: 0,
         first: 0,
         count: 8,
     };
-    let buffer = Sectors::zeroed(rt.alloc(), 8)?;
-    submit_read(&rt, &mut shelf, span, buffer)?;
-    let (_, well, buffer) = settle_one(&mut shelf).ok_or("a read")?;
-    assert!(rt; well);
-    submit_write(&rt, &mut shelf, span, buffer.ok_or("a buffer")?)?;
-    let (_, well, _) = settle_one(&mut shelf).ok_or("a write")?;
+    assert!(rt; read_one(&rt, &rt, &mut shelf, span));
+    let sectors = Sectors::zeroed(rt.alloc(), 8).expect(&rt, "memory");
+    submit_write(&rt, &mut shelf, span, sectors).expect(&rt, "memory");
+    let (_, well, _) = settle_one(&mut shelf).expect(&rt, "a write");
     assert!(rt; !well);
     assert_eq!(rt; faults_of(&rt, &shelf, 0), 1);
-    fs::remove_file(&rt, name.as_str())?;
-    Ok(())
+    removed(&rt, &rt, name.as_str());
 }
 
 // A file that fails by plan, with an error of this kind: its reads and writes from an offset on, or its sync. The rest goes
@@ -545,53 +440,113 @@ fn bytes_of(shelf: &FileShelf<Planned>, at: usize) -> Option<(u64, u64)> {
     Some((image.file.written.get(), image.file.read.get()))
 }
 
-// A write, a flush and a read of so many sectors go well or not by the plan of their own file, and each failure is a fault of
-// its disk. The second piece begins at sector 128. The other file is well.
+// Whether a write, a flush and a read of so many first sectors of the disk go well.
+fn three_of(
+    stop: &impl Abort,
+    rt: &HostRuntime,
+    shelf: &mut FileShelf<Planned>,
+    pv: u32,
+    count: u32,
+) -> [bool; 3] {
+    let span = Span {
+        pv,
+        first: 0,
+        count,
+    };
+    let sectors = Sectors::zeroed(rt.alloc(), count).expect(stop, "memory");
+    submit_write(stop, shelf, span, sectors).expect(stop, "memory");
+    let (_, write, _) = settle_one(shelf).expect(stop, "a write");
+    let flush = is_flushed(stop, shelf, pv);
+    let read = read_one(stop, rt, shelf, span);
+    [write, flush, read]
+}
+
+fn is_flushed(rt: &impl Abort, shelf: &mut FileShelf<Planned>, pv: u32) -> bool {
+    submit_flush(rt, shelf, pv).expect(rt, "memory");
+    let (_, well, _) = settle_one(shelf).expect(rt, "a flush");
+    well
+}
+
+// Stops unless a write, a flush and a read of so many sectors of this disk go so, with so many bytes each, and each failure is a
+// fault of that disk. The other one is well.
+fn assert_faults(
+    stop: &impl Abort,
+    rt: &HostRuntime,
+    shelf: &mut FileShelf<Planned>,
+    pv: u32,
+    count: u32,
+    wanted: [bool; 3],
+    bytes: u64,
+) {
+    assert!(stop; pv < 2);
+    let told = three_of(stop, rt, shelf, pv, count);
+    assert!(stop; told == wanted);
+    assert!(stop; is_flushed(stop, shelf, 1 - pv));
+    let [write, flush, read] = wanted;
+    let faults = u64::from(!write) + u64::from(!flush) + u64::from(!read);
+    assert_eq!(stop; faults_of(stop, shelf, pv), faults);
+    assert_eq!(stop; faults_of(stop, shelf, 1 - pv), 0);
+    assert!(stop; bytes_of(shelf, pv as usize) == Some((bytes, bytes)));
+    assert!(stop; bytes_of(shelf, 1 - pv as usize) == Some((0, 0)));
+}
+
+// The same where the file with the plan is either of two.
+fn assert_planned(
+    stop: &impl Abort,
+    rt: &HostRuntime,
+    plan: (u64, bool, ErrorKind),
+    count: u32,
+    wanted: [bool; 3],
+    bytes: u64,
+) {
+    let (from, sync, kind) = plan;
+    let faulty = file_that_fails(from, sync, kind);
+    let well = file_that_fails(u64::MAX, true, ErrorKind::Other);
+    let mut shelf = shelf_over(rt.alloc(), faulty, well).expect(stop, "memory");
+    assert_faults(stop, rt, &mut shelf, 0, count, wanted, bytes);
+    let faulty = file_that_fails(from, sync, kind);
+    let well = file_that_fails(u64::MAX, true, ErrorKind::Other);
+    let mut shelf = shelf_over(rt.alloc(), well, faulty).expect(stop, "memory");
+    assert_faults(stop, rt, &mut shelf, 1, count, wanted, bytes);
+}
+
+// A write, a flush and a read go well or not by the plan of their own file. The second piece begins at sector 128.
 #[test]
-fn counts_every_fault(rt: HostRuntime) -> Result<(), Fail> {
+fn counts_every_fault(rt: HostRuntime) {
     let whole = u64::MAX;
     let other = ErrorKind::Other;
     let full = ErrorKind::StorageFull;
-    let cases: [(u64, bool, ErrorKind, u32, [bool; 3], u64); 5] = [
-        (whole, true, other, 300, [true, true, true], 153_600),
-        (whole, false, full, 300, [true, false, true], 153_600),
-        (65_536, true, full, 128, [true, true, true], 65_536),
-        (65_536, true, full, 129, [false, true, false], 65_536),
-        (0, false, other, 8, [false, false, false], 0),
-    ];
-    for (fails_from, sync, kind, count, wanted, bytes) in cases {
-        for pv in 0..2u32 {
-            let faulty = file_that_fails(fails_from, sync, kind);
-            let well = file_that_fails(whole, true, other);
-            let mut shelf = if pv == 0 {
-                shelf_over(rt.alloc(), faulty, well)?
-            } else {
-                shelf_over(rt.alloc(), well, faulty)?
-            };
-            let span = Span {
-                pv,
-                first: 0,
-                count,
-            };
-            let sectors = counted_sectors(rt.alloc(), count)?;
-            submit_write(&rt, &mut shelf, span, sectors)?;
-            submit_flush(&rt, &mut shelf, pv)?;
-            let buffer = Sectors::zeroed(rt.alloc(), count)?;
-            submit_read(&rt, &mut shelf, span, buffer)?;
-            let mut faults = 0u64;
-            for wanted in wanted {
-                let (_, well, _) = settle_one(&mut shelf).ok_or("a completion")?;
-                assert_eq!(rt; well, wanted);
-                faults = faults.saturating_add(u64::from(!well));
-                assert_eq!(rt; faults_of(&rt, &shelf, pv), faults);
-            }
-            submit_flush(&rt, &mut shelf, 1 - pv)?;
-            let (_, well, _) = settle_one(&mut shelf).ok_or("a flush")?;
-            assert!(rt; well);
-            assert_eq!(rt; faults_of(&rt, &shelf, 1 - pv), 0);
-            assert_eq!(rt; bytes_of(&shelf, pv as usize), Some((bytes, bytes)));
-            assert_eq!(rt; bytes_of(&shelf, 1 - pv as usize), Some((0, 0)));
-        }
-    }
-    Ok(())
+    assert_planned(
+        &rt,
+        &rt,
+        (whole, true, other),
+        300,
+        [true, true, true],
+        153_600,
+    );
+    assert_planned(
+        &rt,
+        &rt,
+        (whole, false, full),
+        300,
+        [true, false, true],
+        153_600,
+    );
+    assert_planned(
+        &rt,
+        &rt,
+        (65_536, true, full),
+        128,
+        [true, true, true],
+        65_536,
+    );
+    assert_planned(
+        &rt,
+        &rt,
+        (65_536, true, full),
+        129,
+        [false, true, false],
+        65_536,
+    );
+    assert_planned(&rt, &rt, (0, false, other), 8, [false, false, false], 0);
 }

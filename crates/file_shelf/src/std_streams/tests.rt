@@ -56,13 +56,6 @@ struct Takes {
     most: Result<usize, ErrorKind>,
 }
 
-fn output_of(most: usize) -> Takes {
-    Takes {
-        interrupts: Cell::new(0),
-        most: Ok(most),
-    }
-}
-
 impl Print for Takes {
     fn print<D: Display + Drop>(&self, _value: D) -> io::Result<()> {
         Err(failure())
@@ -89,75 +82,75 @@ impl Print for Takes {
     }
 }
 
+fn source_of(interrupts: u32, fails: Option<ErrorKind>) -> StdSource<Planned> {
+    StdSource {
+        input: Planned { interrupts, fails },
+        faults: u64::MAX - 1,
+    }
+}
+
+fn sink_of(interrupts: u32, most: Result<usize, ErrorKind>) -> StdSink<Takes> {
+    StdSink::new(Takes {
+        interrupts: Cell::new(interrupts),
+        most,
+    })
+}
+
 #[test]
-fn a_source_counts_its_faults(rt: HostRuntime) {
+fn a_source_gives_its_bytes(rt: HostRuntime) {
     let mut given = StdSource {
         input: b"lvs\n".as_slice(),
         faults: 0,
     };
     let mut piece = [0; 3];
-    assert_eq!(rt; read_from(&mut given, &mut piece), (Some(3), 0));
-    assert_eq!(rt; &piece, b"lvs");
-    assert_eq!(rt; read_from(&mut given, &mut piece), (Some(1), 0));
-    assert_eq!(rt; read_from(&mut given, &mut piece), (Some(0), 0));
-    for kind in KINDS {
-        let mut source = StdSource {
-            input: Planned {
-                interrupts: 0,
-                fails: Some(kind),
-            },
-            faults: u64::MAX - 1,
-        };
-        assert_eq!(rt; read_from(&mut source, &mut piece), (None, u64::MAX));
-        assert_eq!(rt; read_from(&mut source, &mut piece), (None, u64::MAX));
-    }
+    assert!(rt; read_from(&mut given, &mut piece) == (Some(3), 0));
+    assert!(rt; piece == *b"lvs");
+    assert!(rt; read_from(&mut given, &mut piece) == (Some(1), 0));
+    assert!(rt; read_from(&mut given, &mut piece) == (Some(0), 0));
     let mut input = StdSource::new(&rt);
-    assert_eq!(rt; read_from(&mut input, &mut []), (Some(0), 0));
+    assert!(rt; read_from(&mut input, &mut []) == (Some(0), 0));
+}
+
+// Each error is a fault, and the count stands still at its end.
+#[test]
+fn a_source_counts_its_faults(rt: HostRuntime) {
+    for kind in KINDS {
+        let mut source = source_of(0, Some(kind));
+        assert!(rt; read_from(&mut source, &mut [0]) == (None, u64::MAX));
+        assert!(rt; read_from(&mut source, &mut [0]) == (None, u64::MAX));
+    }
 }
 
 #[test]
 fn a_sink_that_takes_nothing_is_at_fault(rt: HostRuntime) {
-    let mut some = StdSink::new(output_of(2));
-    assert_eq!(rt; write_to(&mut some, b"ok\n"), (Some(2), 0));
-    assert_eq!(rt; write_bytes(&mut some, b"data\nok\n"), Ok(()));
-    let mut none = StdSink::new(output_of(0));
-    assert_eq!(rt; write_to(&mut none, b""), (Some(0), 0));
-    assert_eq!(rt; write_to(&mut none, b"ok\n"), (None, 1));
-    assert_eq!(rt; write_bytes(&mut none, b"ok\n"), Err(Failed));
-    assert_eq!(rt; none.faults(), 2);
+    let mut some = sink_of(0, Ok(2));
+    assert!(rt; write_to(&mut some, b"ok\n") == (Some(2), 0));
+    assert!(rt; write_bytes(&mut some, b"data\nok\n") == Ok(()));
+    let mut none = sink_of(0, Ok(0));
+    assert!(rt; write_to(&mut none, b"") == (Some(0), 0));
+    assert!(rt; write_to(&mut none, b"ok\n") == (None, 1));
+    assert!(rt; write_bytes(&mut none, b"ok\n") == Err(Failed));
+    assert!(rt; none.faults() == 2);
     let mut output = StdSink::new(&rt);
-    assert_eq!(rt; write_to(&mut output, b""), (Some(0), 0));
+    assert!(rt; write_to(&mut output, b"") == (Some(0), 0));
 }
 
 // An error of the system is a fault, and nothing was written.
 #[test]
 fn a_sink_that_fails_is_at_fault(rt: HostRuntime) {
     for kind in KINDS {
-        let mut broken = StdSink::new(Takes {
-            interrupts: Cell::new(0),
-            most: Err(kind),
-        });
-        assert_eq!(rt; write_to(&mut broken, b"ok\n"), (None, 1));
-        assert_eq!(rt; write_bytes(&mut broken, b"ok\n"), Err(Failed));
-        assert_eq!(rt; broken.faults(), 2);
+        let mut broken = sink_of(0, Err(kind));
+        assert!(rt; write_to(&mut broken, b"ok\n") == (None, 1));
+        assert!(rt; write_bytes(&mut broken, b"ok\n") == Err(Failed));
+        assert!(rt; broken.faults() == 2);
     }
 }
 
 // What a signal interrupts is tried again, and is no fault.
 #[test]
 fn tries_again_after_an_interrupt(rt: HostRuntime) {
-    let mut source = StdSource {
-        input: Planned {
-            interrupts: 3,
-            fails: None,
-        },
-        faults: 0,
-    };
-    let mut piece = [0; 3];
-    assert_eq!(rt; read_from(&mut source, &mut piece), (Some(3), 0));
-    let mut sink = StdSink::new(Takes {
-        interrupts: Cell::new(3),
-        most: Ok(2),
-    });
-    assert_eq!(rt; write_to(&mut sink, b"ok\n"), (Some(2), 0));
+    let mut source = source_of(3, None);
+    assert!(rt; read_from(&mut source, &mut [0; 3]) == (Some(3), u64::MAX - 1));
+    let mut sink = sink_of(3, Ok(2));
+    assert!(rt; write_to(&mut sink, b"ok\n") == (Some(2), 0));
 }
