@@ -1,12 +1,11 @@
 //! In what a run differs from what is expected of it.
 use crate::images::{left, opened};
-use crate::row::{DiskExpectation, DiskFact, Expectation, Run, Sites, What};
 use crate::run::Ran;
 use crate::shown::{first_difference, shown};
-use crate::stop::Failure;
 use dev_shelf::{Images, Shelf};
 use line_table::{EntryKind, Journal};
 use lvm_script::read_all;
+use row_text::{DiskExpectation, DiskFact, Expectation, Failure, Run, Sites, What};
 use sector_base::{Bytes512, Sectors};
 use std::alloc::{AllocError, Global};
 

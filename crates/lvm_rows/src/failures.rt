@@ -1,11 +1,10 @@
 //! The images that a run leaves in which an operation fails.
 use crate::images::{crashed, opened};
-use crate::row::{FailureList, Run};
 use crate::run::{Ran, run};
 use crate::shown::first_difference;
-use crate::stop::{Failure, Stop};
-use crate::versions::{Seen, version_of};
+use crate::versions::{Seen, choices_at, version_of};
 use dev_shelf::{Fail, MemShelf};
+use row_text::{Failure, FailureList, Run, Stop};
 use std::alloc::Global;
 use std::sync::Wait;
 use std::thread::Threads;
@@ -64,7 +63,7 @@ fn check_failure<T: Threads + Wait + Sync>(
     let ran = run(rt, alloc, again, images, Some(fail))?;
     let place = format!(in alloc; "where operation {tag} fails with {fresh} new")?;
     ends_so(alloc, failures, &ran, place.as_str())?;
-    let choices = failures.list.choices_at(alloc, tag)?;
+    let choices = choices_at(alloc, &failures.list, tag)?;
     for choice in choices.iter() {
         let shelf = &ran.ended.shelf;
         let Some(image) = crashed(alloc, shelf, shelf.moments(), *choice)? else {

@@ -1,8 +1,8 @@
 //! The sectors of all disks of a row, and how they are written beside the runs.
 use crate::commit::commit;
-use crate::row::EditKind;
 use dev_shelf::{Images, MemShelf, Shelf};
 use pv_label::seal_label;
+use row_text::EditKind;
 use sector_base::{Bytes512, Sectors, put_u32};
 use std::alloc::{AllocError, Global};
 

@@ -5,29 +5,17 @@
 
 mod commit;
 mod differences;
-mod disks;
-mod edits;
-mod enumerations;
-mod expectations;
 mod failures;
-mod file;
 mod images;
-mod line;
 mod moments;
-mod reader;
 mod report;
-mod row;
 mod rows;
 mod run;
-mod settings;
 mod shown;
-mod stop;
-mod texts;
-mod values;
 mod versions;
 
-use file::rows_of;
 use report::Report;
+use row_text::{Stop, rows_of};
 use rows::run_rows;
 use std::io::{ErrorKind, Print};
 use std::process::ExitCode;
@@ -35,7 +23,6 @@ use std::rt::{Env, Files};
 use std::sync::Wait;
 use std::thread::Threads;
 use std::{env, fs, io};
-use stop::Stop;
 
 /// The exit status for want of memory.
 const NO_MEMORY: u8 = 2;

@@ -1,11 +1,10 @@
 //! The images that a crash at each moment of a run may leave.
 use crate::images::crashed;
-use crate::row::{Enumeration, Version};
-use crate::stop::{Failure, Stop};
-use crate::versions::{Seen, version_of};
+use crate::versions::{Seen, choices_at, version_of};
 use dev_shelf::MemShelf;
 use line_table::{EntryKind, Journal};
 use lvm_run::Ended;
+use row_text::{Enumeration, Failure, Stop, Version};
 use std::alloc::Global;
 use std::sync::Wait;
 use std::thread::Threads;
@@ -33,7 +32,7 @@ fn check_moment<T: Threads + Wait + Sync>(
     moment: u64,
     seen: &mut Seen,
 ) -> Result<(), Stop> {
-    let choices = list.choices_at(alloc, moment)?;
+    let choices = choices_at(alloc, list, moment)?;
     for choice in choices.iter() {
         let Some(image) = crashed(alloc, &ended.shelf, moment, *choice)? else {
             continue;

@@ -1,7 +1,6 @@
 //! What the rows of a file came to.
-use crate::row::Row;
-use crate::stop::{Failure, Stop};
 use dev_shelf::Images;
+use row_text::{Failure, Row, Stop};
 use std::alloc::{AllocError, Global};
 
 /// How many rows were run, and those that weren't as expected.

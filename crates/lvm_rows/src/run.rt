@@ -4,13 +4,12 @@ ghost use Rattle.lvm_script.specs.Options.{words_of};
 ghost use Rattle.lvm_run.specs.Disks.{HasDisks};
 ghost use Rattle.lvm_rows.specs.Named.{AreNamed, IsSized};
 
-use crate::row::Run;
-use crate::stop::{Stop, failed};
 use dev_shelf::{Fail, Images, MemShelf, Shelf, ShelfPlan};
 use lvm_id::MemWords;
 use lvm_run::{Ended, lvm_run};
 use lvm_script::{MemSink, MemSource};
 use lvm_words::{WordsRefusal, disk_names};
+use row_text::{Run, Stop, failed};
 use std::alloc::{AllocError, Global};
 use std::sync::Wait;
 use std::thread::Threads;

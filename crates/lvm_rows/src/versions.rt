@@ -1,10 +1,9 @@
 //! Which version an image is.
 use crate::differences::difference;
 use crate::images::{left, opened};
-use crate::row::{Enumeration, Run, Version};
 use crate::run::run;
-use crate::stop::{Failure, Stop};
 use dev_shelf::{Images, MemShelf};
+use row_text::{Enumeration, Failure, Run, Stop, Version};
 use std::alloc::{AllocError, Global};
 use std::sync::Wait;
 use std::thread::Threads;
@@ -12,15 +11,13 @@ use std::thread::Threads;
 /// Which sectors take the new one of their two values, where some do: every second, two of four, eight of sixteen.
 const MIXED: [u64; 6] = [0x5555, 0xaaaa, 0x3333, 0xcccc, 0x00ff, 0xff00];
 
-impl Enumeration {
-    /// The choices at this turn: those that are listed, or else all old, all new, and some of both by turns.
-    pub fn choices_at(&self, alloc: Global, turn: u64) -> Result<Vec<u64>, AllocError> {
-        if !self.choices.is_empty() {
-            return Vec::from_slice(alloc, &self.choices);
-        }
-        let mixed = MIXED[(turn % 6) as usize];
-        Ok(vec![in alloc; 0, 0xffff, mixed]?)
+/// The choices at this turn: those that are listed, or else all old, all new, and some of both by turns.
+pub fn choices_at(alloc: Global, list: &Enumeration, turn: u64) -> Result<Vec<u64>, AllocError> {
+    if !list.choices.is_empty() {
+        return Vec::from_slice(alloc, &list.choices);
     }
+    let mixed = MIXED[(turn % 6) as usize];
+    Ok(vec![in alloc; 0, 0xffff, mixed]?)
 }
 
 /// Which of the versions were seen.

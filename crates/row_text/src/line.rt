@@ -1,4 +1,5 @@
 //! A line of a file, as its words.
+use std::alloc::{AllocError, Global};
 
 /// The first word and what stands behind the blank after it.
 pub fn first_word(text: &str) -> (&str, &str) {
@@ -19,5 +20,3 @@ pub fn words_in<'a>(alloc: Global, text: &'a str) -> Result<Vec<&'a str>, AllocE
     }
     Ok(words)
 }
-
-use std::alloc::{AllocError, Global};

@@ -132,14 +132,18 @@ fn read_option<'a>(
 
 // The first tag and the last.
 fn tags(alloc: Global, line: usize, word: &str) -> Result<Tags, Stop> {
-    let (first, last) = match word.split_once('-') {
-        Some(both) => both,
+    let (first, last) = ends_of(word);
+    let first = number(alloc, line, first)?;
+    let last = number(alloc, line, last)?;
+    Ok(Tags { first, last })
+}
+
+// What stands before the hyphen and behind it, or the same twice.
+fn ends_of(word: &str) -> (&str, &str) {
+    match word.split_once('-') {
+        Some(ends) => ends,
         None => (word, word),
-    };
-    Ok(Tags {
-        first: number(alloc, line, first)?,
-        last: number(alloc, line, last)?,
-    })
+    }
 }
 
 /// The version that a line begins, behind `version`: its name, and between which entries of the journal it may stand.
