@@ -204,32 +204,6 @@ fn free_extents_lie_between_legs(rt: HostRuntime) -> Result<(), Fail> {
 }
 
 #[test]
-fn refusals_come_in_their_order(rt: HostRuntime) {
-    let group = group_of_text(&rt, rt.alloc(), group_text());
-    let alloc = rt.alloc();
-    let mut want = request(99, 1, true);
-    want.on = set_of(&[4, 2, 0]);
-    assert_refused(&rt, alloc, &group, &want, AllocRefusal::NotAllocatable(2));
-    want.legs = 2;
-    assert_refused(&rt, alloc, &group, &want, AllocRefusal::NotAllocatable(2));
-    let want = request(29, 1, true);
-    let no_space = AllocRefusal::NoSpace { need: 29, free: 28 };
-    assert_refused(&rt, alloc, &group, &want, no_space);
-    let want = request(11, 1, true);
-    let no_run = AllocRefusal::NoRun {
-        need: 11,
-        longest: 10,
-    };
-    assert_refused(&rt, alloc, &group, &want, no_run);
-    let want = request(8, 3, false);
-    let too_few = AllocRefusal::TooFewPvs { need: 3, fit: 2 };
-    assert_refused(&rt, alloc, &group, &want, too_few);
-    let want = request(6, 2, true);
-    let too_few = AllocRefusal::TooFewPvs { need: 2, fit: 1 };
-    assert_refused(&rt, alloc, &group, &want, too_few);
-}
-
-#[test]
 fn the_sets_say_which_volumes_are_used(rt: HostRuntime) {
     let group = group_of_text(&rt, rt.alloc(), group_text());
     let alloc = rt.alloc();

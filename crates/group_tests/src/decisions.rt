@@ -1,14 +1,12 @@
-//! An answer of each kind.
-ghost use Rattle.std.specs.Prelude.{◌<◌, IfOk};
+//! What disks come to of which one has a copy of the group's text.
+ghost use Rattle.std.specs.Prelude.{IfOk};
 ghost use Rattle.scan_rules.specs.Readings.{DiskIsOf};
 
 use conf_text::read_conf;
 use lvm_id::{LvmId, parse_plain};
-use mda_header::MdaRefusal;
 use meta_read::group_of;
 use scan_rules::{
-    AreaGives, AreaRead, CopyRefusal, Decided, DiskRead, GroupCopy, PvRead, Readings, ScanRefusal,
-    decide,
+    AreaGives, AreaRead, Decided, DiskRead, GroupCopy, PvRead, Readings, ScanRefusal, decide,
 };
 use sector_base::{ItemList, Text};
 use std::alloc::{AllocError, Global};
@@ -20,71 +18,9 @@ fn id(rt: &impl Abort, text: &[u8; 32]) -> LvmId {
     parse_plain(text).expect(rt, "an id")
 }
 
-// A disk with one area that isn't ignored, which is refused or holds nothing.
-fn disk(alloc: Global, id: LvmId, refused: bool) -> Result<DiskRead, AllocError>
-    ensures { IfOk result (DiskIsOf 0) }
-{
-    let gives = if refused {
-        AreaGives::Refused(CopyRefusal::HeaderRefused(MdaRefusal::BadMagic))
-    } else {
-        AreaGives::Nothing
-    };
-    let area = AreaRead {
-        start: 8,
-        sectors: 2_040,
-        gives: Some(gives),
-    };
-    Ok(DiskRead {
-        sectors: 8_192,
-        pv: Some(PvRead {
-            id,
-            areas: ItemList::from_vec(vec![in alloc; area]?),
-        }),
-    })
-}
-
 const FIRST: &[u8; 32] = b"00000000100000000100000030000000";
 
 const SECOND: &[u8; 32] = b"00000000100000000100000030000001";
-
-#[test]
-fn disks_without_text_have_no_group(rt: HostRuntime) -> Result<(), Fail> {
-    let mut readings = Readings::new(rt.alloc());
-    readings.push_disk(disk(rt.alloc(), id(&rt, FIRST), false)?)?;
-    readings.push_disk(disk(rt.alloc(), id(&rt, SECOND), false)?)?;
-    let decided = decide(rt.alloc(), readings).ok().expect(&rt, "an answer");
-    assert!(rt; decided.copy.is_none() && decided.strays.is_empty());
-    assert_eq!(rt; (decided.stale.len(), decided.missing.len()), (0, 0));
-    Ok(())
-}
-
-#[test]
-fn refused_areas_are_no_copy(rt: HostRuntime) -> Result<(), Fail> {
-    let mut readings = Readings::new(rt.alloc());
-    readings.push_disk(disk(rt.alloc(), id(&rt, FIRST), false)?)?;
-    readings.push_disk(disk(rt.alloc(), id(&rt, SECOND), true)?)?;
-    match decide(rt.alloc(), readings) {
-        Err(ScanRefusal::NoCopy(refused)) => {
-            assert_eq!(rt; refused.len(), 1);
-            assert_eq!(rt; refused.as_slice()[0].0, 1);
-        }
-        _ => panic!(rt; "another answer"),
-    }
-    Ok(())
-}
-
-#[test]
-fn one_id_on_two_disks_is_a_duplicate(rt: HostRuntime) -> Result<(), Fail> {
-    let mut readings = Readings::new(rt.alloc());
-    readings.push_disk(disk(rt.alloc(), id(&rt, SECOND), true)?)?;
-    readings.push_disk(disk(rt.alloc(), id(&rt, FIRST), true)?)?;
-    readings.push_disk(disk(rt.alloc(), id(&rt, FIRST), false)?)?;
-    match decide(rt.alloc(), readings) {
-        Err(ScanRefusal::DuplicatePv(1, 2)) => {}
-        _ => panic!(rt; "another answer"),
-    }
-    Ok(())
-}
 
 const THIRD: &[u8; 32] = b"00000000100000000100000030000002";
 
@@ -141,20 +77,14 @@ fn copy(rt: &impl Abort, alloc: Global, text: &[u8]) -> Result<GroupCopy, AllocE
     })
 }
 
-// A disk of so many sectors with two areas: a copy with this number, and nothing.
-fn disk_with_copy(
-    alloc: Global,
-    id: LvmId,
-    sectors: u64,
-    number: usize,
-) -> Result<DiskRead, AllocError>
-    requires { number < 2 }
+// A disk with two areas: the second copy, and nothing.
+fn disk_with_copy(alloc: Global, id: LvmId) -> Result<DiskRead, AllocError>
     ensures { IfOk result (DiskIsOf 2) }
 {
     let holder = AreaRead {
         start: 8,
         sectors: 2_040,
-        gives: Some(AreaGives::Copy(number)),
+        gives: Some(AreaGives::Copy(1)),
     };
     let empty = AreaRead {
         start: 130_000,
@@ -162,7 +92,7 @@ fn disk_with_copy(
         gives: Some(AreaGives::Nothing),
     };
     Ok(DiskRead {
-        sectors,
+        sectors: 131_072,
         pv: Some(PvRead {
             id,
             areas: ItemList::from_vec(vec![in alloc; holder, empty]?),
@@ -170,53 +100,24 @@ fn disk_with_copy(
     })
 }
 
-// What two disks come to, the first of them in the group, each with one of two copies of it, whose texts differ.
-fn answer(
-    rt: &impl Abort,
-    alloc: Global,
-    sectors: u64,
-    first: usize,
-    second: usize,
-) -> Result<Result<Decided, ScanRefusal>, AllocError>
-    requires first { first < 2 }
-    requires second { second < 2 }
-{
+// What two disks come to, the first of them in the group, each with the second of two copies of it, whose texts differ.
+fn answer(rt: &impl Abort, alloc: Global) -> Result<Result<Decided, ScanRefusal>, AllocError> {
     let mut readings = Readings::new(alloc);
     readings.push_copy(copy(rt, alloc, b"a")?)?;
     readings.push_copy(copy(rt, alloc, b"b")?)?;
-    readings.push_disk(disk_with_copy(alloc, id(rt, FIRST), sectors, first)?)?;
-    readings.push_disk(disk_with_copy(alloc, id(rt, SECOND), sectors, second)?)?;
+    readings.push_disk(disk_with_copy(alloc, id(rt, FIRST))?)?;
+    readings.push_disk(disk_with_copy(alloc, id(rt, SECOND))?)?;
     Ok(decide(alloc, readings))
 }
 
 #[test]
 fn a_listed_disk_holds_the_group(rt: HostRuntime) -> Result<(), Fail> {
-    let decided = answer(&rt, rt.alloc(), 131_072, 1, 1)?
-        .ok()
-        .expect(&rt, "an answer");
+    let decided = answer(&rt, rt.alloc())?.ok().expect(&rt, "an answer");
     let copy = decided.copy.expect(&rt, "a group");
     assert_eq!(rt; copy.text.as_bytes(), b"b".as_slice());
     assert_eq!(rt; (decided.stale.len(), decided.missing.len()), (1, 1));
     assert_eq!(rt; decided.stale.as_slice()[0], (0, 1));
     assert!(rt; decided.missing.as_slice()[0] == id(&rt, THIRD));
     assert!(rt; decided.strays.contains(1) && !decided.strays.contains(0));
-    Ok(())
-}
-
-#[test]
-fn two_texts_with_one_number_conflict(rt: HostRuntime) -> Result<(), Fail> {
-    match answer(&rt, rt.alloc(), 131_072, 0, 1)? {
-        Err(ScanRefusal::Conflict(0, 1, 1)) => {}
-        _ => panic!(rt; "another answer"),
-    }
-    Ok(())
-}
-
-#[test]
-fn extents_past_the_end_of_a_disk_are_refused(rt: HostRuntime) -> Result<(), Fail> {
-    match answer(&rt, rt.alloc(), 124_927, 0, 0)? {
-        Err(ScanRefusal::PvShape(0)) => {}
-        _ => panic!(rt; "another answer"),
-    }
     Ok(())
 }

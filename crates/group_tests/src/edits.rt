@@ -1,4 +1,5 @@
 //! Next versions of a small group, each made once.
+ghost use Rattle.std.specs.Prelude.{◌≢◌};
 
 use crate::groups::{group_of_text, small_group_text};
 use group_edits::{
@@ -16,13 +17,18 @@ fn typed(rt: &impl Abort, alloc: Global, bytes: &[u8]) -> Text {
     Text::from_vec(Vec::from_slice(alloc, bytes).expect(rt, "there is memory"))
 }
 
-// The group of this text.
-fn group_from(rt: &impl Abort, alloc: Global, text: &Text) -> Checked {
-    group_of_text(rt, alloc, text.as_bytes())
+// (through a copy: the bytes of a literal are taken apart where it is handed to a call)
+fn small_group(rt: &impl Abort, alloc: Global) -> Checked {
+    group_of_text(rt, alloc, typed(rt, alloc, small_group_text()).as_bytes())
 }
 
-fn small_group(rt: &impl Abort, alloc: Global) -> Checked {
-    group_from(rt, alloc, &typed(rt, alloc, small_group_text()))
+// The group, whose number isn't the last one.
+fn group_to_change(rt: &impl Abort, alloc: Global) -> Checked
+    ensures { result.seqno ≢ 4294967295 }
+{
+    let group = small_group(rt, alloc);
+    assert!(rt; group.group().seqno != 4_294_967_295);
+    group
 }
 
 #[test]
@@ -51,64 +57,65 @@ fn a_group_that_keeps_all_rules_is_checked(rt: HostRuntime) {
 
 #[test]
 fn a_group_is_renamed(rt: HostRuntime) {
-    let group = small_group(&rt, rt.alloc());
+    let group = group_to_change(&rt, rt.alloc());
     let name = GroupName::new(rt.alloc(), b"vg1").expect(&rt, "a name");
-    assert!(rt; group.group().seqno != 4_294_967_295);
     let next = renamed_group(rt.alloc(), &group, name).expect(&rt, "there is memory");
     assert!(rt; next.group().seqno == 8);
 }
 
 #[test]
 fn a_volume_is_renamed(rt: HostRuntime) {
-    let group = small_group(&rt, rt.alloc());
+    let group = group_to_change(&rt, rt.alloc());
     let old = typed(&rt, rt.alloc(), b"data");
     let new = VolumeName::new(rt.alloc(), b"home").expect(&rt, "a name");
     let found = group.group();
     assert!(rt; found.lvs.len() <= 1_024);
     assert!(rt; find_visible(found, &old).is_some());
     assert!(rt; !found.lvs.contains(&new));
-    assert!(rt; found.seqno != 4_294_967_295);
     let next = renamed_volume(rt.alloc(), &group, &old, &new).expect(&rt, "there is memory");
     assert!(rt; next.group().lvs.contains(&new));
 }
 
 // The group without this volume.
-fn without(rt: &impl Abort, alloc: Global, group: &Checked, name: &[u8]) -> Checked {
+fn without(rt: &impl Abort, alloc: Global, group: &Checked, name: &[u8]) -> Checked
+    requires { group.now.seqno ≢ 4294967295 }
+{
     let name = typed(rt, alloc, name);
     let found = group.group();
     assert!(rt; found.lvs.len() <= 1_024);
     let number = find_visible(found, &name).expect(rt, "it is visible");
     assert!(rt; !is_moving(found, number));
-    assert!(rt; found.seqno != 4_294_967_295);
     without_volume(alloc, group, number).expect(rt, "there is memory")
 }
 
 #[test]
 fn a_volume_is_removed(rt: HostRuntime) {
-    let group = small_group(&rt, rt.alloc());
+    let group = group_to_change(&rt, rt.alloc());
     let rest = without(&rt, rt.alloc(), &group, b"data");
     assert!(rt; rest.group().lvs.len() == 0);
 }
 
-#[test]
-fn an_unused_physical_volume_goes(rt: HostRuntime) {
-    let alloc = rt.alloc();
-    let said = typed(&rt, alloc, small_group_text());
-    let group = group_from(&rt, alloc, &said);
+// The group without its first physical volume.
+fn reduced(rt: &impl Abort, alloc: Global, group: &Checked) -> Checked
+    requires { group.now.seqno ≢ 4294967295 }
+{
     let found = group.group();
     assert!(rt; found.pvs.len() == 2);
-    assert!(rt; found.seqno != 4_294_967_295);
     assert!(rt; !has_leg_on_pv(found, 0));
-    let rest = reduced_group(alloc, &group, 0).expect(&rt, "there is memory");
+    reduced_group(alloc, group, 0).expect(rt, "there is memory")
+}
+
+#[test]
+fn an_unused_physical_volume_goes(rt: HostRuntime) {
+    let group = group_to_change(&rt, rt.alloc());
+    let rest = reduced(&rt, rt.alloc(), &group);
     assert!(rt; rest.group().pvs.len() == 1);
 }
 
 #[test]
 fn a_group_is_restored(rt: HostRuntime) {
-    let found = small_group(&rt, rt.alloc());
-    let said = small_group(&rt, rt.alloc());
-    assert!(rt; found.group().seqno != 4_294_967_295);
-    assert!(rt; said.group().seqno != 4_294_967_295);
+    let found = group_to_change(&rt, rt.alloc());
+    let said = group_to_change(&rt, rt.alloc());
     let next = restored_group(rt.alloc(), &found, &said).expect(&rt, "there is memory");
     assert!(rt; next.group().seqno == 8);
 }

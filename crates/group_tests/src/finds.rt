@@ -1,4 +1,4 @@
-//! What isn't whole, and the areas of small tables.
+//! What is whole, and the areas of small tables.
 ghost use Rattle.std.specs.Prelude.{◌≡◌, ◌≤◌, ◌<◌, ℕ, true, Some, None, [], length, slice_get, All, IfOk};
 ghost use Rattle.std.specs.FinSet as set;
 ghost use Rattle.vg_found.specs.declared.disk.Disk.{Disk as DiskOf};
@@ -14,7 +14,7 @@ use sector_base::{ItemList, PvDisks, PvSet};
 use std::alloc::{AllocError, Global};
 use std::process::Abort;
 use std::test::Fail;
-use vg_found::{Disk, DiskTable, Found, Ids, NotWhole, held_areas};
+use vg_found::{Disk, DiskTable, Found, Ids, held_areas};
 
 fn id(rt: &impl Abort) -> LvmId {
     parse_plain(b"00000000100000000100000030000000").expect(rt, "an id")
@@ -43,25 +43,6 @@ fn without_group(alloc: Global, disks: Vec<Disk>, unread: PvSet, missing: Ids) -
     }
 }
 
-// Two disks on which a read failed.
-fn unread_disks(alloc: Global, missing: Ids) -> Result<Found, AllocError>
-    ensures { IfOk result HasShape }
-{
-    let mut unread = PvSet::new();
-    unread.insert(1);
-    unread.insert(0);
-    let first = Disk {
-        sectors: 8,
-        contents: None,
-    };
-    let second = Disk {
-        sectors: 8,
-        contents: None,
-    };
-    let disks = vec![in alloc; first, second]?;
-    Ok(without_group(alloc, disks, unread, missing))
-}
-
 // A disk without a header that can be read.
 fn bare_disk(alloc: Global, missing: Ids) -> Result<Found, AllocError>
     ensures { IfOk result HasShape }
@@ -75,29 +56,6 @@ fn bare_disk(alloc: Global, missing: Ids) -> Result<Found, AllocError>
     };
     let disks = vec![in alloc; disk]?;
     Ok(without_group(alloc, disks, PvSet::new(), missing))
-}
-
-#[test]
-fn the_first_unread_disk_is_named(rt: HostRuntime) -> Result<(), Fail> {
-    let missing = Ids::from_vec(vec![in rt.alloc(); id(&rt)]?);
-    match unread_disks(rt.alloc(), missing)?.whole() {
-        Err(refused) => {
-            assert_eq!(rt; refused.why, NotWhole::ReadFailed(0));
-            assert_eq!(rt; refused.found.missing.len(), 1);
-        }
-        Ok(_) => panic!(rt; "whole"),
-    }
-    Ok(())
-}
-
-#[test]
-fn a_missing_volume_is_partial(rt: HostRuntime) -> Result<(), Fail> {
-    let missing = Ids::from_vec(vec![in rt.alloc(); id(&rt)]?);
-    match bare_disk(rt.alloc(), missing)?.whole() {
-        Err(refused) => assert_eq!(rt; refused.why, NotWhole::Partial),
-        Ok(_) => panic!(rt; "whole"),
-    }
-    Ok(())
 }
 
 #[test]

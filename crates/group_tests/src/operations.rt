@@ -1,15 +1,12 @@
-//! A line that is planned on one disk, lines that are refused where no group was found, and a text that gives a group.
+//! A line that is planned on one disk, and a text that gives a group.
 ghost use Rattle.std.specs.Prelude.{◌≡◌, [], ◌∷◌, codes, IfOk};
 ghost use Rattle.lvm_id.specs.LvmId.{IsId};
 ghost use Rattle.group_ops.specs.State.{IsState};
 
 use disk_contents::PvFound;
-use group_ops::{
-    Backup, Change, GroupState, PlanRefusal, copied_header, plan, plan_vgreduce, plan_vgremove,
-    read_backup,
-};
+use group_ops::{Backup, Change, GroupState, PlanRefusal, copied_header, plan, read_backup};
 use lvm_id::{LvmId, parse_plain};
-use lvm_script::{Command, DiskNames, Line, OpRefusal};
+use lvm_script::{Command, DiskNames, Line};
 use pv_header::{Extent, Extents, PvHeader, PvRefusal};
 use sector_base::{PvDisks, Text};
 use std::alloc::{AllocError, Global};
@@ -94,23 +91,6 @@ fn pvcreate_writes_one_label(rt: HostRuntime) -> Result<(), Fail> {
     let state = bare_state(rt.alloc())?;
     let pv = text(rt.alloc(), b"c").expect(&rt, "memory");
     assert_one_label(&rt, pvcreate(&rt, rt.alloc(), &state, pv));
-    Ok(())
-}
-
-// Stops unless it says that no such group was found.
-fn assert_unknown(rt: &impl Abort, planned: Result<Change, PlanRefusal>) {
-    match planned {
-        Err(PlanRefusal::Refused(OpRefusal::UnknownGroup(_))) => {}
-        _ => panic!(rt; "another answer"),
-    }
-}
-
-#[test]
-fn no_group_is_changed_where_none_was_found(rt: HostRuntime) -> Result<(), Fail> {
-    let state = bare_state(rt.alloc())?;
-    let vg = text(rt.alloc(), b"vg").expect(&rt, "memory");
-    assert_unknown(&rt, plan_vgreduce(rt.alloc(), &state, &vg, &vg, 0));
-    assert_unknown(&rt, plan_vgremove(rt.alloc(), &state, &vg));
     Ok(())
 }
 
