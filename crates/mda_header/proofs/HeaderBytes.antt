@@ -2,10 +2,9 @@
 use Rattle.std.proofs.Common.{◌≡◌, ◌≤◌, ℕ, ◌+◌, Bool, true, false, cond, List, ◌++◌, length, drop, replicate, codes, Option, None, Some, unwrap_or, refl, ap, ◌∙◌, arith, length-append, append_assoc}
 use Rattle.std.proofs.lemmas.List.{drop-replicate, length-replicate}
 use Rattle.std.specs.Int.{from_bool}
-use Rattle.sector_base.specs.Checksum.{checksum}
+use Rattle.sector_base.specs.Checksum.{checksum, lvm_crc_start}
 use Rattle.sector_base.specs.Fields.{little_bytes, with_bytes}
 use Rattle.sector_base.proofs.Puts.{drop-with_bytes, with_bytes-behind, with_bytes-start}
-use Rattle.sector_base.specs.declared.checksum.TheConstants.{LVM_CRC_START}
 use Rattle.mda_header.specs.declared.header.Locn.{Locn}
 use Rattle.mda_header.specs.declared.header.MdaHeader.{MdaHeader}
 use Rattle.mda_header.specs.HeaderBytes.{summed_bytes, header_bytes, locn_bytes}
@@ -68,7 +67,7 @@ covered_put header flags base s1 s2 s3 s4 s5 s6 zeros is_flags put1 put2 put3 pu
     ∙ ap (λ (n : ℕ). magic ++ version ++ start ++ area ++ (locn_bytes header.committed n ++ (second ++ replicate 424 0))) is_flags
 
 -- the whole sector, once the checksum is put in front
-pub header_put : (header : MdaHeader) (sum : ℕ) (s6 s7 : List ℕ) → drop 4 s6 ≡ summed_bytes header → sum ≡ checksum LVM_CRC_START (summed_bytes header) → s7 ≡ with_bytes s6 0 (little_bytes 4 sum) → s7 ≡ header_bytes header
+pub header_put : (header : MdaHeader) (sum : ℕ) (s6 s7 : List ℕ) → drop 4 s6 ≡ summed_bytes header → sum ≡ checksum lvm_crc_start (summed_bytes header) → s7 ≡ with_bytes s6 0 (little_bytes 4 sum) → s7 ≡ header_bytes header
 unfolding header_bytes
 header_put header sum s6 s7 rest is_sum put =
     put

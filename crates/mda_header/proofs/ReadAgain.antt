@@ -1,9 +1,8 @@
 -- The bytes of a header are read as that header.
 use Rattle.std.proofs.Common.{◌≡◌, ◌<◌, ◌≤◌, ◌↔◌, IsTrue, ℕ, ◌+◌, ◌%◌, ◌^◌, Bool, true, false, List, ◌++◌, drop, replicate, Option, None, Some, IfSome, if◌then◌else◌, refl, sym, ◌∙◌, arith}
 use Rattle.std.proofs.lemmas.Bool.{true≢false}
-use Rattle.sector_base.specs.Checksum.{checksum}
+use Rattle.sector_base.specs.Checksum.{checksum, lvm_crc_start}
 use Rattle.sector_base.specs.Fields.{field, little_bytes}
-use Rattle.sector_base.specs.declared.checksum.TheConstants.{LVM_CRC_START}
 use Rattle.sector_base.proofs.Puts.{field-front}
 use Rattle.mda_header.specs.declared.header.Locn.{Locn}
 use Rattle.mda_header.specs.declared.header.MdaHeader.{MdaHeader}
@@ -55,16 +54,16 @@ ignored_read start size (Some locn) precommitted true = (λ _. refl, λ _. refl)
 ignored_read start size None precommitted false = (λ h. absurd (true≢false (sym h)), λ h. let no : 0 ≡ 1 = h in absurd (omega arith))
 ignored_read start size (Some locn) precommitted false = (λ h. absurd (true≢false (sym h)), λ h. let no : 0 ≡ 1 = h in absurd (omega arith))
 
-sound_read : (header : MdaHeader) → checksum LVM_CRC_START (summed_bytes header) < 256 ^ 4 → IsSound (header_bytes header)
+sound_read : (header : MdaHeader) → checksum lvm_crc_start (summed_bytes header) < 256 ^ 4 → IsSound (header_bytes header)
 unfolding header_bytes summed_bytes
 sound_read header fits = record {
-  checksum_xl = field-front 4 (checksum LVM_CRC_START (summed_bytes header)) (summed_bytes header) fits;
+  checksum_xl = field-front 4 (checksum lvm_crc_start (summed_bytes header)) (summed_bytes header) fits;
   magic = refl;
   version = refl;
 }
 
 pub header_read : (start size : ℕ) (committed precommitted : Option Locn) (ignored : Bool) → start < 256 ^ 8 → size < 256 ^ 8 → IfSome committed (λ text. text.sum < 2 ^ 32) → IfSome precommitted (λ text. text.sum < 2 ^ 32)
-    → checksum LVM_CRC_START (summed_bytes (of_fields start size committed precommitted ignored)) < 256 ^ 4 → IsNoneOrInside size committed → IsNoneOrInside size precommitted
+    → checksum lvm_crc_start (summed_bytes (of_fields start size committed precommitted ignored)) < 256 ^ 4 → IsNoneOrInside size committed → IsNoneOrInside size precommitted
     → IsHeader (header_bytes (of_fields start size committed precommitted ignored)) (of_fields start size committed precommitted ignored)
 unfolding header_bytes summed_bytes
 header_read start size committed precommitted ignored start_fits size_fits sum sum' fits inside inside' = record {

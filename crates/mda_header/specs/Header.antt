@@ -2,8 +2,7 @@
 -- isn't the header of an area.
 use Rattle.std.specs.Prelude.{◌≡◌, ◌≢◌, ℕ, ◌+◌, ◌-◌, ◌%◌, ◌<◌, ◌≤◌, ◌↔◌, IsTrue, List, take, drop, codes, Option, None, Some}
 use Rattle.sector_base.specs.Fields.{field}
-use Rattle.sector_base.specs.Checksum.{checksum}
-use Rattle.sector_base.specs.declared.checksum.TheConstants.{LVM_CRC_START}
+use Rattle.sector_base.specs.Checksum.{checksum, lvm_crc_start}
 use Rattle.mda_header.specs.declared.entry.Entry.{Entry}
 use Rattle.mda_header.specs.declared.entry.Entry.TheVariants.{Ignored, Nothing, Text, Refused}
 use Rattle.mda_header.specs.declared.header.Locn.{Locn}
@@ -13,7 +12,7 @@ use Rattle.mda_header.specs.declared.refusal.MdaRefusal.TheVariants.{BadSum, Bad
 
 -- a header of lvm2's only version, of whatever area
 pub record IsSound (sector : List ℕ) : Type 0 where
-  pub checksum_xl : field 4 sector 0 ≡ checksum LVM_CRC_START (drop 4 sector)
+  pub checksum_xl : field 4 sector 0 ≡ checksum lvm_crc_start (drop 4 sector)
   pub magic : take 16 (drop 4 sector) ≡ codes " LVM2 x[5A%r0N*>"
   pub version : field 4 sector 20 ≡ 1
 
@@ -57,11 +56,11 @@ pub record IsHeader (sector : List ℕ) (header : MdaHeader) : Type 0 where
 -- the values that differ
 abbrev pub IsRefused : List ℕ → ℕ → ℕ → MdaRefusal → Type 0
 IsRefused sector start size (BadSum said found) =
-    (field 4 sector 0 ≡ said) × (found ≡ checksum LVM_CRC_START (drop 4 sector)) × (said ≢ found)
+    (field 4 sector 0 ≡ said) × (found ≡ checksum lvm_crc_start (drop 4 sector)) × (said ≢ found)
 IsRefused sector start size BadMagic =
-    (field 4 sector 0 ≡ checksum LVM_CRC_START (drop 4 sector)) × (take 16 (drop 4 sector) ≢ codes " LVM2 x[5A%r0N*>")
+    (field 4 sector 0 ≡ checksum lvm_crc_start (drop 4 sector)) × (take 16 (drop 4 sector) ≢ codes " LVM2 x[5A%r0N*>")
 IsRefused sector start size (BadVersion said) =
-    (field 4 sector 0 ≡ checksum LVM_CRC_START (drop 4 sector)) × (take 16 (drop 4 sector) ≡ codes " LVM2 x[5A%r0N*>")
+    (field 4 sector 0 ≡ checksum lvm_crc_start (drop 4 sector)) × (take 16 (drop 4 sector) ≡ codes " LVM2 x[5A%r0N*>")
     × (field 4 sector 20 ≡ said) × (said ≢ 1)
 IsRefused sector start size (WrongStart said sought) =
     IsSound sector × (field 8 sector 24 ≡ said) × (sought ≡ start) × (said ≢ start)

@@ -1,8 +1,7 @@
 -- What is written of a header, byte for byte, and which headers are read again.
 use Rattle.std.specs.Prelude.{ℕ, if◌then◌else◌, List, ◌++◌, replicate, codes, Option, None, Some}
 use Rattle.sector_base.specs.Fields.{little_bytes}
-use Rattle.sector_base.specs.Checksum.{checksum}
-use Rattle.sector_base.specs.declared.checksum.TheConstants.{LVM_CRC_START}
+use Rattle.sector_base.specs.Checksum.{checksum, lvm_crc_start}
 use Rattle.mda_header.specs.declared.header.Locn.{Locn}
 use Rattle.mda_header.specs.declared.header.MdaHeader.{MdaHeader}
 use Rattle.mda_header.specs.Header.{IsInside}
@@ -20,7 +19,7 @@ summed_bytes header =
 
 -- the whole sector of a header
 unfoldable pub header_bytes : MdaHeader → List ℕ
-header_bytes header = little_bytes 4 (checksum LVM_CRC_START (summed_bytes header)) ++ summed_bytes header
+header_bytes header = little_bytes 4 (checksum lvm_crc_start (summed_bytes header)) ++ summed_bytes header
 
 -- no text, or one inside of the area
 abbrev pub IsNoneOrInside : ℕ → Option Locn → Type 0

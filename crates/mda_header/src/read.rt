@@ -1,6 +1,6 @@
 //! Reading a header.
 ghost use Rattle.std.specs.Prelude.{◌≡◌, ◌+◌, ◌%◌, ◌≤◌, ◌↔◌, IsTrue, MatchResult, MatchOption, take, drop, codes};
-ghost use Rattle.sector_base.specs.Checksum.{checksum};
+ghost use Rattle.sector_base.specs.Checksum.{checksum, lvm_crc_start};
 ghost use Rattle.sector_base.specs.Fields.{field};
 ghost use Rattle.mda_header.specs.Header.{HasIgnoredBit, HoldsNothing, IsHeader, IsIgnored, IsInside, IsOfArea, IsRefused, IsSound, locn_at};
 ghost use Rattle.mda_header.specs.declared.header.MdaHeader.{MdaHeader as Header};
@@ -68,7 +68,7 @@ fn test_area(sector: &Bytes512, start: u64, size: u64) -> Result<(), MdaRefusal>
 
 // The checksum of bytes 4 to 512.
 fn covered_sum(sector: &Bytes512) -> u32
-    ensures { result ≡ checksum LVM_CRC_START (drop 4 sector.now) }
+    ensures { result ≡ checksum lvm_crc_start (drop 4 sector.now) }
 {
     crc(LVM_CRC_START, &sector.as_bytes()[4..])
 }

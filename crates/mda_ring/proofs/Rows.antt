@@ -1,9 +1,8 @@
 -- Places and spans in an area of 4,096 bytes, and the bytes of texts, tried on values.
 use Rattle.std.proofs.Common.{◌≡◌, ℕ, true, false, List, [], ◌∷◌, map, Option, Some, None, codes, refl}
 use Rattle.std.specs.Fmt.{digits}
-use Rattle.sector_base.specs.Checksum.{bits_of, checksum, polynomial}
+use Rattle.sector_base.specs.Checksum.{bits_of, checksum, lvm_crc_start, polynomial}
 use Rattle.sector_base.specs.Shown.{shown_text}
-use Rattle.sector_base.specs.declared.checksum.TheConstants.{LVM_CRC_START}
 use Rattle.sector_base.specs.declared.spans.Span.{Span}
 use Rattle.mda_header.specs.declared.header.Locn.{Locn}
 use Rattle.mda_ring.specs.declared.area.Area.{Area}
@@ -94,7 +93,7 @@ stored_texts : Gives without_zero (
     )
 stored_texts = refl
 
-sums : Gives (checksum LVM_CRC_START) (
+sums : Gives (checksum lvm_crc_start) (
     (codes "vg {}", 2558768087)
     ∷ (codes "vg {}\0", 405783748)
     ∷ (codes "wg {}\0", 3547535201)

@@ -1,8 +1,7 @@
 -- The bytes of a text in the ring's sectors, and a text that is put into sectors.
 use Rattle.std.specs.Prelude.{◌≡◌, ◌≢◌, ℕ, ◌-◌, ◌*◌, ◌/◌, ◌%◌, ◌<◌, ◌==◌, if◌then◌else◌, List, [], ◌++◌, length, take, drop, map, replicate, slice_index, slice_index_or}
 use Rattle.std.specs.List.{range_with_len}
-use Rattle.sector_base.specs.Checksum.{checksum}
-use Rattle.sector_base.specs.declared.checksum.TheConstants.{LVM_CRC_START}
+use Rattle.sector_base.specs.Checksum.{checksum, lvm_crc_start}
 use Rattle.mda_header.specs.declared.header.Locn.{Locn}
 use Rattle.mda_ring.specs.declared.refusal.RingRefusal.{RingRefusal}
 use Rattle.mda_ring.specs.declared.refusal.RingRefusal.TheVariants.{NoMemory, TooLarge, SumDiffers}
@@ -26,12 +25,12 @@ without_zero bytes = if slice_index_or bytes (length bytes - 1) 1 == 0 then take
 
 -- the bytes have the checksum of the entry, and are this text, with or without a zero byte behind it
 pub record IsTextOf (locn : Locn) (bytes text : List ℕ) : Type 0 where
-  pub agrees : checksum LVM_CRC_START bytes ≡ locn.sum
+  pub agrees : checksum lvm_crc_start bytes ≡ locn.sum
   pub text_xl : text ≡ without_zero bytes
 
 -- the bytes don't have the checksum of the entry, and these are both, or memory is wanting
 abbrev pub IsDamaged : Locn → List ℕ → RingRefusal → Type 0
-IsDamaged locn bytes (SumDiffers said found) = (said ≡ locn.sum) × (found ≡ checksum LVM_CRC_START bytes) × (said ≢ found)
+IsDamaged locn bytes (SumDiffers said found) = (said ≡ locn.sum) × (found ≡ checksum lvm_crc_start bytes) × (said ≢ found)
 IsDamaged locn bytes NoMemory = Unit {0}
 IsDamaged locn bytes (TooLarge need room) = ⊥
 

@@ -1,7 +1,7 @@
 //! Reading a text from sectors.
 ghost use Rattle.std.specs.Prelude.{◌≡◌, ℕ, ◌+◌, ◌%◌, ◌^◌, ◌<◌, ◌≤◌, ◌≢◌, ◌↔◌, IsTrue, List, [], ◌∷◌, ◌++◌, length, map, IfErr, IfOk, MatchResult};
 ghost use Rattle.std.specs.List.{range_with_len};
-ghost use Rattle.sector_base.specs.Checksum.{checksum};
+ghost use Rattle.sector_base.specs.Checksum.{checksum, lvm_crc_start};
 ghost use Rattle.mda_header.specs.Header.{IsInside};
 ghost use Rattle.mda_ring.specs.declared.refusal.RingRefusal.TheVariants.{NoMemory};
 ghost use Rattle.mda_ring.specs.Areas.{IsArea};
@@ -31,7 +31,7 @@ pub fn gather(
         (IsDamaged locn (text_at sector_at area.now.size locn.offset locn.size)) }
     // A text that was put into the sectors comes back.
     ensures text_sectors { (text : List ℕ) → sectors.now ≡ text_sectors text (need (length text + 1))
-        → locn.offset % 512 ≡ 0 → locn.size ≡ length text + 1 → locn.sum ≡ checksum LVM_CRC_START (text ++ 0 ∷ [])
+        → locn.offset % 512 ≡ 0 → locn.size ≡ length text + 1 → locn.sum ≡ checksum lvm_crc_start (text ++ 0 ∷ [])
         → MatchResult result (λ gathered. gathered ≡ text) (λ refusal. refusal ≡ NoMemory) }
 {
     let bytes = gather_bytes(alloc, area, locn, sectors)?;

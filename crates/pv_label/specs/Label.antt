@@ -1,8 +1,7 @@
 -- The label of lvm2's on-disk format, `struct label_header`, and why a sector or the four first sectors have none.
 use Rattle.std.specs.Prelude.{◌≡◌, ◌≢◌, ℕ, ◌<◌, List, [], take, drop, slice_index_or, codes}
 use Rattle.sector_base.specs.Fields.{field}
-use Rattle.sector_base.specs.Checksum.{checksum}
-use Rattle.sector_base.specs.declared.checksum.TheConstants.{LVM_CRC_START}
+use Rattle.sector_base.specs.Checksum.{checksum, lvm_crc_start}
 use Rattle.pv_label.specs.declared.refusal.LabelRefusal.{LabelRefusal}
 use Rattle.pv_label.specs.declared.refusal.LabelRefusal.TheVariants.{NoLabel, WrongSector, BadSum, BadOffset, BadType}
 
@@ -10,7 +9,7 @@ use Rattle.pv_label.specs.declared.refusal.LabelRefusal.TheVariants.{NoLabel, Wr
 pub record IsLabel (sector : List ℕ) (number : ℕ) : Type 0 where
   pub id : take 8 sector ≡ codes "LABELONE"
   pub sector_xl : field 8 sector 8 ≡ number
-  pub crc_xl : field 4 sector 16 ≡ checksum LVM_CRC_START (drop 20 sector)
+  pub crc_xl : field 4 sector 16 ≡ checksum lvm_crc_start (drop 20 sector)
   pub offset_xl : field 4 sector 20 ≡ 32
   pub kind : take 8 (drop 24 sector) ≡ codes "LVM2 001"
 
@@ -24,11 +23,11 @@ IsRefused sector number NoLabel = ¬ BeginsLikeLabel sector
 IsRefused sector number (WrongSector said found) =
     BeginsLikeLabel sector × (field 8 sector 8 ≡ said) × (found ≡ number) × (said ≢ number)
 IsRefused sector number (BadSum at) =
-    BeginsLikeLabel sector × (field 8 sector 8 ≡ number) × (at ≡ number) × (field 4 sector 16 ≢ checksum LVM_CRC_START (drop 20 sector))
+    BeginsLikeLabel sector × (field 8 sector 8 ≡ number) × (at ≡ number) × (field 4 sector 16 ≢ checksum lvm_crc_start (drop 20 sector))
 IsRefused sector number (BadOffset said) =
-    BeginsLikeLabel sector × (field 8 sector 8 ≡ number) × (field 4 sector 16 ≡ checksum LVM_CRC_START (drop 20 sector)) × (field 4 sector 20 ≡ said) × (said ≢ 32)
+    BeginsLikeLabel sector × (field 8 sector 8 ≡ number) × (field 4 sector 16 ≡ checksum lvm_crc_start (drop 20 sector)) × (field 4 sector 20 ≡ said) × (said ≢ 32)
 IsRefused sector number BadType =
-    BeginsLikeLabel sector × (field 8 sector 8 ≡ number) × (field 4 sector 16 ≡ checksum LVM_CRC_START (drop 20 sector)) × (field 4 sector 20 ≡ 32)
+    BeginsLikeLabel sector × (field 8 sector 8 ≡ number) × (field 4 sector 16 ≡ checksum lvm_crc_start (drop 20 sector)) × (field 4 sector 20 ≡ 32)
     × (take 8 (drop 24 sector) ≢ codes "LVM2 001")
 
 -- the sector of this number

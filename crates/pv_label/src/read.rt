@@ -1,6 +1,6 @@
 //! Finding the label.
 ghost use Rattle.std.specs.Prelude.{◌≡◌, ◌↔◌, IsTrue, MatchResult, codes, drop, take};
-ghost use Rattle.sector_base.specs.Checksum.{checksum};
+ghost use Rattle.sector_base.specs.Checksum.{checksum, lvm_crc_start};
 ghost use Rattle.sector_base.specs.Fields.{field};
 ghost use Rattle.pv_label.specs.First.{first_refusal};
 ghost use Rattle.pv_label.specs.Label.{BeginsLikeLabel, IsFirstLabel, IsLabel, IsLabelRefusal, IsRefused};
@@ -77,7 +77,7 @@ pub fn begins_like_label(sector: &Bytes512) -> bool
 
 // Whether the checksum is that of bytes 20 to 512.
 fn agrees_with_sum(sector: &Bytes512) -> bool
-    ensures { IsTrue result ↔ (field 4 sector.now 16 ≡ checksum LVM_CRC_START (drop 20 sector.now)) }
+    ensures { IsTrue result ↔ (field 4 sector.now 16 ≡ checksum lvm_crc_start (drop 20 sector.now)) }
 {
     get_u32(sector, 16) == crc(LVM_CRC_START, &sector.as_bytes()[20..])
 }

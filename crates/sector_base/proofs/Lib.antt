@@ -4,3 +4,4 @@ pub mod Positions
 pub mod PvSetLemmas
 pub mod Puts
 pub mod SectorBytes
+pub mod Walks

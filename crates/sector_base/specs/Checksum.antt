@@ -37,6 +37,10 @@ abbrev pub with_bits : List Bool → List Bool → List Bool
 with_bits state [] = state
 with_bits state (input ∷ inputs) = with_bits (with_bit state input) inputs
 
+-- from where lvm2 starts the checksum of a label, of an area header and of a text
+abbrev pub lvm_crc_start : ℕ
+lvm_crc_start = 0xF597A6CF
+
 -- the checksum of these bytes from a state of 32 bits on; each byte's lowest bit comes first
 unfoldable pub checksum : ℕ → List ℕ → ℕ
 checksum start bytes = number_of (with_bits (bits_of 32 start) (flat_map (bits_of 8) bytes))

@@ -6,8 +6,7 @@ use Rattle.std.specs.FinSet.{FinSet}
 use Rattle.std.proofs.lemmas.Bool.{cond-false, le-ltb}
 use Rattle.std.proofs.lemmas.List.{append-nil, append_assoc, get_or-map, get_or_default, length-map, map_push, take-append-drop, take_all, take_more}
 use Rattle.std.proofs.lemmas.List.Elements.{All-map, All-nil, All-push}
-use Rattle.sector_base.specs.Checksum.{checksum}
-use Rattle.sector_base.specs.declared.checksum.TheConstants.{LVM_CRC_START}
+use Rattle.sector_base.specs.Checksum.{checksum, lvm_crc_start}
 use Rattle.sector_base.specs.declared.spans.Span.{Span}
 use Rattle.disk_model.specs.Operations.{IsWithin}
 use Rattle.disk_batch.specs.Writes.{LieIn, disks_in}
@@ -46,7 +45,7 @@ if_inside size None h = tt
 if_inside size (Some locn) h = h
 
 -- one area's writes
-pub adds_area : (text : List ℕ) (area : Area) (committed : Option Locn) (place : Place) (count sum : ℕ) (old new : Plan) (bytes : List ℕ) → bytes ≡ text → count ≡ length bytes + 1 → IsNext area.size committed count place → sum ≡ checksum LVM_CRC_START (stored text)
+pub adds_area : (text : List ℕ) (area : Area) (committed : Option Locn) (place : Place) (count sum : ℕ) (old new : Plan) (bytes : List ℕ) → bytes ≡ text → count ≡ length bytes + 1 → IsNext area.size committed count place → sum ≡ checksum lvm_crc_start (stored text)
     → new.texts.items ≡ old.texts.items ++ puts_on (ring_spans area place.offset (length text + 1)) (text_sectors text place.sectors)
     → new.headers.items ≡ old.headers.items ++ (header_span area, header_bytes (header_of area committed (Some (record { offset = place.offset; size = count; sum = sum }))) ∷ []) ∷ []
     → new.publish.items ≡ old.publish.items ++ (header_span area, header_bytes (header_of area (Some (record { offset = place.offset; size = count; sum = sum })) None) ∷ []) ∷ []

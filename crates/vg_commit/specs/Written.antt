@@ -1,8 +1,7 @@
 -- What a commit writes to a metadata area of lvm2's on-disk format: the text into free sectors of its ring, and its header
 -- twice.
 use Rattle.std.specs.Prelude.{ℕ, ◌+◌, ◌/◌, Bool, false, ◌||◌, List, [], ◌∷◌, ◌++◌, take, drop, map, length, Option, None, Some}
-use Rattle.sector_base.specs.Checksum.{checksum}
-use Rattle.sector_base.specs.declared.checksum.TheConstants.{LVM_CRC_START}
+use Rattle.sector_base.specs.Checksum.{checksum, lvm_crc_start}
 use Rattle.sector_base.specs.declared.spans.Span.{Span}
 use Rattle.sector_base.specs.Spans.{covers}
 use Rattle.mda_header.specs.declared.header.Locn.{Locn}
@@ -19,7 +18,7 @@ stored text = text ++ 0 ∷ []
 
 -- the entry of the text in an area: behind the committed text, with the size and the checksum of what is stored
 abbrev pub new_entry : List ℕ → Area × Option Locn → Locn
-new_entry text area = record { offset = next_offset area.0.size area.1; size = length text + 1; sum = checksum LVM_CRC_START (stored text) }
+new_entry text area = record { offset = next_offset area.0.size area.1; size = length text + 1; sum = checksum lvm_crc_start (stored text) }
 
 -- the areas with these entries
 abbrev pub with_entries : List ℕ → List (Area × Option Locn) → List (Area × Option Locn)

@@ -1,7 +1,6 @@
 //! All that a commit writes, area by area.
 ghost use Rattle.std.specs.Prelude.{◌≡◌, ◌≤◌, ◌<◌, ◌+◌, ◌^◌, [], ◌∷◌, length, All, IfOk, MatchResult};
-ghost use Rattle.sector_base.specs.Checksum.{checksum};
-ghost use Rattle.sector_base.specs.declared.checksum.TheConstants.{LVM_CRC_START};
+ghost use Rattle.sector_base.specs.Checksum.{checksum, lvm_crc_start};
 ghost use Rattle.mda_header.specs.HeaderBytes.{IsNoneOrInside};
 ghost use Rattle.mda_ring.specs.Areas.{CanTake, IsArea};
 ghost use Rattle.mda_ring.specs.NextPlace.{IsInRing, IsNext};
@@ -62,7 +61,7 @@ fn add_area(
     requires area { IsArea area.now }
     requires committed { IsNoneOrInside area.now.size committed }
     requires size { length text.now < 2 ^ 40 }
-    requires sum { sum ≡ checksum LVM_CRC_START (stored text.now) }
+    requires sum { sum ≡ checksum lvm_crc_start (stored text.now) }
     ensures { MatchResult result (λ _. Adds text.now (area.now, committed) plan.old plan.new) (IsCause text.now ((area.now, committed) ∷ [])) }
 {
     let size = text.as_bytes().len() as u64 + 1;
@@ -96,7 +95,7 @@ fn place_of(area: &Area, committed: Option<Locn>, size: u64) -> Result<Place, Co
 
 // The checksum of the text as it is stored. A text of 2^40 bytes or more is want of memory.
 fn stored_sum(alloc: Global, text: &Text) -> Result<u32, CommitRefusal>
-    ensures sum { IfOk result (λ sum. sum ≡ checksum LVM_CRC_START (stored text.now)) }
+    ensures sum { IfOk result (λ sum. sum ≡ checksum lvm_crc_start (stored text.now)) }
     ensures size { IfOk result (λ _. length text.now < 2 ^ 40) }
     ensures cause { MatchResult result (λ _. Unit {0}) (λ refusal. refusal ≡ NoMemory) }
 {

@@ -1,7 +1,6 @@
 -- What is put right, as it is handed on.
 use Rattle.std.specs.Prelude.{◌≡◌, ◌≤◌, ℕ, ◌+◌, List, [], length, slice_get, unwrap_or, Option, Some}
-use Rattle.sector_base.specs.Checksum.{checksum}
-use Rattle.sector_base.specs.declared.checksum.TheConstants.{LVM_CRC_START}
+use Rattle.sector_base.specs.Checksum.{checksum, lvm_crc_start}
 use Rattle.mda_header.specs.declared.header.Locn.{Locn}
 use Rattle.mda_ring.specs.Ring.{need, room}
 use Rattle.mda_ring.specs.declared.area.Area.{Area}
@@ -16,7 +15,7 @@ text_put repair = unwrap_or repair.text []
 
 -- the checksum that goes with it is that of the text as it is stored
 abbrev pub IsSummed : Repair → Type 0
-IsSummed repair = repair.sum ≡ checksum LVM_CRC_START (stored (text_put repair))
+IsSummed repair = repair.sum ≡ checksum lvm_crc_start (stored (text_put repair))
 
 -- the text has room in the area that was found on this disk, by its number there, if it is stale
 abbrev pub AreaHasRoom : Repair → ℕ → ℕ × AreaFound → Type 0

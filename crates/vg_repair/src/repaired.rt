@@ -1,7 +1,6 @@
 //! What is found once a repair is done.
 ghost use Rattle.std.specs.Prelude.{◌≡◌, ◌≤◌, ℕ, ◌+◌, [], length, slice_get, unwrap_or, All, IfOk, None, Some};
-ghost use Rattle.sector_base.specs.Checksum.{checksum};
-ghost use Rattle.sector_base.specs.declared.checksum.TheConstants.{LVM_CRC_START};
+ghost use Rattle.sector_base.specs.Checksum.{checksum, lvm_crc_start};
 ghost use Rattle.mda_ring.specs.Areas.{CanTake, IsArea};
 ghost use Rattle.mda_ring.specs.Ring.{need, room};
 ghost use Rattle.disk_contents.specs.Standing.{CanStand, HasTextInside, IsUsable, area_on, areas_in};
@@ -97,7 +96,7 @@ fn bytes_of(text: &Option<Text>) -> &[u8]
 
 // The checksum of a text of these bytes, as it is stored.
 fn stored_sum(alloc: Global, bytes: &[u8]) -> Result<u32, AllocError>
-    ensures { IfOk result (λ sum. sum ≡ checksum LVM_CRC_START (stored bytes.now)) }
+    ensures { IfOk result (λ sum. sum ≡ checksum lvm_crc_start (stored bytes.now)) }
 {
     let mut all = Vec::with_capacity(alloc, bytes.len() + 1)?;
     all.extend_from_slice(bytes)?;

@@ -1,9 +1,8 @@
 -- The bytes that the checksum covers are written first, and then those in front of them.
 use Rattle.std.proofs.Common.{◌≡◌, ℕ, List, ◌++◌, length, drop, codes, refl, ap, sym, ◌∙◌, arith, subst, ◌<◌, ◌^◌}
 use Rattle.std.proofs.lemmas.Slice.{between_to_end}
-use Rattle.sector_base.specs.Checksum.{checksum}
+use Rattle.sector_base.specs.Checksum.{checksum, lvm_crc_start}
 use Rattle.sector_base.specs.Fields.{little_bytes, with_bytes}
-use Rattle.sector_base.specs.declared.checksum.TheConstants.{LVM_CRC_START}
 use Rattle.sector_base.proofs.Puts.{drop-with_bytes, length-with_bytes, with_bytes-behind, with_bytes-start}
 use Rattle.pv_label.specs.Label.{IsLabel}
 use Rattle.pv_label.specs.LabelBytes.{summed_bytes, with_label}
@@ -25,10 +24,10 @@ covered_is c =
     ∙ with_bytes-behind old 20 (little_bytes 4 32) 24 (codes "LVM2 001") refl (omega arith) in
     (fits, lowest, ap (drop 20) low ∙ drop-with_bytes old 20 tail (omega arith))
 
-sum_is : (c : goal.After-put_u32-2) → c.crc-sum.result ≡ checksum LVM_CRC_START (summed_bytes c.args.contents.now)
+sum_is : (c : goal.After-put_u32-2) → c.crc-sum.result ≡ checksum lvm_crc_start (summed_bytes c.args.contents.now)
 sum_is c =
     c.crc-sum.ensures
-    ∙ ap (checksum LVM_CRC_START) (between_to_end c.as_bytes.result.now 20 512 (omega arith) ∙ ap (drop 20) c.as_bytes.ensures.value ∙ (covered_is c).2)
+    ∙ ap (checksum lvm_crc_start) (between_to_end c.as_bytes.result.now 20 512 (omega arith) ∙ ap (drop 20) c.as_bytes.ensures.value ∙ (covered_is c).2)
 
 sealed_is : (c : goal.After-put_u32-2) → c.put_u32-2.new.s ≡ with_label c.args.contents.now c.args.sector
 sealed_is c =
@@ -36,7 +35,7 @@ sealed_is c =
     let low = c.put.new.self in
     let label : List ℕ = codes "LABELONE" in
     let number : List ℕ = little_bytes 8 c.args.sector in
-    let sum : List ℕ = little_bytes 4 (checksum LVM_CRC_START (summed_bytes old)) in
+    let sum : List ℕ = little_bytes 4 (checksum lvm_crc_start (summed_bytes old)) in
     let known = covered_is c in
     let two : c.put_u64.new.s ≡ with_bytes low 0 (label ++ number) =
     c.put_u64.ensures
@@ -59,5 +58,5 @@ returns-clause-rest c = ap (drop 32) (sealed_is c) ∙ drop-with_label c.args.co
 pub returns-clause-label : goal.returns-clause-label
 returns-clause-label c =
     let P : List ℕ → Type 0 = λ s. IsLabel s c.args.sector in
-    let fits : checksum LVM_CRC_START (summed_bytes c.args.contents.now) < 256 ^ 4 = subst (λ (n : ℕ). n < 256 ^ 4) (sum_is c) c.crc-sum.type_inv in
+    let fits : checksum lvm_crc_start (summed_bytes c.args.contents.now) < 256 ^ 4 = subst (λ (n : ℕ). n < 256 ^ 4) (sum_is c) c.crc-sum.type_inv in
     subst P (sym (sealed_is c)) (IsLabel-with_label c.args.contents.now c.args.sector (omega arith) fits)
