@@ -8,6 +8,7 @@
 #![tactic(auto)]
 
 mod claim;
+mod kept_regions;
 mod laws;
 mod numbers;
 mod pieces;

@@ -5,6 +5,7 @@ ghost use Rattle.std.specs.List.Sorted.{IsPermutation};
 ghost use Rattle.std.specs.Ordering.{nat_cmp};
 ghost use Rattle.claim_table.specs.Sorted.{IsAscending};
 
+use crate::kept_regions::KeptRegions;
 use crate::sorted::{put_in, take_out};
 use std::cmp::Ordering;
 use std::sync::ledger::Ledger;
@@ -39,7 +40,11 @@ pub(crate) fn forget_region(regions: &mut Vec<u64>, region: Option<u64>)
 }
 
 // Whether the region is among these, which are in order. A step is a comparison with one of them.
-pub(crate) fn has_region<L: Ledger>(regions: &[u64], region: u64, steps: &mut Steps<L>) -> bool
+pub(crate) fn has_region<L: Ledger>(
+    regions: &KeptRegions<'_>,
+    region: u64,
+    steps: &mut Steps<L>,
+) -> bool
     requires { IsAscending nat_cmp regions.now }
     ensures answer { result ≡ list_any (λ r. r == region) regions.now }
     ensures bound { 2 ^ (steps.new - steps.old) ≤ 2 * length regions.now + 1 }
@@ -49,7 +54,7 @@ pub(crate) fn has_region<L: Ledger>(regions: &[u64], region: u64, steps: &mut St
     let mut high = regions.len();
     while low < high {
         let middle = low + (high - low) / 2;
-        match steps.compare(regions[middle], region) {
+        match regions.compare(middle, region, steps) {
             Ordering::Less => low = middle + 1,
             Ordering::Equal => return true,
             Ordering::Greater => high = middle,

@@ -6,6 +6,7 @@ ghost use Rattle.claim_table.specs.Claims.{IsEntry, conflicts, is_free, is_suspe
 ghost use Rattle.claim_table.specs.Places.{is_below};
 ghost use Rattle.claim_table.specs.Steps.{after_enter, after_leave, after_ready, after_resume, after_set_region, after_suspend, has_number, no_claim, no_claims};
 
+use crate::kept_regions::KeptRegions;
 use crate::pieces::Pieces;
 use crate::regions::{forget_region, has_region, note_region};
 use crate::{By, Claim, Entry};
@@ -215,7 +216,7 @@ impl ClaimTable {
         ensures bound { 2 ^ (steps.new - steps.old) ≤ 2 * length self.now.started + 1 }
         ensures counted { steps.old ≤ steps.new }
     {
-        has_region(&self.regions, region, steps)
+        has_region(&KeptRegions::of(&self.regions), region, steps)
     }
 
     // The same, by a counter of its own.

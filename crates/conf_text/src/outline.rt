@@ -1,5 +1,5 @@
 //! The entries read so far, with the names that each open section has.
-ghost use Rattle.std.specs.Prelude.{◌≡◌, ◌<◌, ◌+◌, ◌++◌, [], ◌∷◌, suc, length, ℕ, List, map, IfOk, IfSome, IfNone, OnOk, vec_len, vec_capacity};
+ghost use Rattle.std.specs.Prelude.{◌≡◌, ◌<◌, ◌⊎◌, ◌+◌, ◌/◌, ◌++◌, [], ◌∷◌, suc, length, ℕ, List, map, IfOk, IfSome, IfNone, OnOk, vec_len, vec_capacity};
 ghost use Rattle.std.specs.Bool.{MatchBool};
 ghost use Rattle.std.specs.List.{slice_get};
 ghost use Rattle.conf_text.specs.Entries.{sections, is_given};
@@ -129,10 +129,11 @@ impl<'a> Outline<'a> {
     }
 }
 
-// Room for one entry more at least, and for an eighth more.
+// Room for one entry more at least; where there was none, for an eighth more of what is there too.
 fn make_room<'a>(entries: &mut Vec<Entry<'a>>) -> Result<(), AllocError>
     ensures items { entries.new.items ≡ entries.old.items }
     ensures room { OnOk result (vec_len entries.new < vec_capacity entries.new) }
+    ensures grows { OnOk result ((vec_capacity entries.new ≡ vec_capacity entries.old) ⊎ (vec_len entries.new + vec_len entries.new / 8 < vec_capacity entries.new)) }
 {
     let len = entries.len();
     if len < entries.capacity() {

@@ -151,7 +151,7 @@ not_denied (Some a) none = absurd none
 
 denied_by : (d : Option ScanAnswer) (x : ScanAnswer) (refusal : ScanRefusal) → Denies d (Some refusal) → IsRefusedBy (unwrap_or d x) refusal
 denied_by None x refusal denies = absurd denies
-denied_by (Some a) x refusal denies = denies
+denied_by (Some a) x refusal denies = denies.0
 
 answer_of_copy : (all : List GroupCopy) (disks : List DiskRead) (held : List HeldCopy) (chosen : HeldCopy) (copy : GroupCopy) → slice_get all chosen.number ≡ Some copy
     → answer_for all disks held chosen ≡ answer_with all disks held chosen.disk copy

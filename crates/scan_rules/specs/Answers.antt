@@ -1,5 +1,5 @@
 -- What a decision says of the answer that the readings give.
-use Rattle.std.specs.Prelude.{◌≡◌, ℕ, Bool, true, false, ◌&&◌, ◌==◌, not, Option, None, Some, List, [], find, option_map, unwrap_or, slice_get}
+use Rattle.std.specs.Prelude.{◌≡◌, ◌≢◌, ℕ, Bool, true, false, ◌&&◌, ◌==◌, not, Option, None, Some, List, [], find, option_map, unwrap_or, slice_get}
 use Rattle.std.specs.FinSet as set
 use Rattle.scan_rules.specs.Decision.{Held, Reading, ScanAnswer, DuplicatePv, NoCopy, Unsupported, TwoGroups, Conflict, PvShape, NoGroup, FoundGroup, first_misplaced, found_with, is_held, no_copy, same_bytes, sum_agrees, two_groups}
 use Rattle.scan_rules.specs.declared.held.HeldCopy.{HeldCopy}
@@ -33,10 +33,10 @@ IsRefusedBy answer (refusal.TwoGroups first second) = answer ≡ TwoGroups first
 IsRefusedBy answer (refusal.Conflict first second seqno) = answer ≡ Conflict first second seqno
 IsRefusedBy answer (refusal.PvShape disk) = answer ≡ PvShape disk
 
--- the refusal is this answer, or there is neither
+-- the refusal is this answer, and not want of memory, or there is neither
 abbrev pub Denies : Option ScanAnswer → Option ScanRefusal → Type 0
 Denies None None = Unit {0}
-Denies (Some answer) (Some refusal) = IsRefusedBy answer refusal
+Denies (Some answer) (Some why) = IsRefusedBy answer why × (why ≢ refusal.NoMemory)
 Denies _ _ = ⊥
 
 -- the first answer that there is

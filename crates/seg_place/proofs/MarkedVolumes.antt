@@ -14,13 +14,17 @@ use Rattle.meta_model.specs.declared.segment.On.{On}
 use Rattle.meta_model.specs.declared.segment.On.TheVariants as on
 use Rattle.meta_model.specs.declared.segment.Segment.{Segment}
 use Rattle.meta_model.specs.Runs.{legs_of}
-use Rattle.volume_rules.specs.Moving.{has_pvmove, leads_to_pvmove, lv_number, named_by}
+use Rattle.volume_rules.specs.Moving.{has_move, has_pvmove, leads_to_pvmove, lv_number, named_by}
 use Rattle.seg_place.specs.Marks.{is_above, is_marked, legs_on_marked, lies_on_marked, segments_on_marked}
 
 -- the marks after so many rounds, of which none are there at first
 abbrev pub marked_after : Group → ℕ → ℕ → Bool
 marked_after group zero lv = false
 marked_after group (suc rounds) lv = has_pvmove group lv || list_any (marked_after group rounds) (named_by group lv)
+
+or_parts : (a b : Bool) → (a || b) ≡ false → (a ≡ false) × (b ≡ false)
+or_parts true b none = cc
+or_parts false b none = (refl, none)
 
 or_false : (b : Bool) → (b || false) ≡ b
 or_false true = refl
@@ -51,6 +55,15 @@ none_marked n lv = elim (cases_lt lv n) [
   | inl lt ↦ unwrap_or-slice_get (replicate n false) lv false ∙ get_or-replicate n lv false false lt
   | inr past ↦ ap (λ (o : Option Bool). unwrap_or o false) (slice_get_past (replicate n false) lv (omega (arith, length-replicate n false)))
 ]
+
+-- where no move stands, no volume has PVMOVE
+pub no_move : (group : Group) → has_move group ≡ false → (lv : ℕ) → has_pvmove group lv ≡ false
+no_move group none = by group.lvs none
+  where
+    by : (rows : List (List ℕ × Lv)) → list_any (λ (row : List ℕ × Lv). row.1.status.pvmove) rows ≡ false → (lv : ℕ) → unwrap_or (option_map (λ (row : List ℕ × Lv). row.1.status.pvmove) (slice_get rows lv)) false ≡ false
+    by [] none lv = refl
+    by (row ∷ rows) none zero = (or_parts row.1.status.pvmove (list_any (λ (r : List ℕ × Lv). r.1.status.pvmove) rows) none).0
+    by (row ∷ rows) none (suc lv) = by rows (or_parts row.1.status.pvmove (list_any (λ (r : List ℕ × Lv). r.1.status.pvmove) rows) none).1 lv
 
 -- where no volume has PVMOVE, none is moving
 pub none_leads : (group : Group) → ((lv : ℕ) → has_pvmove group lv ≡ false) → (steps lv : ℕ) → leads_to_pvmove group steps lv ≡ false

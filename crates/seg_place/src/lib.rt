@@ -17,10 +17,11 @@ mod region;
 mod sector_places;
 mod segment_search;
 mod spot;
+mod starts;
 mod volume_size;
 
 pub use ats::Ats;
-pub use moving::is_moving;
+pub use moving::{has_move, is_moving};
 pub use places_of::places;
 pub use primary_place::{primary, primary_in};
 pub use region::MirrorAt;

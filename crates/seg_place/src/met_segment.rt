@@ -7,6 +7,7 @@ ghost use Rattle.seg_place.specs.Sectors.{segments_in};
 ghost use Rattle.seg_place.specs.Seen.{seen};
 
 use crate::segment_search::number_with;
+use crate::starts::Starts;
 use meta_model::{Group, Segment};
 use std::sync::ledger::Ledger;
 use step_count::Steps;
@@ -34,7 +35,7 @@ pub(crate) fn segment_at<'a, L: Ledger>(
 {
     let (_, volume) = group.lvs.get(lv as usize);
     let segments = volume.segments.as_slice();
-    let number = number_with(segments, sector / group.extent_size, steps);
+    let number = number_with(&Starts::of(segments), sector / group.extent_size, steps);
     let segment = &segments[number];
     MetSegment {
         lv,

@@ -1,6 +1,6 @@
-//! Whether a volume is moving.
-ghost use Rattle.std.specs.Prelude.{◌≡◌, ◌≤◌, ◌||◌, ℕ, false, length};
-ghost use Rattle.volume_rules.specs.Moving.{has_pvmove, leads_to_pvmove};
+//! Whether a volume is moving, and whether a move stands.
+ghost use Rattle.std.specs.Prelude.{◌≡◌, ◌≤◌, ◌||◌, ℕ, length};
+ghost use Rattle.volume_rules.specs.Moving.{has_move, leads_to_pvmove};
 ghost use Rattle.volume_rules.specs.Rules.{IsAccepted};
 ghost use Rattle.seg_place.specs.Marks.{is_above, is_marked, legs_on_marked, lies_on_marked, segments_on_marked};
 
@@ -25,9 +25,9 @@ pub fn is_moving(group: &Group, lv: u32) -> bool
     lies_on_marked(On::Lv(lv), &marks)
 }
 
-// Whether a volume has PVMOVE.
-fn has_move(group: &Group) -> bool
-    ensures { result ≡ false → (lv : ℕ) → has_pvmove group.now lv ≡ false }
+/// Whether a move stands in the group: one of its volumes has PVMOVE.
+pub fn has_move(group: &Group) -> bool
+    ensures { result ≡ has_move group.now }
 {
     for number in 0..group.lvs.len() {
         let (_, volume) = group.lvs.get(number);

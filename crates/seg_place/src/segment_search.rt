@@ -3,13 +3,13 @@ ghost use Rattle.std.specs.Prelude.{◌<◌, length, sum_by};
 ghost use Rattle.volume_rules.specs.Rules.{Follow};
 ghost use Rattle.seg_place.specs.Search.{HasExtent, Halves};
 
-use meta_model::Segment;
+use crate::starts::Starts;
 use std::sync::ledger::Ledger;
 use step_count::Steps;
 
 // The number of the segment that has the extent. Those that it may be are halved, by the first extent of the middle one.
 pub(crate) fn number_with<L: Ledger>(
-    segments: &[Segment],
+    segments: &Starts<'_>,
     extent: u64,
     steps: &mut Steps<L>,
 ) -> usize
@@ -22,7 +22,7 @@ pub(crate) fn number_with<L: Ledger>(
     let mut high = segments.len();
     while high - low > 1 {
         let middle = low + (high - low) / 2;
-        if steps.is_at_most(segments[middle].start, extent) {
+        if segments.is_at_most(middle, extent, steps) {
             low = middle;
         } else {
             high = middle;

@@ -25,6 +25,10 @@ named_by group lv =
 abbrev pub has_pvmove : Group → ℕ → Bool
 has_pvmove group lv = unwrap_or (option_map (λ (row : List ℕ × Lv). row.1.status.pvmove) (slice_get group.lvs lv)) false
 
+-- whether a volume of the group has it: a move stands
+abbrev pub has_move : Group → Bool
+has_move group = list_any (λ (row : List ℕ × Lv). row.1.status.pvmove) group.lvs
+
 -- whether legs lead down from the volume to the PVMOVE volume, in at most so many steps
 abbrev pub leads_to_pvmove : Group → ℕ → ℕ → Bool
 leads_to_pvmove group zero lv = has_pvmove group lv

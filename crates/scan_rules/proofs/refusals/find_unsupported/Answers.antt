@@ -1,5 +1,6 @@
 use Rattle.std.proofs.Common.{◌+◌, drop, sym, ◌∙◌}
-use Rattle.scan_rules.proofs.Steps.{next_read, supported_step, unsupported_step}
+use Rattle.sector_base.proofs.Walks.{next_read}
+use Rattle.scan_rules.proofs.Steps.{supported_step, unsupported_step}
 use Rattle.scan_rules.proofs.refusals.find_unsupported.Goals as goal
 
 pub returns-then-has_unsupported_text : goal.returns-then-has_unsupported_text

@@ -1,10 +1,10 @@
 use Rattle.std.proofs.Common.{◌≡◌, ℕ, ap, sym, ◌∙◌, arith}
-use Rattle.seg_place.proofs.MarkedVolumes.{after_more, leads_after, marked_after, none_leads, none_marked}
+use Rattle.seg_place.proofs.MarkedVolumes.{after_more, leads_after, marked_after, no_move, none_leads, none_marked}
 use Rattle.seg_place.proofs.Volumes.{volumes_are_few}
 use Rattle.seg_place.proofs.moving.is_moving.Goals as goal
 
 pub returns-then-not-has_move : goal.returns-then-not-has_move
-returns-then-not-has_move c = sym (none_leads c.args.group.now (c.has_move.ensures c.if-not-has_move.true) 4 c.args.lv)
+returns-then-not-has_move c = sym (none_leads c.args.group.now (no_move c.args.group.now (sym c.has_move.ensures ∙ c.if-not-has_move.true)) 4 c.args.lv)
 
 pub loop-round-init : goal.loop-round-init
 loop-round-init c = none_marked 1024

@@ -1,0 +1,53 @@
+//! Regions in their order, of which a search learns by steps alone.
+ghost use Rattle.std.specs.Prelude.{◌≡◌, ◌<◌, ◌+◌, length, slice_index_or};
+ghost use Rattle.std.specs.Ordering.{nat_cmp};
+
+use std::cmp::Ordering;
+use std::marker::Model;
+use std::sync::ledger::Ledger;
+use step_count::Steps;
+
+/// Some regions. Contracts see the list of them.
+#[derive(Drop)]
+pub(crate) struct KeptRegions<'a> {
+    regions: &'a [u64],
+}
+
+impl<'a> Model for KeptRegions<'a> {
+    ghost use Rattle.std.specs.Prelude.{ℕ, List};
+
+    ghost Value = { List ℕ };
+
+    ghost view = { λ kept. kept.regions.now };
+}
+
+impl<'a> KeptRegions<'a> {
+    /// These.
+    pub(crate) fn of(regions: &'a [u64]) -> Self
+        ensures { result ≡ regions.now }
+    {
+        KeptRegions { regions }
+    }
+
+    /// How many they are.
+    pub(crate) fn len(&self) -> usize
+        ensures { result ≡ length self.now }
+    {
+        self.regions.len()
+    }
+
+    /// How the one at this place compares with a region, by one step.
+    pub(crate) fn compare<L: Ledger>(
+        &self,
+        at: usize,
+        region: u64,
+        steps: &mut Steps<L>,
+    ) -> Ordering
+        requires { at < length self.now }
+        ensures answer { result ≡ nat_cmp (slice_index_or self.now at 0) region }
+        ensures step { steps.new ≡ steps.old + 1 }
+    {
+        let kept = self.regions.get(at).copied().unwrap_or(0);
+        steps.compare(kept, region)
+    }
+}
