@@ -21,12 +21,13 @@ use Rattle.disk_batch.proofs.Calling.{IsTurn, is_turn}
 use Rattle.disk_model.specs.Submitting.{works_of}
 use Rattle.disk_model.specs.Moments.{Throughout}
 
--- what a batch has used up so far, with the submissions to come, and how many steps it takes
+-- what a batch has used up so far, with the submissions to come, and how many steps it takes, none of them taken back
 pub record WorksOn (old : State) (ops sectors to_submit : ℕ) (new : State) : Type 0 where
   pub sizes : new.sizes ≡ old.sizes
   pub spare_ops : old.spare_ops + to_submit ≤ new.spare_ops + ops
   pub spare_sectors : old.spare_sectors ≤ new.spare_sectors + sectors
   pub steps : new.steps + length new.in_flight + 2 * to_submit ≤ old.steps + length old.in_flight + 2 * ops
+  pub later : old.steps ≤ new.steps
 
 -- what held throughout a part of a record does so when the record has grown
 pub throughout_grown : (told : Told) (newer : List Step) (from until : ℕ) (P : Told → Type 0) → until ≤ length told.steps → Throughout from until told P → Throughout from until (record { opened = told.opened; steps = newer ++ told.steps }) P
@@ -74,6 +75,7 @@ starts_works old new put puts disks batching starts =
       spare_ops = omega (arith, s.spare_ops);
       spare_sectors = omega (arith, s.spare_sectors, writes_sectors starts.0.os (put ∷ puts) starts.0.works_are);
       steps = omega (arith, s.steps, inflight);
+      later = omega (arith, s.steps);
     }
 
 pub alone_works : (old new : State) (disks : List ℕ) (batching : Batching) (puts : List (Span × List (List ℕ))) → 0 < length puts → Starts old puts disks (view_of batching) new
@@ -84,7 +86,7 @@ alone_works old new disks batching (put ∷ puts) some starts = starts_works old
 -- what a batch does at a completion
 follows_works : (mid new : State) (view : View) (turn : Turn) (step : BatchStep) → IsTurn view turn → Follows mid view turn step new → WorksOn mid (to_come view) 0 (steps_to_come step) new
 follows_works mid new view Waits (Going next) is f = subst (λ (s : State). WorksOn mid (to_come view) 0 (to_come (view_of next)) s) (sym f.0)
-    (let e : to_come (view_of next) ≡ to_come view = ap to_come f.1 in record { sizes = refl; spare_ops = omega arith; spare_sectors = omega arith; steps = omega arith })
+    (let e : to_come (view_of next) ≡ to_come view = ap to_come f.1 in record { sizes = refl; spare_ops = omega arith; spare_sectors = omega arith; steps = omega arith; later = omega arith })
 follows_works mid new view Flushes (Going next) is f =
     let s = f.0.submits in
     let os : length f.0.os ≡ length view.flush = sym (length-map f.0.os (λ (o : Operation). o.work)) ∙ ap (λ (l : List Work). length l) f.0.works_are ∙ length-map view.flush Flushing in
@@ -96,9 +98,10 @@ follows_works mid new view Flushes (Going next) is f =
       spare_ops = omega (arith, s.spare_ops);
       spare_sectors = omega (arith, s.spare_sectors, flushes_no_sectors f.0.os view.flush f.0.works_are);
       steps = omega (arith, s.steps, inflight);
+      later = omega (arith, s.steps);
     }
-follows_works mid new view IsWell Well is f = subst (λ (s : State). WorksOn mid (to_come view) 0 0 s) (sym f) (record { sizes = refl; spare_ops = omega arith; spare_sectors = omega arith; steps = omega arith })
-follows_works mid new view (IsLost pv) (Lost pv') is f = subst (λ (s : State). WorksOn mid (to_come view) 0 0 s) (sym f.0) (record { sizes = refl; spare_ops = omega arith; spare_sectors = omega arith; steps = omega arith })
+follows_works mid new view IsWell Well is f = subst (λ (s : State). WorksOn mid (to_come view) 0 0 s) (sym f) (record { sizes = refl; spare_ops = omega arith; spare_sectors = omega arith; steps = omega arith; later = omega arith })
+follows_works mid new view (IsLost pv) (Lost pv') is f = subst (λ (s : State). WorksOn mid (to_come view) 0 0 s) (sym f.0) (record { sizes = refl; spare_ops = omega arith; spare_sectors = omega arith; steps = omega arith; later = omega arith })
 follows_works mid new view Waits Well is f = absurd f
 follows_works mid new view Waits (Lost pv) is f = absurd f
 follows_works mid new view Flushes Well is f = absurd f
@@ -117,6 +120,7 @@ turns_works old before mid new ops sectors (Going b) next done completes goes wo
       spare_ops = omega (arith, f.spare_ops, completes.spare_ops, works.spare_ops);
       spare_sectors = omega (arith, f.spare_sectors, completes.spare_sectors, works.spare_sectors);
       steps = omega (arith, f.steps, completes.steps, completes.fewer, works.steps);
+      later = omega (arith, f.later, completes.steps, works.later);
     }
 turns_works old before mid new ops sectors Well next done completes goes works = absurd goes
 turns_works old before mid new ops sectors (Lost pv) next done completes goes works = absurd goes

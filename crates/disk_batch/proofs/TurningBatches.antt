@@ -48,10 +48,11 @@ spends_both s0 s1 s2 ops more_ops sectors more_sectors a b = record {
   spare_ops = omega (arith, a.spare_ops, b.spare_ops);
   spare_sectors = omega (arith, a.spare_sectors, b.spare_sectors);
   steps = omega (arith, a.steps, b.steps);
+  later = omega (arith, a.later, b.later);
 }
 
 pub spends_none : (s : State) → s.in_flight ≡ [] → SpendsAtMost s 0 0 s
-spends_none s idle = record { idle = idle; sizes = refl; spare_ops = omega arith; spare_sectors = omega arith; steps = omega arith }
+spends_none s idle = record { idle = idle; sizes = refl; spare_ops = omega arith; spare_sectors = omega arith; steps = omega arith; later = omega arith }
 
 -- the sum over some batches and one more
 pub sum_more : (f : Batch → ℕ) (first : List Batch) (batch : Batch) → sum_by f (first ++ batch ∷ []) ≡ sum_by f first + f batch

@@ -10,9 +10,10 @@ use Rattle.disk_model.specs.Steps.{Reading, Told, now_after, value_at}
 use Rattle.disk_model.specs.Calls.{Reserves}
 use Rattle.disk_model.specs.CarriesOut.{CarriesOut, with_operation}
 use Rattle.disk_model.specs.Faults.{HasSameFaults, IsLastFault}
-use Rattle.disk_model.specs.Idle.{IsIdleAgain, SpendsAtMost}
+use Rattle.disk_model.specs.Idle.{SpendsAtMost}
 use Rattle.disk_model.specs.Since.{HoldsOfDisk, ReadsTold}
 use Rattle.disk_model.specs.State.{State}
+use Rattle.disk_model.proofs.IdleAgain.{again_both, again_reserved, again_same, again_spent}
 use Rattle.disk_model.proofs.LastFault.{last_fault_after}
 use Rattle.disk_model.proofs.ReadingAlone.{reads_told_both, reads_told_nothing}
 use Rattle.disk_contents.specs.declared.read_refusal.ReadRefusal.{ReadRefusal}
@@ -25,7 +26,7 @@ pub well_reserved : (s0 s1 : State) (ops sectors : ℕ) → Reserves s0 ops sect
 well_reserved s0 s1 ops sectors r idle = record {
   reads = reads_told_nothing s0.told s1.told (ap (λ (s : State). s.told) r.same);
   silent = λ none. ap (λ (s : State). s.told) r.same ∙ none;
-  again = record { idle = ap (λ (s : State). s.in_flight) r.same ∙ idle; sizes = ap (λ (s : State). s.sizes) r.same };
+  again = again_reserved s0 s1 ops sectors r idle;
   faults = λ p. ap (λ (s : State). s.faults p) r.same;
 }
 
@@ -34,12 +35,9 @@ pub well_nothing : (s0 s1 : State) → s1 ≡ s0 → s0.in_flight ≡ [] → Rea
 well_nothing s0 s1 same idle = record {
   reads = reads_told_nothing s0.told s1.told (ap (λ (s : State). s.told) same);
   silent = λ none. ap (λ (s : State). s.told) same ∙ none;
-  again = record { idle = ap (λ (s : State). s.in_flight) same ∙ idle; sizes = ap (λ (s : State). s.sizes) same };
+  again = again_same s0 s1 same idle;
   faults = λ p. ap (λ (s : State). s.faults p) same;
 }
-
-again_both : (s0 s1 s2 : State) → IsIdleAgain s0 s1 → IsIdleAgain s1 s2 → IsIdleAgain s0 s2
-again_both s0 s1 s2 first more = record { idle = more.idle; sizes = more.sizes ∙ first.sizes }
 
 -- a part that went well, and then another
 pub well_both : (s0 s1 s2 : State) (first more : List Span) → ReadsWell s0 first s1 → ReadsWell s1 more s2 → ReadsWell s0 (first ++ more) s2
@@ -85,7 +83,7 @@ pub well_read : (s0 s1 : State) (span : Span) (buffer : List (List ℕ)) (done :
 well_read s0 s1 span buffer done c reads faults = record {
   reads = reads;
   silent = λ none. c.told.1 ∙ ap (option_map (with_operation done.tag (Reading span) done.well c.told.0)) none;
-  again = record { idle = c.idle; sizes = c.sizes };
+  again = record { idle = c.idle; sizes = c.sizes; later = omega (arith, c.steps) };
   faults = faults;
 }
 
@@ -97,7 +95,7 @@ until_read s0 s1 span fault reads spends last = record {
   rest = [];
   front = refl;
   reads = reads;
-  again = record { idle = spends.idle; sizes = spends.sizes };
+  again = again_spent s0 s1 1 span.count spends;
   cause = (last.disk, (span, subst (λ (p : ℕ). IsLastFault s0 s1 p (Reading span)) last.disk last));
 }
 

@@ -17,6 +17,7 @@ pub mod StepsSince
 pub mod ReadingAlone
 pub mod KeptSectors
 pub mod LastFault
+pub mod IdleAgain
 pub mod PutSectors
 pub mod OnePut
 pub mod Lying

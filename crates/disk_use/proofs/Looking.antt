@@ -7,6 +7,7 @@ use Rattle.disk_model.specs.Faults.{HasSameFaults}
 use Rattle.disk_model.specs.Since.{BetweenTold, OnlyReads, ReadsTold}
 use Rattle.disk_model.specs.State.{State}
 use Rattle.disk_model.specs.Steps.{Image, Told, now_after}
+use Rattle.disk_model.proofs.IdleAgain.{again_both, again_same}
 use Rattle.disk_model.proofs.ReadingAlone.{reads_told_both, same_now}
 use Rattle.disk_model.proofs.StepsSince.{between_both, between_same, between_weaker}
 use Rattle.disk_contents.specs.declared.read_refusal.ReadRefusal.{ReadRefusal}
@@ -57,14 +58,14 @@ now_always (Some t) P all = all (now_after t.opened t.steps)
 pub looks_both : (s0 s1 s2 : State) → Looks s0 s1 → Looks s1 s2 → Looks s0 s2
 looks_both s0 s1 s2 a b = record {
   told = between_both ReadsSome ReadsSome ReadsSome s0.told s1.told s2.told some_both a.told b.told;
-  again = record { idle = b.again.idle; sizes = b.again.sizes ∙ a.again.sizes };
+  again = again_both s0 s1 s2 a.again b.again;
 }
 
 pub looks_nothing : (s0 s1 : State) → s1 ≡ s0 → s0.in_flight ≡ [] → Looks s0 s1
 looks_nothing s0 s1 same idle = record {
   told = between_same ReadsSome s0.told s1.told (ap (λ (s : State). s.told) same)
       (λ old. ([], record { since = []; steps = refl; reads = tt; spans_are = refl }));
-  again = record { idle = ap (λ (s : State). s.in_flight) same ∙ idle; sizes = ap (λ (s : State). s.sizes) same };
+  again = again_same s0 s1 same idle;
 }
 
 pub looks_well : (s0 s1 : State) (spans : List Span) → ReadsWell s0 spans s1 → Looks s0 s1

@@ -1,9 +1,10 @@
 -- Each exit of a line that is carried out.
-use Rattle.std.proofs.Common.{◌≡◌, ◌<◌, ℕ, Bool, true, false, List, [], Option, Some, None, inl, inr, refl, sym, ap, subst, ◌∙◌}
+use Rattle.std.proofs.Common.{◌≡◌, ◌≤◌, ◌<◌, ℕ, Bool, true, false, List, [], Option, Some, None, inl, inr, refl, sym, ap, subst, ◌∙◌}
 use Rattle.std.specs.Prelude.{All, MatchResult, Result, Ok, Err, is_ok, is_some}
 use Rattle.disk_batch.specs.InTurn.{Put, WritesInTurn}
 use Rattle.disk_model.specs.Calls.{Reserves}
 use Rattle.disk_model.specs.Faults.{HasSameFaults}
+use Rattle.disk_model.specs.Idle.{IsIdleAgain}
 use Rattle.disk_model.specs.Since.{BetweenTold}
 use Rattle.disk_model.specs.State.{IsLawful, State}
 use Rattle.disk_model.specs.Steps.{Told}
@@ -114,12 +115,14 @@ module _ (state : GroupState) (line : Line) (now : ℕ) where
       }
 
       -- all of these were carried out, and the disks cleared, as far as that came
-      module _ (lawful : IsLawful made_state) (faults : HasSameFaults mid made_state) (first : BetweenTold (WritesBoth zeros puts true) mid.told made_state.told) where
+      module _ (lawful : IsLawful made_state) (again_made : IsIdleAgain mid made_state) (again_cleared : IsIdleAgain made_state new) (faults : HasSameFaults mid made_state) (first : BetweenTold (WritesBoth zeros puts true) mid.told made_state.told) where
         abbrev behind : (well : Bool) → BetweenTold (λ before after. WritesInTurn before clears well after) made_state.told new.told
             → ClearsBehind (zeros_of state line now passed.0) (batches_of state line now passed.0) (clears_of state line now passed.0) well old new
         behind well told = record {
           made = made_state;
           lawful = lawful;
+          later = subst (λ (n : ℕ). n ≤ made_state.steps) (ap (λ (s : State). s.steps) reserves.same) again_made.later;
+          sooner = again_cleared.later;
           first = written true made_state.told first;
           behind = subst (λ (l : List (List Put)). BetweenTold (λ before after. WritesInTurn before l well after) made_state.told new.told) same_clears told;
         }

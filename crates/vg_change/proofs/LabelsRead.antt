@@ -14,9 +14,8 @@ use Rattle.pv_header.proofs.WrittenHeader.{IsPvHeader-written}
 use Rattle.pv_label.specs.Label.{IsLabel}
 use Rattle.pv_label.specs.LabelBytes.{summed_bytes}
 use Rattle.pv_label.proofs.LabelBytes.{IsLabel-with_label}
-use Rattle.sector_base.specs.Checksum.{checksum}
+use Rattle.sector_base.specs.Checksum.{checksum, lvm_crc_start}
 use Rattle.sector_base.specs.Fields.{little_bytes}
-use Rattle.sector_base.specs.declared.checksum.TheConstants.{LVM_CRC_START}
 use Rattle.group_ops.specs.declared.state.NewLabel.{NewLabel}
 use Rattle.vg_change.specs.Batches.{empty_area, label_bytes}
 use Rattle.vg_change.specs.Sound.{CanLabel, FitsFields}
@@ -36,7 +35,7 @@ module _ (label : NewLabel) where
 
   -- the label itself
   abbrev front : List ℕ
-  front = codes "LABELONE" ++ (little_bytes 8 label.sector ++ (little_bytes 4 (checksum LVM_CRC_START (summed_bytes contents)) ++ (little_bytes 4 32 ++ codes "LVM2 001")))
+  front = codes "LABELONE" ++ (little_bytes 8 label.sector ++ (little_bytes 4 (checksum lvm_crc_start (summed_bytes contents)) ++ (little_bytes 4 32 ++ codes "LVM2 001")))
 
   parts : label_bytes label ≡ front ++ pv_bytes label.header
   parts = ap (λ (back : List ℕ). front ++ back) (drop_at (replicate 32 0) (pv_bytes label.header) 32 refl)
@@ -44,7 +43,7 @@ module _ (label : NewLabel) where
   pub label_read : CanLabel label → IsLabel (label_bytes label) label.sector
   label_read can =
       let low : label.sector < 4 = can.sector_below in
-      let below : checksum LVM_CRC_START (summed_bytes contents) < 2 ^ 32 = checksum_below LVM_CRC_START (summed_bytes contents) in
+      let below : checksum lvm_crc_start (summed_bytes contents) < 2 ^ 32 = checksum_below lvm_crc_start (summed_bytes contents) in
       IsLabel-with_label contents label.sector (omega (arith, low)) (omega (arith, below))
 
   same_version : (header : PvHeader) → header.version ≡ 2 → record header { version = 2 } ≡ header
@@ -58,5 +57,5 @@ module _ (label : NewLabel) where
 -- the header of an empty area of at most 2^63 bytes
 pub empty_read : (area : Extent) → area.offset < 2 ^ 63 → area.size < 2 ^ 63 → IsHeader (mda_bytes (empty_area area)) (empty_area area)
 empty_read area starts sized =
-    let below : checksum LVM_CRC_START (mda_summed (empty_area area)) < 2 ^ 32 = checksum_below LVM_CRC_START (mda_summed (empty_area area)) in
+    let below : checksum lvm_crc_start (mda_summed (empty_area area)) < 2 ^ 32 = checksum_below lvm_crc_start (mda_summed (empty_area area)) in
     header_read area.offset area.size None None false (omega (arith, starts)) (omega (arith, sized)) tt tt (omega (arith, below)) tt tt

@@ -1,5 +1,5 @@
 -- What is promised of a line that is carried out.
-use Rattle.std.specs.Prelude.{◌≡◌, ◌<◌, ◌⊎◌, ℕ, Bool, true, false, is_some, List, length, map, take, All, None, Some, Result, Ok, Err, MatchResult}
+use Rattle.std.specs.Prelude.{◌≡◌, ◌≤◌, ◌<◌, ◌⊎◌, ℕ, Bool, true, false, is_some, List, length, map, take, All, None, Some, Result, Ok, Err, MatchResult}
 use Rattle.disk_batch.specs.InTurn.{HasFirstBatches, Put, WritesInTurn, with_batches}
 use Rattle.disk_model.specs.Faults.{HasSameFaults}
 use Rattle.disk_model.specs.Since.{BetweenTold}
@@ -64,10 +64,13 @@ abbrev pub WritesBoth : List (List Put) → List (List Put) → Bool → Told �
 WritesBoth zeros batches true old new = WritesBehind zeros batches true old new
 WritesBoth zeros batches false old new = WritesInTurn old zeros false new ⊎ WritesBehind zeros batches false old new
 
--- zeros and batches were carried out, until the shelf was in this state; and then disks were cleared, as far as that came
+-- zeros and batches were carried out, until the shelf was in this state, after so many steps; and then disks were cleared, as far
+-- as that came
 pub record ClearsBehind (zeros batches clears : List (List Put)) (well : Bool) (old new : State) : Type 0 where
   pub made : State
   pub lawful : IsLawful made
+  pub later : old.steps ≤ made.steps
+  pub sooner : made.steps ≤ new.steps
   pub first : BetweenTold (WritesBoth zeros batches true) old.told made.told
   pub behind : BetweenTold (λ before after. WritesInTurn before clears well after) made.told new.told
 

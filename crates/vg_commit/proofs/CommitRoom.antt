@@ -36,7 +36,7 @@ flushes_in old new batching b can starts same =
 -- a batch takes a completion of its own
 batch_spends : (before old mid : State) (batching : Batching) (done : Done) (came : BatchStep) → Completes before done old → Goes old (view_of batching) done came mid → WorksOn before (to_come (view_of batching)) 0 (steps_to_come came) mid
 batch_spends before old mid batching done came completes goes =
-    turns_works before before old mid (to_come (view_of batching)) 0 (batch.Going batching) came done completes goes (record { sizes = refl; spare_ops = omega arith; spare_sectors = omega arith; steps = omega arith })
+    turns_works before before old mid (to_come (view_of batching)) 0 (batch.Going batching) came done completes goes (record { sizes = refl; spare_ops = omega arith; spare_sectors = omega arith; steps = omega arith; later = omega arith })
 
 -- disks within stay so
 within_still : (before new : State) (flush flush' : List ℕ) → new.sizes ≡ before.sizes → flush' ≡ flush → All (λ (pv : ℕ). pv < length before.sizes) flush → All (λ (pv : ℕ). pv < length new.sizes) flush'

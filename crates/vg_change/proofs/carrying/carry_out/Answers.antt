@@ -70,7 +70,7 @@ returns-in-Ok-clause-carried g c =
     cleared c.args.state.now c.args.line.now c.args.now c.requires.state c.requires.planned c.in_ok-change.change c.in_ok-change.ensures.plans c.in_ok-batches.ensures.read_again c.in_ok-clears.ensures.fields (g.S.Shelf.state c.args.shelf.now)
     (g.S.Shelf.state c.reserve_lists.new.shelf) (g.S.Shelf.state c.write_both.new.shelf) (g.S.Shelf.state c.clear.new.shelf) _ _ c.in_ok-reserve_lists.ensures.room (map writes_of c.in_ok-zeros.zeros.items) c.in_ok-zeros.ensures.writes
     (map writes_of c.in_ok-batches.batches.items) c.in_ok-batches.ensures.writes (map writes_of c.in_ok-clears.clears.items) c.in_ok-clears.ensures.writes
-    (g.met.S.Shelf.lawful c.write_both.new.shelf) c.in-Ok.ensures.fault c.in-Ok.ensures.told c.is_some.result c.is_some.ensures c.clear.result c.clear.ensures.cause c.clear.ensures.told
+    (g.met.S.Shelf.lawful c.write_both.new.shelf) c.in-Ok.ensures.again c.clear.ensures.again c.in-Ok.ensures.fault c.in-Ok.ensures.told c.is_some.result c.is_some.ensures c.clear.result c.clear.ensures.cause c.clear.ensures.told
 
 pub returns-clause-carried : goal.returns-clause-carried
 returns-clause-carried g c =
