@@ -40,6 +40,11 @@ all_gathered whole (Some bytes) rest text piece filled gathered reads some =
     let none = (reads.ended some).0 refl in
     subst (λ w. IfSome w (λ bytes. text ≡ bytes)) (sym gathered.is) (sym (append-nil text) ∙ ap (λ b. text ++ b) (sym none))
 
+-- and nothing is left then
+pub none_left : (left rest : Option (List ℕ)) (piece filled : List ℕ) → Reads left piece 0 filled rest → 0 < length piece → IfSome rest (λ bytes. bytes ≡ [])
+none_left None rest piece filled reads some = subst (λ w. IfSome w (λ bytes. bytes ≡ [])) (sym reads.left_after) tt
+none_left (Some bytes) rest piece filled reads some = subst (λ w. IfSome w (λ left. left ≡ [])) (sym reads.left_after) ((reads.ended some).0 refl)
+
 -- too much
 pub too_long : (whole left : Option (List ℕ)) (text : List ℕ) → Gathered whole text left → 16777216 < length text → IfSome whole (λ bytes. 16777216 < length bytes)
 too_long whole None text gathered long = subst (λ w. IfSome w (λ bytes. 16777216 < length bytes)) (sym gathered.is) tt

@@ -49,6 +49,7 @@ impl From<Failed> for ReadFault {
 /// - `NoMemory` where memory is wanting.
 pub fn read_all<R: Source>(alloc: Global, from: &mut R) -> Result<Text, ReadFault>
     ensures text { IfOk result (λ text. (length text ≤ 16777216) × IfSome (R.left from.old) (λ bytes. text ≡ bytes)) }
+    ensures ended { OnOk result (IfSome (R.left from.new) (λ rest. rest ≡ [])) }
     ensures unfaulted { OnOk result (R.fault_count from.new ≡ R.fault_count from.old) }
     ensures long { IsErrOf result ReadFault.ScriptTooLong → IfSome (R.left from.old) (λ bytes. 16777216 < length bytes) }
     ensures failed { IsErrOf result ReadFault.Failed → HasRisen (R.fault_count from.old) (R.fault_count from.new) }
