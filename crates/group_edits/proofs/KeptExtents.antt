@@ -1,10 +1,11 @@
 -- How many extents of segments stay, and that the segment which is cut keeps whole stripes.
 use Rattle.std.proofs.Common.{◌≡◌, ◌≤◌, ◌<◌, ℕ, ◌+◌, ◌-◌, ◌*◌, ◌/◌, Bool, true, false, cond, List, [], ◌∷◌, length, inl, inr, refl, ap, ◌∙◌, arith}
-use Rattle.std.specs.Prelude.{◌%◌, min, nat_le}
+use Rattle.std.specs.Prelude.{◌%◌, min, nat_le, sum_by}
 use Rattle.std.specs.List.{AllByRecursion as Each}
 use Rattle.std.proofs.lemmas.Bool.{cases_lt}
 use Rattle.std.proofs.lemmas.Bool.Decides.{nat_tests}
 use Rattle.std.proofs.lemmas.Grind.{div_ceil_times}
+use Rattle.std.proofs.lemmas.List.Sums.{sum_by-cons}
 use Rattle.std.proofs.lemmas.Nat.{div-add-mod', div-mul-add, mod-mul-add, mul-le}
 use Rattle.meta_model.specs.Runs.{legs_of}
 use Rattle.meta_model.specs.declared.segment.SegKind.{SegKind}
@@ -68,6 +69,26 @@ whole_striped size count most (Mirror region moved legs) some whole is = tt
 -- it has a leg, and its stripes share its extents evenly
 abbrev pub IsShared : ℕ → Segment → Type 0
 IsShared size segment = (1 ≤ length (legs_of segment.kind)) × IsWholeStriped size segment.count segment.kind
+
+-- no more than there are, where no more are said
+pub kept_below : (size : ℕ) (segments : List Segment) (said : ℕ) → Each (IsShared size) segments → said ≤ sum_by (λ (s : Segment). s.count) segments → kept_of segments said ≤ sum_by (λ (s : Segment). s.count) segments
+kept_below size [] said shared less = less
+kept_below size (segment ∷ segments) said shared less = by (nat_le said segment.count) refl (kept_below size segments (said - segment.count) shared.1) where
+  rest : ℕ
+  rest = sum_by (λ (s : Segment). s.count) segments
+
+  all : sum_by (λ (s : Segment). s.count) (segment ∷ segments) ≡ segment.count + rest
+  all = sum_by-cons (λ (s : Segment). s.count) segment segments
+
+  by : (b : Bool) → nat_le said segment.count ≡ b → (said - segment.count ≤ rest → kept_of segments (said - segment.count) ≤ rest)
+      → cond b (whole_stripes said segment.kind) (segment.count + kept_of segments (said - segment.count)) ≤ sum_by (λ (s : Segment). s.count) (segment ∷ segments)
+  by true within later =
+      let few : said ≤ segment.count = grind (arith, nat_tests, within) in
+      let own : whole_stripes said segment.kind ≤ segment.count = whole_below size said segment.count segment.kind shared.0.0 shared.0.1 few in
+      omega (arith, own, all)
+  by false past later =
+      let more : kept_of segments (said - segment.count) ≤ rest = later (omega (arith, less, all)) in
+      omega (arith, more, all)
 
 -- no fewer than said
 pub kept_more : (size : ℕ) (segments : List Segment) (said : ℕ) → Each (IsShared size) segments → said ≤ kept_of segments said

@@ -5,7 +5,7 @@ use Rattle.std.proofs.lemmas.List.{append_assoc, map-append}
 use Rattle.meta_model.proofs.TableLemmas.{take-next}
 use Rattle.meta_model.specs.declared.lv.Lv.{Lv}
 use Rattle.meta_model.specs.declared.segment.Segment.{Segment}
-use Rattle.scan_rules.proofs.Steps.{next_read}
+use Rattle.sector_base.proofs.Walks.{next_read}
 use Rattle.scan_rules.specs.Decision.{same_bytes}
 use Rattle.group_edits.proofs.ShortFront.{cut, le_by, lt_by}
 use Rattle.group_edits.specs.NextVersion.{changed_if}

@@ -14,7 +14,7 @@ use Rattle.meta_print.proofs.ReadAgain.{has_tree}
 use Rattle.volume_rules.specs.Extents.{extents_of}
 use Rattle.volume_rules.specs.Rules.{Follow, IsAccepted, IsWholeMirror, IsWholeStriped}
 use Rattle.volume_rules.specs.declared.rule.Rule.TheVariants.{Follows, Mirrors, Numbers, Stripes}
-use Rattle.group_edits.proofs.KeptExtents.{IsShared, kept_again, kept_more}
+use Rattle.group_edits.proofs.KeptExtents.{IsShared, kept_again, kept_below, kept_more}
 use Rattle.group_edits.proofs.OtherNames.{contains_at}
 use Rattle.group_edits.proofs.ShortPrintable.{printable_short}
 use Rattle.group_edits.proofs.ShortRules.{segments_few, segments_shared, short_accepted}
@@ -81,6 +81,10 @@ module _ (group : Group) (accepted : IsAccepted group) (n : ℕ) (row : List ℕ
     where
       by : (count size : ℕ) → 8 ≤ size → count * size < 2 ^ 48 → count < 2 ^ 48
       by count size some small = grind (arith, some, small)
+
+  -- it keeps no more than it has, where no more is said
+  pub keeps_within : (said : ℕ) → said ≤ extents_of row.1 → kept_of row.1.segments said ≤ extents_of row.1
+  keeps_within said less = kept_below group.extent_size row.1.segments said shared less
 
   -- what it keeps of what is said may be kept, where that is less than it has
   pub may_keep : (said : ℕ) → 1 ≤ said → is_layered row.1 ≡ false → kept_of row.1.segments said < extents_of row.1 → MayKeep (kept_of row.1.segments said) row.1

@@ -3,7 +3,7 @@ use Rattle.std.proofs.Common.{◌≡◌, ℕ, ◌+◌, Bool, true, false, ◌&&�
 use Rattle.std.specs.Prelude.{slice_get, IsSomeAnd}
 use Rattle.meta_model.specs.declared.group.Group.{Group}
 use Rattle.meta_model.specs.declared.lv.Lv.{Lv}
-use Rattle.scan_rules.proofs.Steps.{next_got}
+use Rattle.sector_base.proofs.Walks.{next_got}
 use Rattle.scan_rules.specs.Decision.{same_bytes}
 use Rattle.group_edits.proofs.OneNamed.{IsVisibleAt, visible_at}
 use Rattle.group_edits.specs.Visible.{IsVisible, visible_from, visible_named}

@@ -46,7 +46,8 @@ use Rattle.group_ops.specs.Allocating.{segments_row, space_row}
 use Rattle.group_ops.specs.Committing.{length_row, zeroing_change}
 use Rattle.group_ops.specs.Ids.{has_any_id, has_lv_id, has_other_id, has_pv_id}
 use Rattle.group_ops.specs.Judging.{IsRefusedBy, first_refusal, stands_on_disk}
-use Rattle.group_ops.specs.Lvcreate.{Begins, IsNewVolume, add_rows, create_asks, create_change, create_in_rows, created_group, eight_from, first_run, id_row, kind_for, leg_zeroed, legs_for, limit_rows, name_rows, share_for, stripe_row, want_for, want_on, zeroed_at}
+use Rattle.group_ops.specs.Stripes.{stripe_row}
+use Rattle.group_ops.specs.Lvcreate.{Begins, IsNewVolume, add_rows, create_asks, create_change, create_in_rows, created_group, eight_from, first_run, id_row, kind_for, leg_zeroed, legs_for, limit_rows, name_rows, share_for, want_for, want_on, zeroed_at}
 use Rattle.group_ops.specs.Members.{pvs_named}
 use Rattle.group_ops.specs.Planning.{Plans, PlansWith}
 use Rattle.group_ops.specs.Sizes.{extents_for}
@@ -84,17 +85,19 @@ want_is state found group new on want same named is =
 -- ---- the rows
 
 -- its stripes divide an extent
-divides : (size : ℕ) (new : NewVolume) → stripe_row size new ≡ None → nat_lt 1 new.stripes ≡ true → size % new.stripe_size ≡ 0
+divides : (size : ℕ) (new : NewVolume) → stripe_row size new.stripes new.stripe_size ≡ None → nat_lt 1 new.stripes ≡ true → size % new.stripe_size ≡ 0
 divides size new none several =
+    let uneven : Bool = new.stripe_size == 0 || not (size % new.stripe_size == 0) in
     by (size % new.stripe_size == 0) refl
-    (sym (ap (λ (b : Bool). b && not (size % new.stripe_size == 0)) several) ∙ test_fails (nat_lt 1 new.stripes && not (size % new.stripe_size == 0)) (BadStripe new.stripe_size size) none)
+    (both_false (new.stripe_size == 0) (not (size % new.stripe_size == 0))
+    (sym (ap (λ (b : Bool). b && uneven) several) ∙ test_fails (nat_lt 1 new.stripes && uneven) (BadStripe new.stripe_size size) none)).1
   where
     by : (b : Bool) → (size % new.stripe_size == 0) ≡ b → not b ≡ false → size % new.stripe_size ≡ 0
     by true is fails = eqb-true (size % new.stripe_size) 0 is
     by false is fails = absurd cc
 
 -- its segments can have as many legs as it asks for
-pub can_have_legs : (size : ℕ) (new : NewVolume) → IsNewVolume new → stripe_row size new ≡ None → MayHaveLegs size (legs_for new) (kind_for new)
+pub can_have_legs : (size : ℕ) (new : NewVolume) → IsNewVolume new → stripe_row size new.stripes new.stripe_size ≡ None → MayHaveLegs size (legs_for new) (kind_for new)
 can_have_legs size new is none = by (nat_lt 0 new.mirrors) refl where
   striped : (b : Bool) → nat_lt 1 new.stripes ≡ b → MayHaveLegs size new.stripes (Striped (cond b new.stripe_size 0) [])
   striped true several = (is.stripe_size.2, is.stripes.0, is.stripes.1, λ more. (is.stripe_size.0, is.stripe_size.1, divides size new none several))

@@ -4,6 +4,7 @@ use Rattle.std.specs.Prelude.{nat_le, nat_lt, option_map, slice_get, All, IsSome
 use Rattle.std.specs.FinSet as set
 use Rattle.std.specs.Option.{option_map_or}
 use Rattle.std.specs.Ordering.{nat_cmp}
+use Rattle.std.proofs.lemmas.Bool.{cases_lt}
 use Rattle.std.proofs.lemmas.Bool.Decides.{nat_tests}
 use Rattle.std.proofs.lemmas.Grind.{div_ceil_times}
 use Rattle.std.proofs.lemmas.List.Elements.{All-contains, All-head, All-tail}
@@ -32,12 +33,12 @@ use Rattle.group_edits.proofs.OneNamed.{IsVisibleAt, visible_at}
 use Rattle.group_edits.proofs.OtherNames.{contains_at}
 use Rattle.group_edits.specs.GivenSegments.{segments_in}
 use Rattle.group_edits.specs.LongerVolume.{MayGrow, last_kind, longer_volume}
-use Rattle.group_edits.specs.ShortenedVolume.{HasFewLegs, parts_of}
+use Rattle.group_edits.specs.ShortenedVolume.{HasFewLegs, kept_of, parts_of}
 use Rattle.group_edits.specs.Visible.{visible_named}
 use Rattle.group_ops.proofs.Chained.{none_both, none_row, one_row, plans_back, refused_back, refused_front}
 use Rattle.group_ops.proofs.GivenParts.{planned_back, planned_given, refused_asking, refused_early}
 use Rattle.group_ops.proofs.PlacedGroup.{lie_on_disks}
-use Rattle.group_ops.proofs.Reducing.{has_few_legs, not_layered, some_extents}
+use Rattle.group_ops.proofs.Reducing.{has_few_legs, keeps_no_more, not_layered, some_extents}
 use Rattle.group_ops.proofs.Rows.{none_holds, test_fails}
 use Rattle.group_ops.proofs.RowsOnVolume.{seqno_left}
 use Rattle.group_ops.specs.Allocating.{Asking, segments_row, space_row}
@@ -46,7 +47,7 @@ use Rattle.group_ops.specs.Judging.{IsRefusedBy, first_refusal}
 use Rattle.group_ops.specs.Lvextend.{extend_asks, extend_in_rows, extend_lv_rows, growth_rows, lengthen_rows, longer_row, more_for, more_on, share_of, volume_asks}
 use Rattle.group_ops.specs.Members.{pvs_named}
 use Rattle.group_ops.specs.Planning.{Plans, PlansWith}
-use Rattle.group_ops.specs.Sizes.{IsGrowth, extents_for, growth_for}
+use Rattle.group_ops.specs.Sizes.{IsGrowth, extents_for, growth_for, kept_by}
 use Rattle.group_ops.specs.State.{IsState}
 use Rattle.group_ops.specs.Volumes.{layered_row, locked_row, rows_on}
 use Rattle.group_ops.specs.declared.refusal.PlanRefusal.{PlanRefusal}
@@ -61,15 +62,19 @@ few_segments group more none =
     let fails : nat_lt 16384 (segments_in group + more) ≡ false = test_fails (nat_lt 16384 (segments_in group + more)) (TooMany (segments_in group + more) 16384) none in
     grind (arith, nat_tests, fails)
 
--- the volume grows by an extent or more
-some_growth : (size has : ℕ) (growth : Growth) → 1 ≤ size → IsGrowth growth → longer_row size has growth ≡ None → 1 ≤ growth_for size has growth
-some_growth size has (To amount) some is none =
-    let fails : nat_le (extents_for size amount) has ≡ false = test_fails (nat_le (extents_for size amount) has) (NotLonger (extents_for size amount) has) none in
-    more (extents_for size amount) fails
+-- the volume grows by an extent or more, where it keeps no more than it has of what is no more
+some_growth : (size : ℕ) (lv : Lv) (growth : Growth) → 1 ≤ size → ((said : ℕ) → said ≤ extents_of lv → kept_of lv.segments said ≤ extents_of lv) → IsGrowth growth → longer_row size lv growth ≡ None → 1 ≤ growth_for size (extents_of lv) growth
+some_growth size lv (To amount) some within is none =
+    more (extents_for size amount) (extents_of lv) (kept_by size amount lv) (within (extents_for size amount))
+    (test_fails (nat_le (kept_by size amount lv) (extents_of lv)) (NotLonger (kept_by size amount lv) (extents_of lv)) none)
   where
-    more : (said : ℕ) → nat_le said has ≡ false → 1 ≤ said - has
-    more said fails = let less : has < said = grind (arith, nat_tests, fails) in omega (arith, less)
-some_growth size has (By amount) some is none = some_extents size amount some is
+    more : (said has kept : ℕ) → (said ≤ has → kept ≤ has) → nat_le kept has ≡ false → 1 ≤ said - has
+    more said has kept within fails =
+        elim (cases_lt has said) [
+          | inl less ↦ omega (arith, less)
+          | inr no_more ↦ let few : kept ≤ has = within no_more in let over : has < kept = grind (arith, nat_tests, fails) in absurd (omega (arith, few, over))
+        ]
+some_growth size lv (By amount) some within is none = some_extents size amount some is
 
 some_share : (count : ℕ) (kind : SegKind) → 1 ≤ count → HasFewLegs kind → 1 ≤ share_of count kind
 some_share count (Striped stripe legs) some few = by (parts_of count (length legs)) (div_ceil_times count (length legs) few.0).0 where
@@ -120,11 +125,11 @@ module _ (group : Group) (accepted : IsAccepted group) (name : List ℕ) (number
   has_last_legs = last_few lv.segments has_segment (has_few_legs group accepted name number lv volume)
 
   -- what it asks for, where the rows before the allocator's pass
-  pub is_request : (state : GroupState) (growth : Growth) (pvs : List (List ℕ)) → IsGrowth growth → longer_row group.extent_size (extents_of lv) growth ≡ None → IsRequest (more_for state group growth pvs lv)
+  pub is_request : (state : GroupState) (growth : Growth) (pvs : List (List ℕ)) → IsGrowth growth → longer_row group.extent_size lv growth ≡ None → IsRequest (more_for state group growth pvs lv)
   is_request state growth pvs is none =
       let least = (accepted Numbers).extent_size.0 in
       record {
-        extents = some_share (growth_for group.extent_size (extents_of lv) growth) (last_kind lv.segments) (some_growth group.extent_size (extents_of lv) growth (omega (arith, least)) is none) has_last_legs;
+        extents = some_share (growth_for group.extent_size (extents_of lv) growth) (last_kind lv.segments) (some_growth group.extent_size lv growth (omega (arith, least)) (keeps_no_more group accepted name number lv volume) is none) has_last_legs;
         legs = has_last_legs;
       }
 
@@ -142,7 +147,7 @@ more_made on want count growth own kind is counted same = is ∙ ap (λ (n : ℕ
 pub record GrowthPasses (state : GroupState) (name : List ℕ) (growth : Growth) (group : Group) (number : ℕ) (lv : Lv) : Type 0 where
   pub unlocked : locked_row group name number ≡ None
   pub apart : layered_row name lv ≡ None
-  pub longer : longer_row group.extent_size (extents_of lv) growth ≡ None
+  pub longer : longer_row group.extent_size lv growth ≡ None
   pub seqno : group.seqno ≢ 4294967295
 
 pub growth_passes : (state : GroupState) (name : List ℕ) (growth : Growth) (pvs : List (List ℕ)) (group : Group) (number : ℕ) (lv : Lv) → first_refusal (growth_rows state name growth pvs group (number, lv)) ≡ None → GrowthPasses state name growth group number lv

@@ -20,6 +20,7 @@ pub mod PlacedVolumes
 pub mod Examples
 pub mod LvExamples
 pub mod Rows
+pub mod RowWalks
 pub mod RowsOnVolume
 pub mod Reducing
 pub mod NextVersions

@@ -30,9 +30,11 @@ use Rattle.group_edits.specs.Visible.{visible_named}
 use Rattle.group_ops.specs.Added.{added_named}
 use Rattle.group_ops.specs.Allocating.{Asking, segments_row, shown_refusal, space_row}
 use Rattle.group_ops.specs.Judging.{area_row, many_row, unknown_row}
-use Rattle.group_ops.specs.Lvcreate.{id_row, kind_for, legs_for, share_for, stripe_row}
+use Rattle.group_ops.specs.Lvcreate.{id_row, kind_for, legs_for, share_for}
+use Rattle.group_ops.specs.Stripes.{stripe_row, stripes_row}
 use Rattle.group_ops.specs.Lvextend.{longer_row, more_for}
-use Rattle.group_ops.specs.Lvreduce.{kept_by, shorter_row}
+use Rattle.group_ops.specs.Lvreduce.{shorter_row}
+use Rattle.group_ops.specs.Sizes.{kept_by}
 use Rattle.group_ops.specs.Members.{outside_row, pv_named, pvs_named}
 use Rattle.group_ops.specs.Planning.{asks_of, change_of, refusal_of}
 use Rattle.group_ops.specs.Volumes.{layered_row, locked_row, taken_row}
@@ -213,8 +215,10 @@ row_outside = refl
 abbrev striped : Segment
 striped = segment 0 6 (Striped 128 (leg 0 0 ∷ leg 1 0 ∷ []))
 
--- six extents are as many as it has; a sector more than six extents is one extent more
-row_not_longer : map (longer_row 8192 6) (To (Extents 6) ∷ To (Extents 7) ∷ To (Sectors 49152) ∷ To (Sectors 49153) ∷ By (Extents 1) ∷ []) ≡ Some (NotLonger 6 6) ∷ None ∷ Some (NotLonger 6 6) ∷ None ∷ None ∷ []
+-- six extents are as many as it has, and so are five, in whole stripes; three are four; a sector more than six extents is one extent
+-- more
+row_not_longer : map (longer_row 8192 (volume (striped ∷ []))) (To (Extents 6) ∷ To (Extents 5) ∷ To (Extents 3) ∷ To (Extents 7) ∷ To (Sectors 49152) ∷ To (Sectors 49153) ∷ By (Extents 1) ∷ [])
+    ≡ Some (NotLonger 6 6) ∷ Some (NotLonger 6 6) ∷ Some (NotLonger 4 6) ∷ None ∷ Some (NotLonger 6 6) ∷ None ∷ None ∷ []
 row_not_longer = refl
 
 -- how many extents each of its legs gets
@@ -321,8 +325,16 @@ row_created_asks = refl
 -- ---- lvcreate: rows
 
 -- pieces of 128 sectors don't divide extents of 64; a single leg has none
-row_stripe_pieces : map (stripe_row 64) (wanted (Extents 1) 2 0 ∷ wanted (Extents 1) 1 0 ∷ record (wanted (Extents 1) 2 0) { stripe_size = 64 } ∷ []) ≡ Some (BadStripe 128 64) ∷ None ∷ None ∷ []
+row_stripe_pieces : map (λ (new : NewVolume). stripe_row 64 new.stripes new.stripe_size) (wanted (Extents 1) 2 0 ∷ wanted (Extents 1) 1 0 ∷ record (wanted (Extents 1) 2 0) { stripe_size = 64 } ∷ []) ≡ Some (BadStripe 128 64) ∷ None ∷ None ∷ []
 row_stripe_pieces = refl
+
+-- of a group the first volume whose pieces don't divide an extent, 0 sectors among them; one of a single leg has no pieces
+row_stripes_of :
+    map
+    (λ (kind : SegKind). stripes_row (group (lv (codes "s") 7 true (striped ∷ []) ∷ lv (codes "t") 8 true (striped ∷ segment 6 6 kind ∷ []) ∷ [])))
+    (Striped 256 (leg 0 6 ∷ leg 1 6 ∷ []) ∷ Striped 192 (leg 0 6 ∷ leg 1 6 ∷ []) ∷ Striped 0 (leg 0 6 ∷ leg 1 6 ∷ []) ∷ Striped 0 (leg 0 6 ∷ []) ∷ [])
+    ≡ None ∷ Some (BadStripe 192 8192) ∷ Some (BadStripe 0 8192) ∷ None ∷ []
+row_stripes_of = refl
 
 -- volumes beside a limit of three and of none
 row_volumes : map (many_row 1024 3) (3 ∷ 4 ∷ 1025 ∷ []) ≡ None ∷ Some (TooMany 4 3) ∷ Some (TooMany 1025 1024) ∷ []

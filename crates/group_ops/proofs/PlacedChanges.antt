@@ -86,7 +86,7 @@ restore_placed state vg now None group none = tt
 restore_placed state vg now (Some backup) None none = tt
 restore_placed state vg now (Some (Unread kind)) (Some found) none = tt
 restore_placed state vg now (Some (Broken said rule)) (Some found) none = tt
-restore_placed state vg now (Some (Sound said)) (Some found) none = let rows = none_holds (restore_rows state vg (Sound said) now found) none in restored_placed found said state.disks rows.1.1.1.1.1.1.0
+restore_placed state vg now (Some (Sound said)) (Some found) none = let rows = none_holds (restore_rows state vg (Sound said) now found) none in restored_placed found said state.disks rows.1.1.1.1.1.1.1.0
 
 leaving_placed : (state : GroupState) (group : Group) (number : Option ℕ) → ArePlaced state.disks (Some group) → ArePlaced state.disks (option_map_or (leaving_change state group) number (no_change state)).group
 leaving_placed state group None placed = tt

@@ -15,16 +15,16 @@ use Rattle.meta_model.specs.declared.segment.Segment.{Segment}
 use Rattle.volume_rules.specs.Extents.{extents_of}
 use Rattle.volume_rules.specs.Rules.{IsAccepted}
 use Rattle.group_edits.proofs.OneNamed.{IsVisibleAt, visible_at}
-use Rattle.group_edits.proofs.Shortened.{extents_few, legs_few, may_keep}
+use Rattle.group_edits.proofs.Shortened.{extents_few, keeps_within, legs_few, may_keep}
 use Rattle.group_edits.specs.ShortenedVolume.{HasFewLegs, MayKeep, is_layered, kept_of, parts_of, shortened_volume}
 use Rattle.group_edits.specs.Visible.{IsVisible, visible_named}
 use Rattle.group_ops.proofs.Chained.{plans_back}
 use Rattle.group_ops.proofs.Rows.{test_fails}
 use Rattle.group_ops.specs.Committing.{length_row, no_area_row, seqno_row, version_change}
 use Rattle.group_ops.specs.Judging.{first_refusal}
-use Rattle.group_ops.specs.Lvreduce.{kept_by, reduce_lv_rows, reduced_group, shorter_row}
+use Rattle.group_ops.specs.Lvreduce.{reduce_lv_rows, reduced_group, shorter_row}
 use Rattle.group_ops.specs.Planning.{Plans}
-use Rattle.group_ops.specs.Sizes.{IsAmount, extents_for}
+use Rattle.group_ops.specs.Sizes.{IsAmount, extents_for, kept_by}
 use Rattle.group_ops.specs.Volumes.{layered_row, locked_row}
 use Rattle.group_ops.specs.declared.refusal.PlanRefusal.{PlanRefusal}
 use Rattle.group_ops.specs.declared.state.Change.{Change}
@@ -69,6 +69,10 @@ module _ (group : Group) (accepted : IsAccepted group) (name : List ℕ) (number
 
   pub has_few_extents : extents_of lv < 2 ^ 48
   has_few_extents = subst (λ (v : Lv). extents_of v < 2 ^ 48) at.volume (extents_few group accepted at.k at.row at.there)
+
+  -- it keeps no more than it has, where no more is said
+  pub keeps_no_more : (said : ℕ) → said ≤ extents_of lv → kept_of lv.segments said ≤ extents_of lv
+  keeps_no_more said = subst (λ (v : Lv). said ≤ extents_of v → kept_of v.segments said ≤ extents_of v) at.volume (keeps_within group accepted at.k at.row at.there said)
 
   -- where the rows on it pass
   pub may_be_cut : (said : ℕ) → 1 ≤ said → layered_row name lv ≡ None → shorter_row (kept_of lv.segments said) (extents_of lv) ≡ None → MayKeep (kept_of lv.segments said) lv

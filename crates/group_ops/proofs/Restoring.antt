@@ -49,7 +49,7 @@ sound_tree text said (inr gives) = (gives.2.1, record { text = text; tree = give
 
 backup_restores : (state : GroupState) (now : ℕ) (old : Group) (backup : Backup) → state.backup ≡ Some backup → state.group ≡ Some old → first_refusal (backup_rows state old backup now) ≡ None → Restores state (backup_change state backup old) now
 backup_restores state now old (Unread kind) gives there none = absurd (let rows = none_holds (unread_rows old kind) none in let third = rows.1.1.0 in cc)
-backup_restores state now old (Broken said rule) gives there none = absurd (let rows = none_holds (broken_rows state old said rule) none in let fifth = rows.1.1.1.1.0 in cc)
+backup_restores state now old (Broken said rule) gives there none = absurd (let rows = none_holds (broken_rows state old said rule) none in let last = rows.1.1.1.1.1.0 in cc)
 backup_restores state now old (Sound said) gives there none =
     let next : Group = restored_group old said in
     let tests : first_refusal (sound_tests state old said) ≡ None = back_passes (sound_tests state old said) (length_row_on state (disks_of said state.disks) next now ∷ []) none in
@@ -61,12 +61,12 @@ backup_restores state now old (Sound said) gives there none =
       said = said;
       gives = gives;
       change_xl = refl;
-      same_id = same_bytes_tells said.id old.id (test_holds (same_bytes said.id old.id) _ rows.1.1.1.1.1.0);
-      same_name = same_bytes_tells said.name old.name (test_holds (same_bytes said.name old.name) _ rows.1.1.1.1.1.1.0);
+      same_id = same_bytes_tells said.id old.id (test_holds (same_bytes said.id old.id) _ rows.1.1.1.1.1.1.0);
+      same_name = same_bytes_tells said.name old.name (test_holds (same_bytes said.name old.name) _ rows.1.1.1.1.1.1.1.0);
       listed = λ is. sound_listed state is old said there tests;
       has_area = λ is. subst (λ (disks : List ℕ). area_row state.areas disks ≡ None) (disks_all_held state said (sound_listed state is old said there tests)) rows.1.0;
-      fits = rows.1.1.1.1.1.1.1.1.0;
-      placed = restored_placed old said state.disks rows.1.1.1.1.0;
+      fits = rows.1.1.1.1.1.1.1.1.1.0;
+      placed = restored_placed old said state.disks rows.1.1.1.1.1.0;
       whole = λ old_is said_is tree. restored_whole old said seqnos.0 seqnos.1 old_is said_is tree;
     }
 

@@ -15,7 +15,7 @@ use Rattle.meta_model.specs.declared.group.Group.{Group}
 use Rattle.meta_model.specs.declared.pv.Pv.{Pv}
 use Rattle.scan_rules.specs.Decision.{same_bytes}
 use Rattle.scan_rules.proofs.Scanning.{same_bytes_tells}
-use Rattle.scan_rules.proofs.Steps.{next_got}
+use Rattle.sector_base.proofs.Walks.{next_got}
 use Rattle.vg_found.specs.declared.disk.Disk.{Disk}
 use Rattle.vg_found.specs.Disks.{disk_with, disks_of}
 use Rattle.group_ops.proofs.Passed.{both_false}
@@ -33,7 +33,7 @@ use Rattle.group_ops.specs.declared.state.GroupState.{GroupState}
 pub sound_seqnos : (state : GroupState) (found said : Group) → first_refusal (sound_tests state found said) ≡ None → (found.seqno ≢ 4294967295) × (said.seqno ≢ 4294967295)
 sound_seqnos state found said none =
     let rows = none_holds (sound_tests state found said) none in
-    let parts = both_false (found.seqno == 4294967295) (said.seqno == 4294967295) (test_fails (found.seqno == 4294967295 || said.seqno == 4294967295) SeqnoEnd rows.1.1.1.0) in
+    let parts = both_false (found.seqno == 4294967295) (said.seqno == 4294967295) (test_fails (found.seqno == 4294967295 || said.seqno == 4294967295) SeqnoEnd rows.1.1.1.1.0) in
     (λ same. true≢false (sym (eq-eqb found.seqno 4294967295 same) ∙ parts.0), λ same. true≢false (sym (eq-eqb said.seqno 4294967295 same) ∙ parts.1))
 
 -- ---- physical volumes
@@ -76,7 +76,7 @@ module _ (P : ℕ → Type 0) (disks : List Disk) where
 sound_on : (P : ℕ → Type 0) (state : GroupState) → IsState state → (found said : Group) → state.group ≡ Some found → All P state.disk_of → first_refusal (sound_tests state found said) ≡ None → All P (disks_of said state.disks)
 sound_on P state is found said there holds none =
     let rows = none_holds (sound_tests state found said) none in
-    let lacked = both_false (is_some (id_lacked found said)) (is_some (id_lacked said found)) (test_fails (is_some (id_lacked found said) || is_some (id_lacked said found)) _ rows.1.1.1.1.1.1.1.0) in
+    let lacked = both_false (is_some (id_lacked found said)) (is_some (id_lacked said found)) (test_fails (is_some (id_lacked found said) || is_some (id_lacked said found)) _ rows.1.1.1.1.1.1.1.1.0) in
     let all : All P (disks_of found state.disks) = subst (All P) (listed_are state found is there) holds in
     All-from_recursion P (disks_of said state.disks)
     (on_all P state.disks found said.pvs (recursion_from_All P (disks_of found state.disks) all) (all_listed found said.pvs (no_some (id_lacked found said) lacked.0)))

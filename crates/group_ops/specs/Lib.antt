@@ -19,6 +19,7 @@ pub mod Planning
 pub mod Pvcreate
 pub mod Sizes
 pub mod State
+pub mod Stripes
 pub mod Vgcfgrestore
 pub mod Vgcreate
 pub mod Vgextend

@@ -1,5 +1,5 @@
 -- lvcreate(8): the rows of its refusals, and its change.
-use Rattle.std.specs.Prelude.{◌≡◌, ◌≤◌, ◌<◌, ℕ, ◌+◌, ◌*◌, ◌%◌, ◌^◌, ◌==◌, ◌&&◌, ◌||◌, not, nat_lt, if◌then◌else◌, List, [], ◌∷◌, ◌++◌, length, Option, None, Some, option_map, slice_get, slice_index}
+use Rattle.std.specs.Prelude.{◌≡◌, ◌≤◌, ◌<◌, ℕ, ◌+◌, ◌*◌, ◌^◌, ◌||◌, nat_lt, if◌then◌else◌, List, [], ◌∷◌, ◌++◌, length, Option, None, Some, option_map, slice_get, slice_index}
 use Rattle.std.specs.FinSet as set
 use Rattle.std.specs.Option.{option_and_then, option_map_or}
 use Rattle.std.specs.Ordering.{nat_cmp}
@@ -9,7 +9,7 @@ use Rattle.extent_alloc.specs.declared.request.Request.{Request}
 use Rattle.lvm_name.specs.Names.{volume_name_refusal}
 use Rattle.lvm_script.specs.declared.command.NewVolume.{NewVolume}
 use Rattle.lvm_script.specs.declared.op_refusal.OpRefusal.{OpRefusal}
-use Rattle.lvm_script.specs.declared.op_refusal.OpRefusal.TheVariants.{BadStripe, IdTaken}
+use Rattle.lvm_script.specs.declared.op_refusal.OpRefusal.TheVariants.{IdTaken}
 use Rattle.meta_model.specs.declared.group.Group.{Group}
 use Rattle.meta_model.specs.declared.pv.Pv.{Pv}
 use Rattle.meta_model.specs.declared.segment.SegKind.{SegKind}
@@ -25,6 +25,7 @@ use Rattle.group_ops.specs.Judging.{many_row, refused_if, stands_on_disk, unknow
 use Rattle.group_ops.specs.Members.{outside_row, pvs_named}
 use Rattle.group_ops.specs.Sizes.{IsAmount, extents_for}
 use Rattle.group_ops.specs.Volumes.{taken_row}
+use Rattle.group_ops.specs.Stripes.{stripe_row}
 use Rattle.group_ops.specs.declared.state.Change.{Change}
 use Rattle.group_ops.specs.declared.state.GroupState.{GroupState}
 
@@ -62,10 +63,6 @@ want_for state group new = want_on (pvs_named state new.pvs) group.extent_size n
 
 -- ---- rows
 
--- it has several stripes, and their pieces don't divide an extent
-abbrev pub stripe_row : ℕ → NewVolume → Option OpRefusal
-stripe_row extent_size new = refused_if (nat_lt 1 new.stripes && not (extent_size % new.stripe_size == 0)) (BadStripe new.stripe_size extent_size)
-
 -- the drawn id stands in the group or on a disk
 abbrev pub id_row : GroupState → Group → List ℕ → Option OpRefusal
 id_row state group id = refused_if (has_any_id group id || stands_on_disk id state.disks) (IdTaken id)
@@ -78,7 +75,7 @@ name_rows state new group = named_rows group new.vg ++ taken_row group new.lv �
 abbrev pub limit_rows : GroupState → List ℕ → NewVolume → Group → List (Option OpRefusal)
 limit_rows state id new group =
     no_area_row state
-    ∷ stripe_row group.extent_size new
+    ∷ stripe_row group.extent_size new.stripes new.stripe_size
     ∷ many_row 1024 group.max_lv (length group.lvs + 1)
     ∷ seqno_row group
     ∷ id_row state group id

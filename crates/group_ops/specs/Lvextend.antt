@@ -22,7 +22,7 @@ use Rattle.group_ops.specs.Allocating.{Asking, segments_row, space_row}
 use Rattle.group_ops.specs.Committing.{change_where_found, length_row, named_rows, no_area_row, rows_where_found, seqno_row, version_change}
 use Rattle.group_ops.specs.Judging.{refused_if, unknown_row}
 use Rattle.group_ops.specs.Members.{outside_row, pvs_named}
-use Rattle.group_ops.specs.Sizes.{extents_for, growth_for}
+use Rattle.group_ops.specs.Sizes.{growth_for, kept_by}
 use Rattle.group_ops.specs.Volumes.{layered_row, locked_row, rows_on}
 use Rattle.group_ops.specs.declared.state.Change.{Change}
 use Rattle.group_ops.specs.declared.state.GroupState.{GroupState}
@@ -44,10 +44,10 @@ more_for state group growth pvs lv = more_on (pvs_named state pvs) (growth_for g
 
 -- ---- rows
 
--- the volume has so many extents, and is to have no more
-abbrev pub longer_row : ℕ → ℕ → Growth → Option OpRefusal
-longer_row extent_size has (To amount) = refused_if (nat_le (extents_for extent_size amount) has) (NotLonger (extents_for extent_size amount) has)
-longer_row extent_size has (By amount) = None
+-- the volume has as many extents as it is to have, or more
+abbrev pub longer_row : ℕ → Lv → Growth → Option OpRefusal
+longer_row extent_size lv (To amount) = refused_if (nat_le (kept_by extent_size amount lv) (extents_of lv)) (NotLonger (kept_by extent_size amount lv) (extents_of lv))
+longer_row extent_size lv (By amount) = None
 
 -- the rows on the volume with this number, before the allocator's
 abbrev pub growth_rows : GroupState → List ℕ → Growth → List (List ℕ) → Group → ℕ × Lv → List (Option OpRefusal)
@@ -57,7 +57,7 @@ growth_rows state name growth pvs group volume =
     ∷ locked_row group name volume.0
     ∷ layered_row name volume.1
     ∷ no_area_row state
-    ∷ longer_row group.extent_size (extents_of volume.1) growth
+    ∷ longer_row group.extent_size volume.1 growth
     ∷ seqno_row group
     ∷ []
 

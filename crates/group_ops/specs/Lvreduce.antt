@@ -8,18 +8,14 @@ use Rattle.lvm_script.specs.declared.op_refusal.OpRefusal.TheVariants.{NotShorte
 use Rattle.meta_model.specs.declared.group.Group.{Group}
 use Rattle.meta_model.specs.declared.lv.Lv.{Lv}
 use Rattle.volume_rules.specs.Extents.{extents_of}
-use Rattle.group_edits.specs.ShortenedVolume.{kept_of, shortened_volume}
+use Rattle.group_edits.specs.ShortenedVolume.{shortened_volume}
 use Rattle.group_edits.specs.Visible.{visible_named}
 use Rattle.group_ops.specs.Committing.{change_where_found, length_row, named_rows, no_area_row, no_change, rows_where_found, seqno_row, version_change}
 use Rattle.group_ops.specs.Judging.{refused_if}
-use Rattle.group_ops.specs.Sizes.{extents_for}
+use Rattle.group_ops.specs.Sizes.{kept_by}
 use Rattle.group_ops.specs.Volumes.{layered_row, locked_row, rows_on}
 use Rattle.group_ops.specs.declared.state.Change.{Change}
 use Rattle.group_ops.specs.declared.state.GroupState.{GroupState}
-
--- how many extents the volume keeps, where they have so many sectors
-abbrev pub kept_by : ℕ → Amount → Lv → ℕ
-kept_by extent_size amount lv = kept_of lv.segments (extents_for extent_size amount)
 
 -- this group, in which this volume of this name keeps so much
 abbrev pub reduced_group : List ℕ → Amount → Group → Lv → Group

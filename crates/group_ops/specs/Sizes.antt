@@ -4,12 +4,17 @@ use Rattle.lvm_script.specs.declared.amount.Amount.{Amount}
 use Rattle.lvm_script.specs.declared.amount.Amount.TheVariants.{Extents, Sectors}
 use Rattle.lvm_script.specs.declared.amount.Growth.{Growth}
 use Rattle.lvm_script.specs.declared.amount.Growth.TheVariants.{By, To}
-use Rattle.group_edits.specs.ShortenedVolume.{parts_of}
+use Rattle.meta_model.specs.declared.lv.Lv.{Lv}
+use Rattle.group_edits.specs.ShortenedVolume.{kept_of, parts_of}
 
 -- an amount in extents of so many sectors, a size rounded up to whole ones
 abbrev pub extents_for : ℕ → Amount → ℕ
 extents_for extent_size (Extents count) = count
 extents_for extent_size (Sectors count) = parts_of count extent_size
+
+-- the same of a volume whose extents have so many sectors, rounded up to whole stripes of the segment that it ends in
+abbrev pub kept_by : ℕ → Amount → Lv → ℕ
+kept_by extent_size amount lv = kept_of lv.segments (extents_for extent_size amount)
 
 -- how many extents more than it has a volume is to have
 abbrev pub growth_for : ℕ → ℕ → Growth → ℕ

@@ -8,11 +8,11 @@ use Rattle.lvm_id.specs.LvmId.{hyphen_form}
 use Rattle.lvm_script.specs.declared.op_refusal.OpRefusal.{OpRefusal}
 use Rattle.lvm_script.specs.declared.op_refusal.OpRefusal.TheVariants.{BadRule, BadText, MoveStands, OtherGroup, SeqnoEnd}
 use Rattle.meta_model.specs.declared.group.Group.{Group}
-use Rattle.meta_model.specs.declared.lv.Lv.{Lv}
 use Rattle.meta_model.specs.declared.pv.Pv.{Pv}
 use Rattle.scan_rules.specs.Decision.{has_misplaced, same_bytes}
 use Rattle.vg_found.specs.Disks.{disk_shape, disks_of}
 use Rattle.vg_found.specs.declared.disk.Disk.{Disk}
+use Rattle.volume_rules.specs.Moving.{has_move}
 use Rattle.volume_rules.specs.Rules.{number_of}
 use Rattle.volume_rules.specs.declared.rule.Rule.{Rule}
 use Rattle.group_edits.specs.RestoredGroup.{restored_group}
@@ -20,14 +20,11 @@ use Rattle.group_ops.specs.Committing.{change_where_found, length_row_on, named_
 use Rattle.group_ops.specs.Ids.{has_pv_id}
 use Rattle.group_ops.specs.Judging.{area_row, refused_if}
 use Rattle.group_ops.specs.Limits.{limits_row}
+use Rattle.group_ops.specs.Stripes.{stripes_row}
 use Rattle.group_ops.specs.declared.backup.Backup.{Backup}
 use Rattle.group_ops.specs.declared.backup.Backup.TheVariants.{Broken, Sound, Unread}
 use Rattle.group_ops.specs.declared.state.Change.{Change}
 use Rattle.group_ops.specs.declared.state.GroupState.{GroupState}
-
--- a move stands in the group
-abbrev pub has_move : Group → Bool
-has_move group = list_any (λ (lv : List ℕ × Lv). lv.1.status.pvmove) group.lvs
 
 -- ---- another group
 
@@ -79,12 +76,13 @@ shape_row group disks = refused_if (list_any (is_misshapen group) disks) (BadRul
 abbrev pub disks_held : Group → List Disk → List ℕ
 disks_held said disks = filter (λ disk. nat_lt disk (length disks)) (disks_of said disks)
 
--- the rows on both groups: a move stands in one of them, none of the disks of the text's has a metadata area, it has too many volumes
--- or segments, or one of them has the last number of a version
+-- the rows on both groups: a move stands in one of them, none of the disks of the text's has a metadata area, pieces of its stripes
+-- don't divide an extent, it has too many volumes or segments, or one of them has the last number of a version
 abbrev pub both_rows : GroupState → Group → Group → List (Option OpRefusal)
 both_rows state found said =
     refused_if (has_move found || has_move said) MoveStands
     ∷ area_row state.areas (disks_held said state.disks)
+    ∷ stripes_row said
     ∷ limits_row said
     ∷ refused_if (found.seqno == 4294967295 || said.seqno == 4294967295) SeqnoEnd
     ∷ []

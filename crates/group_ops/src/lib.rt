@@ -31,6 +31,7 @@ mod refusal;
 mod shape;
 mod sizes;
 mod state;
+mod stripes;
 mod vgcfgrestore;
 mod vgcreate;
 mod vgextend;

@@ -19,6 +19,7 @@ use crate::ids::has_id;
 use crate::judging::{judge_areas, judge_count, stands_on_disk};
 use crate::members::{judge_members, pvs_named};
 use crate::sizes::extents_for;
+use crate::stripes::judge_stripe;
 use crate::volumes::judge_name;
 use crate::{Change, GroupState, PlanRefusal, Spans};
 use extent_alloc::{Given, Part, PartRun, Request};
@@ -120,25 +121,13 @@ fn judge_limits(
 ) -> Result<(), PlanRefusal>
     requires disks { All (λ number. number < 64) state.now.disk_of }
     requires few { length group.now.lvs ≤ 1024 }
-    requires stripe { 8 ≤ new.now.stripe_size }
     ensures { Judges result (first_refusal (specs.limit_rows state.now id.now new.now group.now)) }
 {
     judge_areas(state.areas.as_slice(), state.disk_of.as_slice())?;
-    judge_stripe(group.extent_size, new)?;
+    judge_stripe(group.extent_size, new.stripes, new.stripe_size)?;
     judge_count(MOST_LVS, group.max_lv, group.lvs.len() as u64 + 1)?;
     judge_seqno(group)?;
     judge_id(state, group, id)
-}
-
-// The pieces of several stripes divide an extent of so many sectors: else `BadStripe`.
-fn judge_stripe(extent_size: u64, new: &NewVolume) -> Result<(), PlanRefusal>
-    requires { 8 ≤ new.now.stripe_size }
-    ensures { Judges result (specs.stripe_row extent_size new.now) }
-{
-    if new.stripes > 1 && extent_size % new.stripe_size != 0 {
-        return Err(PlanRefusal::Refused(OpRefusal::BadStripe(new.stripe_size, extent_size)));
-    }
-    Ok(())
 }
 
 // The id stands neither in the group nor on a disk: else `IdTaken`.

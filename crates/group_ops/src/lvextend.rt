@@ -2,6 +2,7 @@
 ghost use Rattle.std.specs.Prelude.{◌≡◌, ◌≢◌, ◌≤◌, ◌<◌, ◌^◌, ◌+◌, ◌++◌, ℕ, List, [], Some, All, IsSomeAnd, length};
 ghost use Rattle.extent_alloc.specs.declared.part.Part.{Part};
 ghost use Rattle.meta_model.specs.declared.lv.Lv.{Lv as Volume};
+ghost use Rattle.meta_model.specs.declared.segment.Segment.{Segment as Row};
 ghost use Rattle.volume_rules.specs.Extents.{extents_of};
 ghost use Rattle.volume_rules.specs.Rules.{IsAccepted};
 ghost use Rattle.group_edits.specs.GivenSegments.{segments_in};
@@ -25,7 +26,7 @@ use crate::sizes::{extents_for, growth_for};
 use crate::volumes::{judge_layers, judge_lock};
 use crate::{Change, GroupState, PlanRefusal};
 use extent_alloc::{Given, Request};
-use group_edits::{extents, find_visible, longer_volume};
+use group_edits::{extents, find_visible, kept_extents, longer_volume};
 use lvm_script::{Growth, OpRefusal, Path};
 use meta_model::{Group, Lv, SegKind};
 use sector_base::{PvSet, Text};
@@ -134,6 +135,7 @@ fn judge_growth(
     requires accepted { IsAccepted group.now }
     requires size { 1 ≤ group.now.extent_size }
     requires volume { extents_of lv.now < 2 ^ 48 }
+    requires legs { All (λ (segment : Row). HasFewLegs segment.kind) lv.now.segments }
     ensures { Judges result (first_refusal (specs.growth_rows state.now name.now growth pvs.now group.now (number, lv.now))) }
 {
     judge_known(alloc, state, pvs)?;
@@ -149,13 +151,14 @@ fn judge_growth(
 fn judge_longer(extent_size: u64, lv: &Lv, growth: Growth) -> Result<(), PlanRefusal>
     requires size { 1 ≤ extent_size }
     requires volume { extents_of lv.now < 2 ^ 48 }
-    ensures { Judges result (specs.longer_row extent_size (extents_of lv.now) growth) }
+    requires legs { All (λ (segment : Row). HasFewLegs segment.kind) lv.now.segments }
+    ensures { Judges result (specs.longer_row extent_size lv.now growth) }
 {
     if let Growth::To(amount) = growth {
-        let said = extents_for(extent_size, amount);
+        let kept = kept_extents(lv, extents_for(extent_size, amount));
         let has = extents(lv);
-        if said <= has {
-            return Err(PlanRefusal::Refused(OpRefusal::NotLonger(said, has)));
+        if kept <= has {
+            return Err(PlanRefusal::Refused(OpRefusal::NotLonger(kept, has)));
         }
     }
     Ok(())

@@ -2,12 +2,13 @@
 ghost use Rattle.std.specs.Prelude.{◌≡◌, ◌≤◌, ◌||◌, ◌==◌, Some, IfOk, IsTrue, is_some, length};
 ghost use Rattle.lvm_script.specs.declared.op_refusal.OpRefusal.TheVariants.{MoveStands, SeqnoEnd};
 ghost use Rattle.vg_found.specs.Disks.{disks_of};
+ghost use Rattle.volume_rules.specs.Moving.{has_move};
 ghost use Rattle.group_edits.specs.RestoredGroup.{restored_group};
 ghost use Rattle.group_ops.specs.Committing.{change_where_found, rows_where_found, version_change_on};
 ghost use Rattle.group_ops.specs.Judging.{IsRefusedBy, Judges, first_refusal, refused_if};
 ghost use Rattle.group_ops.specs.Planning.{Plans};
 ghost use Rattle.group_ops.specs.State.{IsState};
-ghost use Rattle.group_ops.specs.Vgcfgrestore.{backup_change, backup_rows, both_rows, broken_rows, disks_held, has_move, restore_rows, sound_rows, sound_tests, unread_rows, vgcfgrestore_change, vgcfgrestore_rows};
+ghost use Rattle.group_ops.specs.Vgcfgrestore.{backup_change, backup_rows, both_rows, broken_rows, disks_held, restore_rows, sound_rows, sound_tests, unread_rows, vgcfgrestore_change, vgcfgrestore_rows};
 
 use crate::committing::{LAST_SEQNO, commit_version_on, judge_named, unknown_group};
 use crate::copied::copied_text;
@@ -15,12 +16,14 @@ use crate::judging::judge_areas;
 use crate::limits::judge_limits;
 use crate::other_group::judge_other;
 use crate::shape::judge_shape;
+use crate::stripes::judge_stripes;
 use crate::{Backup, Change, GroupState, PlanRefusal};
 use group_edits::restored_group;
 use id_index::Members;
 use lvm_script::OpRefusal;
 use meta_model::Group;
 use sector_base::{PvDisks, Text};
+use seg_place::has_move;
 use std::alloc::{AllocError, Global};
 use vg_check::Checked;
 use vg_found::{Disk, disks_of};
@@ -31,7 +34,7 @@ use volume_rules::Rule;
 /// # Errors
 ///
 /// `UnknownGroup` where no group, or one of another name, was found; `ReadOnly`; `MoveStands` where a move stands in that group
-/// or in the text's; `NoArea`; `TooMany`; `SeqnoEnd` where either has the last number of a version; `BadText`, `BadRule`, `OtherGroup` or
+/// or in the text's; `NoArea`; `BadStripe` where the pieces of stripes of the text's don't divide an extent; `TooMany`; `SeqnoEnd` where either has the last number of a version; `BadText`, `BadRule`, `OtherGroup` or
 /// `TooLarge`: the first of these. `NoMemory` where memory is wanting.
 pub fn plan_vgcfgrestore(
     alloc: Global,
@@ -170,8 +173,8 @@ fn refuse_broken(
     }
 }
 
-// The rows on the group that was found and that of the text: a move, an area for its text, how many volumes and segments, and the
-// number of the version.
+// The rows on the group that was found and that of the text: a move, an area for its text, the pieces of stripes, how many volumes
+// and segments, and the number of the version.
 fn judge_both(
     alloc: Global,
     state: &GroupState,
@@ -184,6 +187,7 @@ fn judge_both(
     judge_moves(found, said)?;
     let held = disks_held(alloc, said, state.disks.as_slice())?;
     judge_areas(state.areas.as_slice(), held.as_slice())?;
+    judge_stripes(said)?;
     judge_limits(said)?;
     judge_last(found, said)
 }
@@ -221,17 +225,4 @@ fn judge_last(found: &Group, said: &Group) -> Result<(), PlanRefusal>
         return Err(PlanRefusal::Refused(OpRefusal::SeqnoEnd));
     }
     Ok(())
-}
-
-// Whether a move stands in the group.
-fn has_move(group: &Group) -> bool
-    ensures { result ≡ has_move group.now }
-{
-    for place in 0..group.lvs.len() {
-        let (_, lv) = group.lvs.get(place);
-        if lv.status.pvmove {
-            return true;
-        }
-    }
-    false
 }

@@ -1,7 +1,7 @@
 use Rattle.std.proofs.Common.{List, ℕ, sym, ◌∙◌}
 use Rattle.meta_model.specs.declared.lv.Lv.{Lv}
 use Rattle.scan_rules.specs.Decision.{same_bytes}
-use Rattle.scan_rules.proofs.Steps.{any_here, any_past}
+use Rattle.sector_base.proofs.Walks.{any_here, any_past}
 use Rattle.group_ops.specs.Ids.{has_lv_id}
 use Rattle.group_ops.proofs.ids.has_lv_id.Goals as goal
 

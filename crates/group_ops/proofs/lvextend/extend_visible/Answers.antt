@@ -8,7 +8,7 @@ use Rattle.volume_rules.specs.declared.rule.Rule.TheVariants.{Numbers}
 use Rattle.group_ops.proofs.Extending.{growth_passes, grows_if, has_last_legs, has_segment, is_request, more_is, planned_volume, refused_growth, refused_space}
 use Rattle.group_ops.proofs.GivenParts.{few_parts}
 use Rattle.group_ops.proofs.PlacedGroup.{few_listed, lie_on_disks}
-use Rattle.group_ops.proofs.Reducing.{has_few_extents}
+use Rattle.group_ops.proofs.Reducing.{has_few_extents, has_few_legs}
 use Rattle.group_ops.specs.Judging.{first_refusal}
 use Rattle.group_ops.specs.Lvextend.{growth_rows}
 use Rattle.group_ops.proofs.lvextend.extend_visible.Goals as goal
@@ -21,6 +21,9 @@ judge_growth-requires-clause-size c = let least = (c.group-found.ensures.accepte
 
 pub judge_growth-requires-clause-volume : goal.judge_growth-requires-clause-volume
 judge_growth-requires-clause-volume c = has_few_extents c.args.group.now (subst IsAccepted c.group-found.ensures.group c.group-found.ensures.accepted) c.args.name.now c.args.number c.args.lv.now c.requires.volume
+
+pub judge_growth-requires-clause-legs : goal.judge_growth-requires-clause-legs
+judge_growth-requires-clause-legs c = has_few_legs c.args.group.now (subst IsAccepted c.group-found.ensures.group c.group-found.ensures.accepted) c.args.name.now c.args.number c.args.lv.now c.requires.volume
 
 pub returns-in_err-judge_growth : goal.returns-in_err-judge_growth
 returns-in_err-judge_growth c =
