@@ -197,4 +197,5 @@ scan_kept base image sizes found shape same scan = record {
   are = record { sizes_xl = scan.are.sizes_xl; each = readings_kept base image found.disks (λ pv disk there. (shape.disks pv disk there).0) same found.unread scan.readings scan.are.each };
   answer = scan.answer;
   areas = scan.areas;
+  disk_of = scan.disk_of;
 }

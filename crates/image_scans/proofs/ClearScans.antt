@@ -1,5 +1,5 @@
 -- What a scan finds while disks are cleared behind a commit: the version that was committed.
-use Rattle.std.proofs.Common.{◌≡◌, ℕ, ◌+◌, ◌/◌, true, false, List, [], get_or, Option, Some, None, inl, ⊎_elim, refl, sym, subst, ◌∙◌, arith}
+use Rattle.std.proofs.Common.{◌≡◌, ℕ, ◌+◌, ◌/◌, true, false, List, [], get_or, Option, Some, None, ⊎_elim, refl, sym, subst, ◌∙◌, arith}
 use Rattle.std.specs.Prelude.{slice_get}
 use Rattle.std.specs.FinSet as set
 use Rattle.std.proofs.lemmas.Bool.{cases_Bool, true≢false}
@@ -93,7 +93,7 @@ module _ (base : Image) (sizes : List ℕ) (found : Found) (names : List (List �
         (disk_bare made (0 + k) (committed (0 + k)) (lists group) disk reading (disk_reads base sizes found names backup line now given p group makes next committed all_committed k disk reading at_disk at_reading is)))
         (λ off.
         disk_cleared found.disks found.areas scanned change.cleared p.keeps.clears committed image h base (shown base sizes found names backup line now given p) (printed (tree_of group now)) group [] (copy base sizes found names backup line now given p group makes next)
-        (lists group) any_bare (inl (λ id r. refl)) (0 + k) (other_same (0 + k) off) disk (subst (λ (n : ℕ). slice_get found.disks n ≡ Some disk) (omega arith) at_disk) reading is (any_pv reading.pv))
+        (lists group) any_bare (λ id r. refl) (0 + k) (other_same (0 + k) off) disk (subst (λ (n : ℕ). slice_get found.disks n ≡ Some disk) (omega arith) at_disk) reading is (any_pv reading.pv))
         (cases_Bool (set.contains (set_of change.disk_of) (0 + k)))
 
     reads : AllAgain image found.unread 0 (lists group) any_bare made found.disks p.scan.readings

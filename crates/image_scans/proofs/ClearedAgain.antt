@@ -24,7 +24,6 @@ use Rattle.disk_contents.specs.Standing.{area_on}
 use Rattle.scan_rules.specs.Decision.{Area as AreaOf, AreaReading, Copy, Found as PvOf, Reading}
 use Rattle.vg_commit.proofs.Disks.{no_area}
 use Rattle.vg_commit.specs.SectorReading.{IsSized, ShowsBy, old_reading}
-use Rattle.vg_commit.specs.Showing.{sectors_of}
 use Rattle.vg_found.specs.declared.disk.Disk.{Disk}
 use Rattle.vg_found.specs.Disks.{areas_on, held_area, held_areas, header_on}
 use Rattle.vg_found.specs.Shape.{ContentsCanStand}
@@ -168,11 +167,7 @@ module _ (disks : List Disk) (areas : List (Area × Option Locn)) (scanned : Are
 
   -- ---- a disk that the base has too
 
-  -- any area may hold nothing, or no header is written yet
-  abbrev pub AnyOrNone : (List ℕ → AreaReading → Bool) → Type 0
-  AnyOrNone bare = ((id : List ℕ) (r : AreaReading) → bare id r ≡ true) ⊎ All (λ (area : Area × Option Locn). sectors_of area.0 image 0 ≡ sectors_of area.0 mid 0) on
-
-  module _ (base : Image) (names : ShowsEntries areas base) (text : List ℕ) (group : Group) (passed : List (List ℕ)) (copy : IsCopyOf text group passed) (may : List ℕ → Bool) (bare : List ℕ → AreaReading → Bool) (which : AnyOrNone bare)
+  module _ (base : Image) (names : ShowsEntries areas base) (text : List ℕ) (group : Group) (passed : List (List ℕ)) (copy : IsCopyOf text group passed) (may : List ℕ → Bool) (bare : List ℕ → AreaReading → Bool) (any : (id : List ℕ) (r : AreaReading) → bare id r ≡ true)
       (pv : ℕ) (same_base : (sector : ℕ) → mid pv sector ≡ base pv sector) (disk : Disk) (there : slice_get disks pv ≡ Some disk) where
     -- without a header nothing of it is written
     bare_same : header_on disk.contents ≡ None → (sector : ℕ) → image pv sector ≡ base pv sector
@@ -252,17 +247,6 @@ module _ (disks : List Disk) (areas : List (Area × Option Locn)) (scanned : Are
             let takes : CanTake (get_or on w.number no_area) = clear_takes pv sector value w in
             area_met disks scanned.each pv disk there label header found is k d within (get_or on w.number no_area) (cleared_on w.number no_area w.among) w.disk sector (omega (arith, w.at)) (omega (arith, w.at, takes.0.has_ring)) from to
 
-        -- a header that is empty now was cleared, or no header is
-        gone_or_same : IsClearWrite on pv (area.area.offset / 512) (image pv (area.area.offset / 512)) → AnyOrNone bare → IsCleared pv image (bare header.id) area ⊎ (image pv (area.area.offset / 512) ≡ base pv (area.area.offset / 512))
-        gone_or_same clear (inl any) =
-            let sector : ℕ = area.area.offset / 512 in
-            inl (get_or on clear.number no_area, clear_met sector (image pv sector) clear (omega arith) (omega (arith, placed.some)), clear_takes pv sector (image pv sector) clear, clear.is, any header.id)
-        gone_or_same clear (inr none) =
-            let sector : ℕ = area.area.offset / 512 in
-            let c : Area × Option Locn = get_or on clear.number no_area in
-            let at : c.0.start / 512 + 0 ≡ sector = omega (arith, clear.at) in
-            inr (subst (λ (n : ℕ). image n sector ≡ mid n sector) clear.disk (subst (λ (n : ℕ). image c.0.pv n ≡ mid c.0.pv n) at (none clear.number no_area clear.among)) ∙ same_base sector)
-
         header_in : IsCleared pv image (bare header.id) area ⊎ (image pv (area.area.offset / 512) ≡ base pv (area.area.offset / 512))
         header_in =
             let sector : ℕ = area.area.offset / 512 in
@@ -274,7 +258,7 @@ module _ (disks : List Disk) (areas : List (Area × Option Locn)) (scanned : Are
             let w = label_where labels no_label pv sector (image pv sector) own in
             let near = label_low w.0 w.1 in
             absurd (omega (arith, near, w.3, placed.far)))
-            (λ clear. gone_or_same clear which)
+            (λ clear. inl (get_or on clear.number no_area, clear_met sector (image pv sector) clear (omega arith) (omega (arith, placed.some)), clear_takes pv sector (image pv sector) clear, clear.is, any header.id))
             by)
             (sector_in pv sector)
 

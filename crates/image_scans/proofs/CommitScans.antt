@@ -1,6 +1,7 @@
 -- What a scan finds on the way of a change that commits a group, and at its end.
-use Rattle.std.proofs.Common.{◌≡◌, ◌≢◌, ◌<◌, ◌⊎◌, ℕ, Bool, true, false, not, ◌||◌, List, [], ◌∷◌, map, Option, Some, None, inl, inr, ⊎_elim, refl, sym, ap, subst, ◌∙◌, arith}
+use Rattle.std.proofs.Common.{◌≡◌, ◌≢◌, ◌<◌, ◌⊎◌, ℕ, Bool, true, false, not, ◌||◌, List, [], ◌∷◌, map, Option, Some, None, IfSome, inl, inr, ⊎_elim, refl, sym, ap, subst, ◌∙◌, arith}
 use Rattle.std.specs.Prelude.{option_map}
+use Rattle.std.specs.Option.{option_map_or}
 use Rattle.std.specs.FinSet as set
 use Rattle.std.specs.List.{AllByRecursion as Each}
 use Rattle.std.specs.Ordering.{nat_cmp}
@@ -28,8 +29,12 @@ use Rattle.image_scans.proofs.SettledBase.{IsNoneOr, IsSettledScan, none_later, 
 
 -- ---- what was found, of other disks
 
+-- what was found, of other disks
+abbrev found_on : Found → List Disk → Found
+found_on found disks = record found { disks = disks; areas = held_areas 0 disks; disk_of = option_map_or (λ (group : Group). disks_of group disks) found.group [] }
+
 -- an answer that was found is found of other disks too
-pub moved : (answer : ScanAnswer) (found : Found) (disks : List Disk) → IsFoundBy answer found → IsFoundBy answer (record found { disks = disks; areas = held_areas 0 disks })
+moved : (answer : ScanAnswer) (found : Found) (disks : List Disk) → IsFoundBy answer found → IsFoundBy answer (found_on found disks)
 moved (FoundGroup held stale strays missing) found disks by = by
 moved NoGroup found disks by = by
 moved (DuplicatePv a b) found disks by = absurd by
@@ -55,17 +60,22 @@ pub same_version : (image : Image) (sizes : List ℕ) (found : Found) → IsWhol
     → map (λ (d : Disk). d.sectors) there ≡ sizes → AreDiskReadings image found.unread 0 there read → decide_scan read ≡ decide_scan readings → ((id : List ℕ) → disk_with there id ≡ disk_with found.disks id)
     → FindsVersion sizes image none_out (version_in found)
 same_version image sizes found whole readings by there read sizes_are are same ids = record {
-  found = record found { disks = there; areas = held_areas 0 there };
+  found = found_on found there;
   scan = record {
     readings = read;
     are = record { sizes_xl = sizes_are; each = are };
-    answer = subst (λ (answer : ScanAnswer). IsFoundBy answer (record found { disks = there; areas = held_areas 0 there })) (sym same) (moved (decide_scan readings) found there by);
+    answer = subst (λ (answer : ScanAnswer). IsFoundBy answer (found_on found there)) (sym same) (moved (decide_scan readings) found there by);
     areas = refl;
+    disk_of = own_disks found.group;
   };
   left = λ pv within. none_unread found whole pv;
   whole = whole.there;
   version_xl = λ i. option_map (λ (group : Group). record { group = group; disk_of = disks_by_ids group found.disks there ids i }) found.group;
 }
+  where
+    own_disks : (o : Option Group) → IfSome o (λ group. option_map_or (λ (g : Group). disks_of g there) o [] ≡ disks_of group there)
+    own_disks None = tt
+    own_disks (Some group) = refl
 
 -- ---- a new version
 
@@ -139,6 +149,7 @@ module _ (image : Image) (sizes : List ℕ) (found : Found) (shape : HasShape fo
           are = record { sizes_xl = again.sizes_xl ∙ sizes_are; each = again.are };
           answer = subst (λ (answer : ScanAnswer). IsFoundBy answer (found_anew f)) (sym f.is) (refl, refl, refl, refl, refl, refl);
           areas = refl;
+          disk_of = refl;
         };
         left = λ pv within. none_unread found whole pv;
         whole = sym parts.missing_are ∙ ap (λ (g : Group). missing_of again.read g.pvs) f.group_xl ∙ none_away;

@@ -2,8 +2,7 @@
 use Rattle.std.proofs.Common.{◌≡◌, ◌≤◌, ◌<◌, ◌⊎◌, ℕ, ◌+◌, ◌-◌, ◌^◌, true, false, List, [], length, Option, Some, None, inl, inr, ⊎_elim, refl, sym, ap, subst, ◌∙◌, arith}
 use Rattle.std.proofs.lemmas.Bool.{cases_lt}
 use Rattle.conf_text.specs.Printed.{printed}
-use Rattle.sector_base.specs.Checksum.{checksum}
-use Rattle.sector_base.specs.declared.checksum.TheConstants.{LVM_CRC_START}
+use Rattle.sector_base.specs.Checksum.{checksum, lvm_crc_start}
 use Rattle.mda_header.specs.declared.entry.Entry.TheVariants.{Nothing, Text}
 use Rattle.mda_header.specs.declared.header.Locn.{Locn}
 use Rattle.mda_header.specs.declared.header.MdaHeader.{MdaHeader}
@@ -97,21 +96,21 @@ module _ (text : List ℕ) (a : Area × Option Locn) (take : CanTake a) (fits : 
   pub after_read : IsHeader (header_bytes (header_after text a)) (header_after text a)
   after_read =
       let ends : a.0.start + a.0.size ≤ 2 ^ 49 = take.0.ends in
-      let sum : checksum LVM_CRC_START (summed_bytes (header_after text a)) < 2 ^ 32 = checksum_below LVM_CRC_START (summed_bytes (header_after text a)) in
-      header_read a.0.start a.0.size (Some (new_entry text a)) None false (omega (arith, ends)) (omega (arith, ends)) (checksum_below LVM_CRC_START (stored text)) tt (omega (arith, sum)) made_inside tt
+      let sum : checksum lvm_crc_start (summed_bytes (header_after text a)) < 2 ^ 32 = checksum_below lvm_crc_start (summed_bytes (header_after text a)) in
+      header_read a.0.start a.0.size (Some (new_entry text a)) None false (omega (arith, ends)) (omega (arith, ends)) (checksum_below lvm_crc_start (stored text)) tt (omega (arith, sum)) made_inside tt
 
   -- and the one before it, where no text was committed
   pub before_read : IsHeader (header_bytes (header_of a.0 None (Some (new_entry text a)))) (header_of a.0 None (Some (new_entry text a)))
   before_read =
       let ends : a.0.start + a.0.size ≤ 2 ^ 49 = take.0.ends in
-      let sum : checksum LVM_CRC_START (summed_bytes (header_of a.0 None (Some (new_entry text a)))) < 2 ^ 32 = checksum_below LVM_CRC_START (summed_bytes (header_of a.0 None (Some (new_entry text a)))) in
-      header_read a.0.start a.0.size None (Some (new_entry text a)) false (omega (arith, ends)) (omega (arith, ends)) tt (checksum_below LVM_CRC_START (stored text)) (omega (arith, sum)) tt made_inside
+      let sum : checksum lvm_crc_start (summed_bytes (header_of a.0 None (Some (new_entry text a)))) < 2 ^ 32 = checksum_below lvm_crc_start (summed_bytes (header_of a.0 None (Some (new_entry text a)))) in
+      header_read a.0.start a.0.size None (Some (new_entry text a)) false (omega (arith, ends)) (omega (arith, ends)) tt (checksum_below lvm_crc_start (stored text)) (omega (arith, sum)) tt made_inside
 
 -- the header of an area in which no text stands is read as it is
 pub empty_header_read : (area : Area) → IsArea area → IsHeader (header_bytes (header_of area None None)) (header_of area None None)
 empty_header_read area good =
     let ends : area.start + area.size ≤ 2 ^ 49 = good.ends in
-    let sum : checksum LVM_CRC_START (summed_bytes (header_of area None None)) < 2 ^ 32 = checksum_below LVM_CRC_START (summed_bytes (header_of area None None)) in
+    let sum : checksum lvm_crc_start (summed_bytes (header_of area None None)) < 2 ^ 32 = checksum_below lvm_crc_start (summed_bytes (header_of area None None)) in
     header_read area.start area.size None None false (omega (arith, ends)) (omega (arith, ends)) tt tt (omega (arith, sum)) tt tt
 
 -- ---- the text of a group
@@ -124,4 +123,4 @@ printed_copy group now time tree accepted =
 -- bytes that are a text as it is stored
 pub stored_copy : (text : List ℕ) (group : Group) (passed : List (List ℕ)) (a : Area × Option Locn) (bytes : List ℕ) → IsCopyOf text group passed → bytes ≡ stored text → IsStored (new_entry text a) bytes (Copy group text passed)
 stored_copy text group passed a bytes copy is =
-    (record { agrees = ap (checksum LVM_CRC_START) is; text_xl = sym (ap without_zero is ∙ without_zero-zero text) }, copy)
+    (record { agrees = ap (checksum lvm_crc_start) is; text_xl = sym (ap without_zero is ∙ without_zero-zero text) }, copy)

@@ -1,5 +1,5 @@
 -- Where one quiet disk differs, the version that was found is found again.
-use Rattle.std.proofs.Common.{◌≡◌, ◌<◌, ℕ, Bool, List, [], ◌∷◌, length, map, Option, Some, None, inl, refl, sym, ap, subst, ◌∙◌}
+use Rattle.std.proofs.Common.{◌≡◌, ◌<◌, ℕ, Bool, List, [], ◌∷◌, length, map, Option, Some, None, IfSome, inl, refl, sym, ap, subst, ◌∙◌}
 use Rattle.std.specs.Prelude.{option_map}
 use Rattle.std.specs.FinSet as set
 use Rattle.std.specs.List.{AllByRecursion as Each}
@@ -56,6 +56,7 @@ module _ (image : Image) (sizes : List ℕ) (found : Found) (none_missing : foun
           are = record { sizes_xl = sizes_are; each = are };
           answer = subst (λ (a : ScanAnswer). IsFoundBy a (record found { disks = there; areas = held_areas 0 there; unread = unread })) (sym answer) (moved_to (decide_scan readings) by);
           areas = refl;
+          disk_of = subst (λ (o : Option Group). IfSome o (λ group. found.disk_of ≡ disks_of group there)) (sym none) tt;
         };
         left = left;
         whole = none_missing;
@@ -103,6 +104,7 @@ module _ (image : Image) (sizes : List ℕ) (found : Found) (none_missing : foun
             are = record { sizes_xl = sizes_are; each = are };
             answer = subst (λ (a : ScanAnswer). IsFoundBy a (found_anew f)) (sym f.is) (refl, refl, refl, refl, refl, refl);
             areas = refl;
+            disk_of = refl;
           };
           left = left;
           whole = sym parts.missing_are ∙ ap (λ (g : Group). missing_of read g.pvs) f.group_xl ∙ quiet_missing group readings read but all_there;

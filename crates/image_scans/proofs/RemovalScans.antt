@@ -1,6 +1,6 @@
 -- What a scan finds while a group's disks are cleared, and nothing is committed.
-use Rattle.std.proofs.Common.{◌≡◌, ◌<◌, ◌⊎◌, ℕ, ◌+◌, ◌&&◌, ◌||◌, Bool, true, false, List, [], ◌∷◌, length, Option, Some, None, inl, inr, ⊎_elim, refl, sym, ap, subst, ◌∙◌, arith}
-use Rattle.std.specs.Prelude.{All, IfSome, filter_map, option_map, slice_get, take, unwrap_or}
+use Rattle.std.proofs.Common.{◌≡◌, ◌⊎◌, ℕ, ◌+◌, ◌&&◌, ◌||◌, Bool, true, false, List, [], ◌∷◌, Option, Some, None, inl, inr, ⊎_elim, refl, sym, ap, subst, ◌∙◌, arith}
+use Rattle.std.specs.Prelude.{IfSome, filter_map, option_map, slice_get, unwrap_or}
 use Rattle.std.specs.List.{cons_option, list_any}
 use Rattle.std.specs.Ordering.{nat_cmp}
 use Rattle.std.specs.FinSet as set
@@ -8,14 +8,12 @@ use Rattle.std.proofs.lemmas.Bool.{cases_Bool, or_left, true≢false}
 use Rattle.std.proofs.lemmas.Option.{same_Some}
 use Rattle.disk_model.specs.Steps.{Image}
 use Rattle.disk_batch.specs.InTurn.{HasFirstBatches, with_batches}
-use Rattle.disk_batch.proofs.InTurn.{of_submitted}
 use Rattle.mda_header.specs.declared.header.Locn.{Locn}
 use Rattle.mda_ring.specs.declared.area.Area.{Area}
 use Rattle.meta_model.specs.declared.group.Group.{Group}
 use Rattle.scan_rules.specs.Decision.{Area as AreaOf, AreaReading, Copy, Found as PvOf, GivesNoLater, HasShape as IsShaped, Held, HoldsNone, NoGroup, Reading, Refused, SameHeaders, ScanAnswer, decide_scan, gives, holds, is_held, is_listed, is_something, lists}
 use Rattle.scan_rules.specs.Found.{missing_of}
 use Rattle.scan_rules.proofs.SameShape.{same_shape}
-use Rattle.vg_commit.specs.Showing.{sectors_of}
 use Rattle.vg_found.specs.declared.disk.Disk.{Disk}
 use Rattle.vg_found.specs.declared.found.Found.{Found}
 use Rattle.vg_found.specs.Disks.{disk_with, disks_of, held_areas, shapes}
@@ -23,7 +21,6 @@ use Rattle.vg_found.specs.Shape.{HasShape}
 use Rattle.vg_found.specs.Whole.{IsWhole}
 use Rattle.vg_scan.specs.Scans.{IsFoundBy, IsScanOf}
 use Rattle.vg_scan.specs.Texts.{IsCopyOf}
-use Rattle.group_ops.specs.Cleared.{cleared_areas}
 use Rattle.group_ops.specs.Committing.{rows_where_found}
 use Rattle.group_ops.specs.Judging.{first_refusal, set_of}
 use Rattle.group_ops.specs.Laws.{state_in}
@@ -43,16 +40,15 @@ use Rattle.vg_change.specs.Building.{AreScanned}
 use Rattle.vg_change.specs.Laws.{ClearsImages, ShowsEntries}
 use Rattle.image_scans.specs.Laws.{CanCarryOut, none_out}
 use Rattle.image_scans.specs.Versions.{FindsVersion, Version, version_in}
-use Rattle.image_scans.proofs.Again.{AreasAgain, DisksAgain, Finds, GivesAgain, PvAgain, again_give, again_headers, as_before, finds_newest, missing_same}
-use Rattle.image_scans.proofs.AreaAgain.{NotRefused}
+use Rattle.image_scans.proofs.Again.{AreasAgain, DisksAgain, Finds, GivesAgain, PvAgain, again_give, again_headers, finds_newest, missing_same}
 use Rattle.image_scans.proofs.BaseEntries.{entries_shown}
-use Rattle.image_scans.proofs.ClearedAgain.{AnyOrNone, any_bare, any_pv, disk_cleared}
-use Rattle.image_scans.proofs.CommitScans.{disks_by_ids, none_unread, same_version}
+use Rattle.image_scans.proofs.ClearedAgain.{any_bare, any_pv, disk_cleared}
+use Rattle.image_scans.proofs.CommitScans.{disks_by_ids, none_unread}
 use Rattle.image_scans.proofs.Decided.{IsFoundWith, found_parts, nothing_found}
-use Rattle.image_scans.proofs.DiskAgain.{AllAgain, IsThereAt, PvMayBeRefused, all_again, none_refused}
+use Rattle.image_scans.proofs.DiskAgain.{AllAgain, IsThereAt, PvMayBeRefused, all_again}
 use Rattle.image_scans.proofs.Given.{AreasGive, DisksGive, GivenHas, IsNone, IsSettled, PvGives, copies_none, disks_weaker, refusals_none}
-use Rattle.image_scans.proofs.ReadingShapes.{gives_at, readings_shaped}
-use Rattle.image_scans.proofs.SettledBase.{IsNoneOr, IsSettledScan, settled_none, settled_read, settled_some}
+use Rattle.image_scans.proofs.ReadingShapes.{readings_shaped}
+use Rattle.image_scans.proofs.SettledBase.{IsNoneOr, IsSettledScan, settled_none, settled_some}
 use Rattle.group_ops.proofs.Disks.{disk_with_own}
 use Rattle.image_scans.proofs.RemovalEnds.{disk_among, disk_emptied, disk_read, listed_header, none_held, pv_emptied, read_before}
 use Rattle.group_ops.specs.declared.backup.Backup.{Backup}
@@ -143,13 +139,13 @@ module _ (base : Image) (sizes : List ℕ) (found : Found) (shape : HasShape fou
 
   module _ (image : Image) (h : HasFirstBatches (clear_batches cleared found.disks found.areas) base image) where
     -- each disk reads again, where some text is a copy
-    module _ (bare : List ℕ → AreaReading → Bool) (which : AnyOrNone found.disks found.areas scanned cleared clears base image h bare) (text : List ℕ) (group : Group) (passed : List (List ℕ)) (copy : IsCopyOf text group passed)
+    module _ (bare : List ℕ → AreaReading → Bool) (any : (id : List ℕ) (r : AreaReading) → bare id r ≡ true) (text : List ℕ) (group : Group) (passed : List (List ℕ)) (copy : IsCopyOf text group passed)
         (given : (k : ℕ) (reading : Reading) → slice_get scan.readings k ≡ Some reading → PvMayBeRefused bare reading.pv) where
       reads : AllAgain image found.unread 0 (λ id. false) bare (Copy group text passed) found.disks scan.readings
       reads =
           all_again base image found.unread 0 (λ id. false) bare (Copy group text passed) found.disks scan.readings scan.are.each
           (λ k disk reading at_disk at_reading is.
-          disk_cleared found.disks found.areas scanned cleared clears base image h base shown text group passed copy (λ id. false) bare which (0 + k) (λ sector. refl) disk
+          disk_cleared found.disks found.areas scanned cleared clears base image h base shown text group passed copy (λ id. false) bare any (0 + k) (λ sector. refl) disk
           (subst (λ (n : ℕ). slice_get found.disks n ≡ Some disk) (omega arith) at_disk) reading is (given k reading at_reading))
 
     -- ---- where a copy was found
@@ -160,7 +156,7 @@ module _ (base : Image) (sizes : List ℕ) (found : Found) (shape : HasShape fou
       made = Copy held.group held.text held.passed
 
       pub again : AllAgain image found.unread 0 (λ id. false) any_bare made found.disks scan.readings
-      again = reads any_bare (inl (λ id r. refl)) held.text held.group held.passed copy (λ k reading at. any_pv reading.pv)
+      again = reads any_bare (λ id r. refl) held.text held.group held.passed copy (λ k reading at. any_pv reading.pv)
 
       same_headers : SameHeaders scan.readings again.read
       same_headers = again_headers (λ id. false) any_bare made scan.readings again.read again.again
@@ -197,6 +193,7 @@ module _ (base : Image) (sizes : List ℕ) (found : Found) (shape : HasShape fou
               are = record { sizes_xl = again.sizes_xl ∙ scan.are.sizes_xl; each = again.are };
               answer = subst (λ (answer : ScanAnswer). IsFoundBy answer anew) (sym f.is) (refl, refl, refl, refl, refl, refl);
               areas = refl;
+              disk_of = refl;
             };
             left = λ pv within. none_unread found whole pv;
             whole = sym own.missing_are ∙ ap (λ (g : Group). missing_of again.read g.pvs) f.group_xl ∙ sym (missing_same scan.readings again.read held.group.pvs same_headers) ∙ parts.missing_are ∙ whole.there;
@@ -217,6 +214,7 @@ module _ (base : Image) (sizes : List ℕ) (found : Found) (shape : HasShape fou
               are = record { sizes_xl = again.sizes_xl ∙ scan.are.sizes_xl; each = again.are };
               answer = subst (λ (answer : ScanAnswer). IsFoundBy answer (nothing_in again.there)) (sym nothing) (refl, refl, refl, refl, refl, refl);
               areas = refl;
+              disk_of = tt;
             };
             left = λ pv within. none_unread found whole pv;
             whole = refl;
@@ -225,14 +223,6 @@ module _ (base : Image) (sizes : List ℕ) (found : Found) (shape : HasShape fou
 
       pub either_left : FindsVersion sizes image none_out (version_in found) ⊎ FindsVersion sizes image none_out None
       either_left = ⊎_elim (λ there. inl (still there)) (λ none. inr (gone none)) (cases_Bool (is_held held.group held.text again.read))
-
-      -- until a header is cleared each disk reads as it did
-      pub unbegun : All (λ (area : Area × Option Locn). sectors_of area.0 image 0 ≡ sectors_of area.0 base 0) (cleared_areas cleared found.areas) → FindsVersion sizes image none_out (version_in found)
-      unbegun none =
-          let as_it_was : AllAgain image found.unread 0 (λ id. false) (λ id r. false) made found.disks scan.readings =
-          reads (λ id r. false) (inr none) held.text held.group held.passed copy (λ k reading at. none_refused (λ id r. false) reading.pv (gives_at NotRefused scan.readings k reading (settled_read scan.readings found settled) at))
-          in
-          same_version image sizes found whole scan.readings scan.answer as_it_was.there as_it_was.read (as_it_was.sizes_xl ∙ scan.are.sizes_xl) as_it_was.are (ap decide_scan (as_before made scan.readings as_it_was.read as_it_was.again)) as_it_was.ids
 
 -- ---- a vgremove
 
@@ -264,15 +254,6 @@ module _ (base image : Image) (sizes : List ℕ) (found : Found) (names : List (
       by : IsSettledScan p.scan.readings found → FindsVersion sizes image none_out (version_in found) ⊎ FindsVersion sizes image none_out None
       by (settled_none nothing none all) = absurd (some_group none)
       by (settled_some held parts some copy each all) = either_left base sizes found p.shape p.whole p.scan settled_is scanned_is cleared_set p.keeps.clears image h held parts some copy each all
-
-  pub unremoved_scans : (n : ℕ) → n < length (clears_of state line now given) → HasFirstBatches (take n (clears_of state line now given)) base image → FindsVersion sizes image none_out (version_in found)
-  unremoved_scans n less h = by settled_is
-    where
-      by : IsSettledScan p.scan.readings found → FindsVersion sizes image none_out (version_in found)
-      by (settled_none nothing none all) = absurd (some_group none)
-      by (settled_some held parts some copy each all) =
-          unbegun base sizes found p.shape p.whole p.scan settled_is scanned_is cleared_set p.keeps.clears image (of_submitted n (clears_of state line now given) base image h) held parts some copy each all
-          (p.keeps.clears.uncleared base image n less h)
 
   -- ---- at the end
 

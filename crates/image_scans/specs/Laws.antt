@@ -216,12 +216,6 @@ RemovalScans =
     (base image : Image) (sizes : List ℕ) (found : Found) (names : List (List ℕ)) (backup : Option Backup) (line : Line) (now : ℕ) (given : List Part) (vg : List ℕ) → CanCarryOut base sizes found names backup line now given → line.command ≡ Vgremove vg
     → HasFirstBatches (clears_of (state_in found names backup) line now given) base image → FindsVersion sizes image none_out (version_in found) ⊎ FindsVersion sizes image none_out None
 
--- until its last batch is begun the former
-abbrev pub UnremovedScans : Type 0
-UnremovedScans =
-    (base image : Image) (sizes : List ℕ) (found : Found) (names : List (List ℕ)) (backup : Option Backup) (line : Line) (now : ℕ) (given : List Part) (vg : List ℕ) (n : ℕ) → CanCarryOut base sizes found names backup line now given → line.command ≡ Vgremove vg
-    → n < length (clears_of (state_in found names backup) line now given) → HasFirstBatches (take n (clears_of (state_in found names backup) line now given)) base image → FindsVersion sizes image none_out (version_in found)
-
 -- and once all is written there is none
 abbrev pub RemovedScans : Type 0
 RemovedScans =

@@ -1,5 +1,5 @@
 //! What holds of the images on the way of a line: each function does nothing, and its clauses are proved.
-ghost use Rattle.image_scans.specs.Laws.{BaseScans, ClearsKeepPlaces, ClearsScan, ImagesScan, LastScans, LineZeroesLie, PlacesAreKept, PlacesAreOutside, RemovalScans, RemovedScans, UnpublishedScans, UnremovedScans, ViewIsKept, ZeroesAreKept, ZeroesKeepPlaces, ZeroesScan};
+ghost use Rattle.image_scans.specs.Laws.{BaseScans, ClearsKeepPlaces, ClearsScan, ImagesScan, LastScans, LineZeroesLie, PlacesAreKept, PlacesAreOutside, RemovalScans, RemovedScans, UnpublishedScans, ViewIsKept, ZeroesAreKept, ZeroesKeepPlaces, ZeroesScan};
 
 /// A scan of an image on the way of a line finds the version of the group that was found before or the new one: the former
 /// until the last batch of its commit is begun, and once all is written the new one. Where the line makes a new physical
@@ -29,12 +29,11 @@ pub fn change_zeroes()
 {}
 
 /// While disks are cleared behind a commit a scan finds the new version. While a vgremove clears the disks of the group it finds
-/// the version that was found, until its last batch is begun, then that or none, and once all is written none.
+/// the version that was found or none, and once all is written none.
 /// Volumes keep their contents.
 pub fn change_clears()
     ensures commit { ClearsScan }
     ensures removal { RemovalScans }
-    ensures unremoved { UnremovedScans }
     ensures removed { RemovedScans }
     ensures places { ClearsKeepPlaces }
 {}

@@ -23,6 +23,7 @@ use Rattle.vg_repair.specs.Batches.{repair_batches}
 use Rattle.vg_repair.specs.Repaired.{repaired_of}
 use Rattle.vg_repair.specs.Stale.{text_of}
 use Rattle.vg_repair.proofs.Nothing.{leaves_all}
+use Rattle.vg_repair.proofs.RepairedShape.{numbers_kept}
 use Rattle.repair_scans.specs.Laws.{CanRepair}
 use Rattle.image_scans.proofs.Again.{Finds}
 use Rattle.image_scans.proofs.CommitLine.{all_written}
@@ -134,6 +135,7 @@ module _ (one_reading : OneReading) (base : Image) (sizes : List ℕ) (found : F
             p.whole.there ∙ sym missing_none,
           );
       areas = refl;
+      disk_of = numbers_kept found.stale found.strays (text_of found) found.group found.disk_of found.disks p.scan.disk_of;
     }
 
   -- ---- no group was found, and nothing is written

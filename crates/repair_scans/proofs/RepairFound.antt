@@ -209,6 +209,7 @@ module _ (base : Image) (sizes : List ℕ) (found : Found) (p : CanRepair base s
               are = record { sizes_xl = again.sizes_xl ∙ p.scan.are.sizes_xl; each = again.are };
               answer = subst (λ (answer : ScanAnswer). IsFoundBy answer found_again) (sym finds.is) (refl, refl, refl, refl, refl, refl);
               areas = refl;
+              disk_of = refl;
             };
             left = λ pv within. none_unread found p.whole pv;
             whole = sym own.missing_are ∙ ap (λ (g : Group). missing_of again.read g.pvs) finds.group_xl ∙ none_away;

@@ -147,6 +147,11 @@ module _ (stale : List (ℕ × ℕ)) (strays : set.FinSet nat_cmp) (text : List 
   pub disks_kept : (group : Group) (disks : List Disk) → disks_of group (repaired_disks stale strays text disks) ≡ disks_of group disks
   disks_kept group disks = ap (λ (f : List ℕ → ℕ). map (λ (pv : List ℕ × Pv). f pv.1.id) group.pvs) (fun_ext (λ id. with_kept id 0 disks))
 
+  -- and so are the numbers of the disks of a group that was found
+  pub numbers_kept : (o : Option Group) (disk_of : List ℕ) (disks : List Disk) → IfSome o (λ group. disk_of ≡ disks_of group disks) → IfSome o (λ group. disk_of ≡ disks_of group (repaired_disks stale strays text disks))
+  numbers_kept None disk_of disks is = tt
+  numbers_kept (Some group) disk_of disks is = is ∙ sym (disks_kept group disks)
+
 -- ---- all of it
 
 module _ (found : Found) (shape : HasShape found) (fits : too_large found ≡ None) (fields : All FitsFields (stray_labels found)) where
@@ -236,16 +241,12 @@ module _ (found : Found) (shape : HasShape found) (fits : too_large found ≡ No
         take = shaped.0;
         apart = shaped.1;
         placed = subst (λ (s : List Reading). IfSome found.group (λ group. first_misplaced group s ≡ None)) same_shapes shape.placed;
-        disk_of = places found.group shape.disk_of;
+        disk_of = numbers_kept found.stale found.strays (text_of found) found.group found.disk_of found.disks shape.disk_of;
         missing = subst (λ (s : List Reading). IfSome found.group (λ group. found.missing ≡ missing_of s group.pvs)) same_shapes shape.missing;
         stale = All-nil (λ (area : ℕ × ℕ). area.0 < length disks);
         strays = λ pv is. absurd (true≢false (sym is ∙ set.contains-empty nat_cmp pv));
         unread = λ pv is. subst (λ (n : ℕ). pv < n) (sym same_length) (shape.unread pv is);
       }
-    where
-      places : (o : Option Group) → IfSome o (λ group. found.disk_of ≡ disks_of group found.disks) → IfSome o (λ group. found.disk_of ≡ disks_of group disks)
-      places None is = tt
-      places (Some group) is = is ∙ sym (disks_kept stale strays text group found.disks)
 
   pub repaired_whole : IsWhole found → IsWhole (repaired_of found)
   repaired_whole is = record { read = is.read; there = is.there }

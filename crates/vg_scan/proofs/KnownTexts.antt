@@ -2,8 +2,7 @@
 use Rattle.std.proofs.Common.{◌≡◌, ℕ, ◌+◌, ◌-◌, ◌<◌, ◌++◌, List, [], ◌∷◌, length, take, slice_index_or, slice_get, Bool, true, false, ◌==◌, if◌then◌else◌, option_map, unwrap_or, Option, Some, refl, sym, ap, ◌∙◌, arith}
 use Rattle.std.proofs.lemmas.Bool.Decides.{nat_tests}
 use Rattle.std.proofs.lemmas.List.{length_push, take_all, take_more}
-use Rattle.sector_base.specs.Checksum.{checksum}
-use Rattle.sector_base.specs.declared.checksum.TheConstants.{LVM_CRC_START}
+use Rattle.sector_base.specs.Checksum.{checksum, lvm_crc_start}
 use Rattle.mda_header.specs.declared.header.Locn.{Locn}
 use Rattle.mda_ring.specs.Texts.{without_zero}
 use Rattle.scan_rules.specs.Decision.{HoldsNone}
@@ -71,7 +70,7 @@ pub known_again : (entry locn : Locn) (copy : GroupCopy) (bytes : List ℕ) → 
     → IsStored locn bytes (copied copy)
 known_again entry locn copy bytes known size sum long text =
     let same : known.bytes ≡ bytes = same_stored known.bytes bytes (known.size_xl ∙ size ∙ sym long) (sym known.stored.0.text_xl ∙ text) in
-    (record { agrees = ap (checksum LVM_CRC_START) (sym same) ∙ known.stored.0.agrees ∙ sum; text_xl = text }, known.stored.1)
+    (record { agrees = ap (checksum lvm_crc_start) (sym same) ∙ known.stored.0.agrees ∙ sum; text_xl = text }, known.stored.1)
 
 pub gives_number : (copies : List GroupCopy) (i : ℕ) (copy : GroupCopy) → slice_get copies i ≡ Some copy → gives_of copies (Numbered i) ≡ copied copy
 gives_number copies i copy at = ap (λ (o : Option GroupCopy). unwrap_or (option_map copied o) HoldsNone) at

@@ -3,8 +3,7 @@
 use Rattle.std.proofs.Common.{◌≡◌, ◌≢◌, ℕ, ◌+◌, ◌/◌, true, List, [], ◌∷◌, map, Option, None, Some, Result, Ok, Err, ◌⊎◌, inl, inr, refl, sym, ap, subst, ◌∙◌}
 use Rattle.std.specs.FinSet as set
 use Rattle.std.specs.Ordering.{nat_cmp}
-use Rattle.sector_base.specs.Checksum.{checksum}
-use Rattle.sector_base.specs.declared.checksum.TheConstants.{LVM_CRC_START}
+use Rattle.sector_base.specs.Checksum.{checksum, lvm_crc_start}
 use Rattle.disk_model.specs.Steps.{Image}
 use Rattle.mda_header.specs.declared.entry.Entry.{Entry}
 use Rattle.mda_header.specs.declared.entry.Entry.TheVariants.{Ignored, Nothing, Text, Refused as RefusedFor}
@@ -40,7 +39,7 @@ use Rattle.vg_scan.specs.Texts.{IsStored, stored_bytes}
 
 -- bytes with another checksum, or the text that bytes of this checksum are
 abbrev Damaged : Locn → List ℕ → AreaReading → Type 0
-Damaged locn bytes given = (locn.sum ≢ checksum LVM_CRC_START bytes) × (given ≡ Refused (SumDiffers locn.sum (checksum LVM_CRC_START bytes)))
+Damaged locn bytes given = (locn.sum ≢ checksum lvm_crc_start bytes) × (given ≡ Refused (SumDiffers locn.sum (checksum lvm_crc_start bytes)))
 
 -- what a text gives: why it has no tree, or what its tree stands for
 abbrev Unread : List ℕ → AreaReading → Type 0

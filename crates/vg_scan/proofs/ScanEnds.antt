@@ -98,6 +98,7 @@ scan_found s0 s count disks unread readings found scanned all is = record {
             (subst (λ (p : set.FinSet nat_cmp). AreReadings image s0.sizes p disks readings) (sym is.unread_are) (all_read s0 s count disks unread readings scanned all image each));
         answer = is.answer;
         areas = is.areas ∙ ap (held_areas 0) (sym is.disks_are);
+        disk_of = is.shape.disk_of;
       })
       scanned.now;
   faults = subst (λ (p : set.FinSet nat_cmp). FailedOn p s0 s) (sym is.unread_are) scanned.faults;

@@ -1,8 +1,7 @@
 -- What the committed text of a metadata area is: an accepted copy of a group's metadata, or why it is none.
 use Rattle.std.specs.Prelude.{◌≡◌, ◌≢◌, ℕ, ◌+◌, ◌/◌, List, [], ◌∷◌, Ok, Err}
 use Rattle.std.specs.Option.{option_map_or}
-use Rattle.sector_base.specs.Checksum.{checksum}
-use Rattle.sector_base.specs.declared.checksum.TheConstants.{LVM_CRC_START}
+use Rattle.sector_base.specs.Checksum.{checksum, lvm_crc_start}
 use Rattle.sector_base.specs.declared.spans.Span.{Span}
 use Rattle.mda_header.specs.declared.header.Locn.{Locn}
 use Rattle.mda_ring.specs.declared.area.Area.{Area}
@@ -51,7 +50,7 @@ IsTextRefusal text (RuleBroken rule) = (tree : Conf) × (group : Group) × IsTex
 -- the refusal of stored bytes: of their checksum, or of their text
 abbrev pub IsRefusalOf : Locn → List ℕ → CopyRefusal → Type 0
 IsRefusalOf locn bytes (HeaderRefused refusal) = ⊥
-IsRefusalOf locn bytes (SumDiffers said found) = (said ≡ locn.sum) × (found ≡ checksum LVM_CRC_START bytes) × (said ≢ found)
+IsRefusalOf locn bytes (SumDiffers said found) = (said ≡ locn.sum) × (found ≡ checksum lvm_crc_start bytes) × (said ≢ found)
 IsRefusalOf locn bytes (TextRefused refusal) = (text : List ℕ) × IsTextOfEntry locn bytes text × IsTextRefusal text (TextRefused refusal)
 IsRefusalOf locn bytes (GroupRefused refusal) = (text : List ℕ) × IsTextOfEntry locn bytes text × IsTextRefusal text (GroupRefused refusal)
 IsRefusalOf locn bytes (RuleBroken rule) = (text : List ℕ) × IsTextOfEntry locn bytes text × IsTextRefusal text (RuleBroken rule)

@@ -1,5 +1,6 @@
 -- One disk is scanned after another.
-use Rattle.std.proofs.Common.{◌≡◌, ◌<◌, ◌≤◌, ◌^◌, ℕ, ◌+◌, ◌∙◌, List, length, slice_index_or, refl, sym, ap, subst, arith}
+use Rattle.std.proofs.Common.{◌<◌, ◌≤◌, ◌^◌, ℕ, List, length, slice_index_or, sym, subst, arith}
+use Rattle.disk_model.proofs.IdleAgain.{again_both, again_nothing}
 use Rattle.scan_rules.specs.Answers.{IsRefusedBy}
 use Rattle.scan_rules.specs.Decision.{decide_scan}
 use Rattle.scan_rules.specs.Readings.{AllRead}
@@ -54,7 +55,7 @@ found_of-requires-clause-shapes g c =
 pub loop-pv-init : goal.loop-pv-init
 loop-pv-init g c = (
   none_scanned c.new-disks.result.items c.new-unread.result c.new-collected.result.disks (g.S.Shelf.state c.args.shelf.now) c.new-disks.ensures.items c.new-unread.ensures c.new-collected.ensures.disks,
-  record { idle = c.requires.idle; sizes = refl },
+  again_nothing (g.S.Shelf.state c.args.shelf.now) c.requires.idle,
 )
 
 -- ---- one disk more
@@ -66,11 +67,10 @@ loop-pv-preserved g c =
     let s2 = g.S.Shelf.state c.scan_disk.new.shelf in
     let pv = c.loop-pv.pv in
     let was = c.loop-pv.invariant.1 in
-    let again = c.scan_disk.ensures.again in
     let within : pv < length s0.sizes = omega (arith, c.loop-pv-test.true, c.count-pv-end.ensures) in (
       next_scanned pv c.loop-pv.disks.items c.push.new.self.items c.loop-pv.unread c.name_unread.new.unread c.loop-pv.collected.disks c.scan_disk.new.collected.disks c.in_ok-disk.disk s0 s1 s2 c.loop-pv.invariant.0
           c.in_ok-disk.ensures.disk c.scan_disk.ensures.reads was.sizes within (c.requires.least pv within) (c.requires.most pv within) c.in_ok-push.ensures.items c.name_unread.ensures,
-      record { idle = again.idle; sizes = again.sizes ∙ was.sizes },
+      again_both s0 s1 s2 was c.scan_disk.ensures.again,
     )
 
 -- ---- memory is wanting
@@ -80,8 +80,7 @@ returns-in_err-disk-clause-scan g c = wanting (g.S.Shelf.state c.args.shelf.now)
 
 pub returns-in_err-disk-clause-again : goal.returns-in_err-disk-clause-again
 returns-in_err-disk-clause-again g c =
-    let again = c.scan_disk.ensures.again in
-    record { idle = again.idle; sizes = again.sizes ∙ c.loop-pv.invariant.1.sizes }
+    again_both (g.S.Shelf.state c.args.shelf.now) (g.S.Shelf.state c.loop-pv.shelf) (g.S.Shelf.state c.scan_disk.new.shelf) c.loop-pv.invariant.1 c.scan_disk.ensures.again
 
 pub returns-in_err-disk-clause-reads : goal.returns-in_err-disk-clause-reads
 returns-in_err-disk-clause-reads g c =
@@ -94,8 +93,7 @@ returns-in_err-push-clause-scan g c =
 
 pub returns-in_err-push-clause-again : goal.returns-in_err-push-clause-again
 returns-in_err-push-clause-again g c =
-    let again = c.scan_disk.ensures.again in
-    record { idle = again.idle; sizes = again.sizes ∙ c.loop-pv.invariant.1.sizes }
+    again_both (g.S.Shelf.state c.args.shelf.now) (g.S.Shelf.state c.loop-pv.shelf) (g.S.Shelf.state c.scan_disk.new.shelf) c.loop-pv.invariant.1 c.scan_disk.ensures.again
 
 pub returns-in_err-push-clause-reads : goal.returns-in_err-push-clause-reads
 returns-in_err-push-clause-reads g c =
