@@ -13,15 +13,15 @@ use Rattle.volume_history.specs.Placed.{Place, PlacedVolume, volumes_of}
 use Rattle.volume_history.specs.Replay.{line_step, plain_state}
 
 -- the same of a line that was begun
-abbrev pub IsBearlessLine : Option (Line × ℕ) → Type 0
+abbrev pub IsBearlessLine : Option (Line × Option ℕ) → Type 0
 IsBearlessLine None = Unit {0}
 IsBearlessLine (Some l) = bears l.0.command ≡ false
 
-step_needs_none : (b : Option (Line × ℕ)) → IsBearlessLine b → (before after : Option Version) (state : PlainState) (i j : Image) → line_step b before after state i ≡ line_step b before after state j
+step_needs_none : (b : Option (Line × Option ℕ)) → IsBearlessLine b → (before after : Option Version) (state : PlainState) (i j : Image) → line_step b before after state i ≡ line_step b before after state j
 step_needs_none None none before after state i j = refl
 step_needs_none (Some l) none before after state i j = (bearless l.0.command none).step before after state i j
 
-no_births : (b : Option (Line × ℕ)) → IsBearlessLine b → (before after : Option Version) (state : PlainState) (i : Image) (key x : ℕ) → is_born (line_step b before after state i) state key x ≡ false
+no_births : (b : Option (Line × Option ℕ)) → IsBearlessLine b → (before after : Option Version) (state : PlainState) (i : Image) (key x : ℕ) → is_born (line_step b before after state i) state key x ≡ false
 no_births None none before after state i key x = refl
 no_births (Some l) none before after state i key x = (bearless l.0.command none).births before after state i key x
 

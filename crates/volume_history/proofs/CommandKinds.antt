@@ -1,5 +1,5 @@
 -- What commands are that leave the volumes as they are, and those that create no sector.
-use Rattle.std.proofs.Common.{◌≡◌, ℕ, Bool, true, false, List, Option, Some, None, refl}
+use Rattle.std.proofs.Common.{◌≡◌, ℕ, Bool, true, false, List, Option, Some, None, refl, ap}
 use Rattle.disk_model.specs.Steps.{Image}
 use Rattle.group_ops.proofs.NextVersions.{zeroes}
 use Rattle.image_scans.specs.Versions.{Version}
@@ -7,10 +7,11 @@ use Rattle.line_table.specs.Machine.{PlainState, plain_after}
 use Rattle.lvm_script.specs.Options.{Word}
 use Rattle.lvm_script.specs.declared.command.Command.{Command}
 use Rattle.volume_history.specs.Candidates.{is_born, is_zeroed}
-use Rattle.volume_history.specs.Commands.{commits, created_disk, is_data, volume_named, writes}
+use Rattle.volume_history.specs.Commands.{commits, created_disk, is_data, may_say, removes, volume_named, writes}
 use Rattle.volume_history.specs.Quiet.{is_quiet}
 use Rattle.volume_history.specs.Replay.{command_step}
 use Rattle.lvm_script.specs.declared.command.Command.TheVariants as command
+use Rattle.lvm_script.specs.declared.answer.Answer.TheVariants as answer
 
 -- what is known of a command that leaves the volumes as they are
 pub record IsQuietCommand (c : Command) : Type 0 where
@@ -87,32 +88,21 @@ bearless (command.Fill path start count value) q = record { step = λ b a s i j.
 bearless (command.Write path start hex) q = record { step = λ b a s i j. refl; births = λ b a s i k x. refl }
 
 -- a command that creates a physical volume is a pvcreate
+pub created_is : (names : List Word) (disk : ℕ) (c : Command) → created_disk names c ≡ Some disk → (pv : Word) × (copies : ℕ) × (c ≡ command.Pvcreate pv copies)
+created_is names disk (command.Pvcreate pv copies) e = (pv, copies, refl)
+created_is names disk _ e = cc
+
 pub created_quiet : (names : List Word) (disk : ℕ) (c : Command) → created_disk names c ≡ Some disk → (is_quiet c ≡ true) × (commits c ≡ false)
-created_quiet names disk (command.Pvcreate pv copies) e = (refl, refl)
-created_quiet names disk (command.Pvmove moving) e = cc
-created_quiet names disk (command.Pvck pv) e = cc
-created_quiet names disk command.Pvs e = cc
-created_quiet names disk (command.Vgcreate vg extent_size pvs) e = cc
-created_quiet names disk (command.Vgextend vg pvs) e = cc
-created_quiet names disk (command.Vgreduce vg pv) e = cc
-created_quiet names disk (command.Vgrename vg new) e = cc
-created_quiet names disk (command.Vgcfgbackup vg) e = cc
-created_quiet names disk command.Vgck e = cc
-created_quiet names disk command.Vgs e = cc
-created_quiet names disk command.Lvs e = cc
-created_quiet names disk command.List e = cc
-created_quiet names disk command.Wait e = cc
-created_quiet names disk (command.Resync path) e = cc
-created_quiet names disk (command.Vgremove vg) e = cc
-created_quiet names disk (command.Vgcfgrestore vg text) e = cc
-created_quiet names disk (command.Lvcreate new) e = cc
-created_quiet names disk (command.Lvextend path growth pvs) e = cc
-created_quiet names disk (command.Lvreduce path amount) e = cc
-created_quiet names disk (command.Lvremove path) e = cc
-created_quiet names disk (command.Lvrename vg old new) e = cc
-created_quiet names disk (command.Read path start count) e = cc
-created_quiet names disk (command.Fill path start count value) e = cc
-created_quiet names disk (command.Write path start hex) e = cc
+created_quiet names disk c e = let is = created_is names disk c e in (ap is_quiet is.2, ap commits is.2)
+
+-- so it may be answered ok, or fail, and removes no group
+pub created_says : (names : List Word) (disk pv : ℕ) (c : Command) → created_disk names c ≡ Some disk → (may_say c answer.Fine ≡ true) × (may_say c (answer.PvFailed pv) ≡ true) × (removes c ≡ false)
+created_says names disk pv c e =
+    let is = created_is names disk c e in (
+      ap (λ (k : Command). may_say k answer.Fine) is.2,
+      ap (λ (k : Command). may_say k (answer.PvFailed pv)) is.2,
+      ap removes is.2,
+    )
 
 -- what is known of a command that reads and writes no sectors of a volume
 pub undata : (c : Command) → is_data c ≡ false → (writes c ≡ false) × (volume_named c ≡ None)
@@ -136,6 +126,22 @@ commit_kind names (command.Lvremove path) q = (refl, refl)
 commit_kind names (command.Lvrename vg old new) q = (refl, refl)
 commit_kind names (command.Pvmove moving) q = (refl, refl)
 commit_kind names _ q = cc
+
+-- which may be answered ok, or fail
+pub commit_says : (c : Command) (pv : ℕ) → commits c ≡ true → (may_say c answer.Fine ≡ true) × (may_say c (answer.PvFailed pv) ≡ true)
+commit_says (command.Vgcreate vg extent_size pvs) pv q = (refl, refl)
+commit_says (command.Vgextend vg pvs) pv q = (refl, refl)
+commit_says (command.Vgreduce vg gone) pv q = (refl, refl)
+commit_says (command.Vgremove vg) pv q = (refl, refl)
+commit_says (command.Vgrename vg new) pv q = (refl, refl)
+commit_says (command.Vgcfgrestore vg text) pv q = (refl, refl)
+commit_says (command.Lvcreate new) pv q = (refl, refl)
+commit_says (command.Lvextend path growth pvs) pv q = (refl, refl)
+commit_says (command.Lvreduce path amount) pv q = (refl, refl)
+commit_says (command.Lvremove path) pv q = (refl, refl)
+commit_says (command.Lvrename vg old new) pv q = (refl, refl)
+commit_says (command.Pvmove moving) pv q = (refl, refl)
+commit_says _ pv q = cc
 
 -- no sector is born as a zero but in lvcreate
 pub none_zeroed : (c : Command) → zeroes c ≡ false → (before after : Option Version) (state : PlainState) (image : Image) (x : ℕ) → is_zeroed (command_step c before after state image) x ≡ false

@@ -1,12 +1,12 @@
 -- Small histories, evaluated.
-use Rattle.std.proofs.Common.{◌≡◌, ℕ, ◌&&◌, Bool, true, false, List, [], ◌∷◌, Some, None, refl}
+use Rattle.std.proofs.Common.{◌≡◌, ℕ, ◌&&◌, ◌||◌, Bool, true, false, List, [], ◌∷◌, Some, None, refl}
 use Rattle.disk_model.specs.Steps.{Completed, Flushing, Image, Step, Submitted, Writing}
 use Rattle.disk_model.specs.ValueList.{values}
 use Rattle.image_scans.specs.Versions.{Version}
 use Rattle.line_table.specs.Machine.{key_of, list_of, plain_after, sector_of}
 use Rattle.lvm_script.specs.Options.{number_named}
 use Rattle.sector_base.specs.declared.places.Piece.{Piece}
-use Rattle.volume_history.proofs.SmallGroups.{creating, extending, filling, making, moving, pvcreating, reading, reducing, removing, renaming, restoring, version_1, version_2, version_3, version_4, version_5, version_6, version_7}
+use Rattle.volume_history.proofs.SmallGroups.{creating, extending, filling, group_removing, listing, making, moving, pvcreating, reading, reducing, removing, renaming, restoring, version_1, version_2, version_3, version_4, version_5, version_6, version_7}
 use Rattle.volume_history.specs.Candidates.{Anything, OneOf, base, candidates, pending_candidates, pending_step}
 use Rattle.volume_history.specs.Chronicles.{Answered, Begun, Changed, Entry, Failed, GivenUp, Opened, Origin, Took, fenced_by, in_force, is_failed_disk, left_out, may_begin, pending, upto}
 use Rattle.volume_history.specs.Commands.{number_sector, zero_sector}
@@ -52,18 +52,18 @@ piece = record { volume = 0; first = 0; count = 1; write = true }
 
 -- vgcreate
 abbrev made : List Entry
-made = Answered 4 0 answer.Fine ∷ Changed 4 0 (Some version_1) ∷ Opened 0 0 (Some version_1) ∷ Begun 0 0 making 0 ∷ []
+made = Answered 4 0 answer.Fine ∷ Changed 4 0 (Some version_1) ∷ Opened 0 0 (Some version_1) ∷ Begun 0 0 making None ∷ []
 
 -- lvcreate
 abbrev created : List Entry
-created = Answered 8 1 answer.Fine ∷ Changed 8 1 (Some version_2) ∷ Opened 4 1 (Some version_2) ∷ Begun 4 1 creating 0 ∷ made
+created = Answered 8 1 answer.Fine ∷ Changed 8 1 (Some version_2) ∷ Opened 4 1 (Some version_2) ∷ Begun 4 1 creating None ∷ made
 
 -- a fill with 7 that is acknowledged, and one with 9 that flies
 abbrev filled : List Entry
-filled = Answered 12 2 answer.Fine ∷ Took 12 2 piece ∷ Begun 8 2 (filling 0 1 7) 0 ∷ created
+filled = Answered 12 2 answer.Fine ∷ Took 12 2 piece ∷ Begun 8 2 (filling 0 1 7) (Some 0) ∷ created
 
 abbrev flies : List Entry
-flies = Begun 12 3 (filling 0 1 9) 0 ∷ filled
+flies = Begun 12 3 (filling 0 1 9) (Some 0) ∷ filled
 
 machine_made : plain_state origin made ≡ record { group = Some (70 ∷ []); volumes = []; next_key = 0 }
 unfolding volumes_of place_of primary met leg_spot
@@ -87,7 +87,7 @@ unfolding volumes_of place_of primary met leg_spot
 machine_filled = refl
 
 -- the base is the acknowledged fill; the other flies
-base_filled : base origin flies 0 0 ≡ Took 12 2 piece ∷ Begun 8 2 (filling 0 1 7) 0 ∷ created
+base_filled : base origin flies 0 0 ≡ Took 12 2 piece ∷ Begun 8 2 (filling 0 1 7) (Some 0) ∷ created
 unfolding volumes_of place_of primary met leg_spot
 base_filled = refl
 
@@ -96,11 +96,11 @@ unfolding volumes_of place_of primary met leg_spot
 candidates_flying = refl
 
 -- while the first fill isn't answered, the zero of the creation is one too
-candidates_before : candidates origin (Begun 8 2 (filling 0 1 7) 0 ∷ created) 0 0 ≡ OneOf (zero_sector ∷ number_sector 7 ∷ [])
+candidates_before : candidates origin (Begun 8 2 (filling 0 1 7) (Some 0) ∷ created) 0 0 ≡ OneOf (zero_sector ∷ number_sector 7 ∷ [])
 unfolding volumes_of place_of primary met leg_spot
 candidates_before = refl
 
-candidates_taken : candidates origin (Took 12 2 piece ∷ Begun 8 2 (filling 0 1 7) 0 ∷ created) 0 0 ≡ OneOf (zero_sector ∷ number_sector 7 ∷ [])
+candidates_taken : candidates origin (Took 12 2 piece ∷ Begun 8 2 (filling 0 1 7) (Some 0) ∷ created) 0 0 ≡ OneOf (zero_sector ∷ number_sector 7 ∷ [])
 unfolding volumes_of place_of primary met leg_spot
 candidates_taken = refl
 
@@ -109,7 +109,7 @@ possible_now : values zeros steps 0 10 ≡ (Some 5, number_sector 7) ∷ (Some 7
 possible_now = refl
 
 -- the entries up to a moment
-entries_upto : upto 11 flies ≡ Begun 8 2 (filling 0 1 7) 0 ∷ created
+entries_upto : upto 11 flies ≡ Begun 8 2 (filling 0 1 7) (Some 0) ∷ created
 entries_upto = refl
 
 -- the order of the entries holds, entry by entry
@@ -121,10 +121,10 @@ order_filled : ordered_all flies ≡ true
 order_filled = refl
 
 -- not while a command is unanswered, and not an answer before its piece
-order_beside : may_begin (Begun 4 1 creating 0 ∷ made) creating ≡ false
+order_beside : may_begin (Begun 4 1 creating None ∷ made) creating ≡ false
 order_beside = refl
 
-order_early : is_in_order (Begun 8 2 (filling 0 1 7) 0 ∷ created) (Answered 12 2 answer.Fine) ≡ false
+order_early : is_in_order (Begun 8 2 (filling 0 1 7) (Some 0) ∷ created) (Answered 12 2 answer.Fine) ≡ false
 order_early = refl
 
 order_twice : is_in_order filled (Took 12 2 piece) ≡ false
@@ -132,7 +132,7 @@ order_twice = refl
 
 -- a move changes the places and nothing else
 abbrev moved_so : List Entry
-moved_so = Changed 12 3 (Some version_3) ∷ Opened 12 3 (Some version_3) ∷ Begun 12 3 moving 0 ∷ filled
+moved_so = Changed 12 3 (Some version_3) ∷ Opened 12 3 (Some version_3) ∷ Begun 12 3 moving None ∷ filled
 
 move_changes_nothing : plain_state origin moved_so ≡ plain_state origin filled
 unfolding volumes_of place_of primary met leg_spot
@@ -150,7 +150,7 @@ move_in_order = refl
 
 -- a refused fill brings nothing
 abbrev refused_so : List Entry
-refused_so = Answered 12 3 (answer.Refused refusal.ReadOnly) ∷ Begun 12 3 (filling 9 2 4) 0 ∷ filled
+refused_so = Answered 12 3 (answer.Refused refusal.ReadOnly) ∷ Begun 12 3 (filling 9 2 4) (Some 0) ∷ filled
 
 refused_changes_nothing : plain_state origin refused_so ≡ plain_state origin filled
 unfolding volumes_of place_of primary met leg_spot
@@ -200,7 +200,7 @@ failed_then_refused = refl
 
 -- an acknowledged command with a newer one that is pending: what that creates is open, the rest is as in force
 abbrev extends_so : List Entry
-extends_so = Opened 12 3 (Some version_4) ∷ Begun 12 3 extending 0 ∷ filled
+extends_so = Opened 12 3 (Some version_4) ∷ Begun 12 3 extending None ∷ filled
 
 extending_pending : pending extends_so ≡ Some (3, Some version_4)
 extending_pending = refl
@@ -238,7 +238,7 @@ extended_old = refl
 
 -- a reduction takes the last sectors off
 abbrev reduced : List Entry
-reduced = Changed 12 3 (Some version_5) ∷ Opened 12 3 (Some version_5) ∷ Begun 12 3 reducing 0 ∷ filled
+reduced = Changed 12 3 (Some version_5) ∷ Opened 12 3 (Some version_5) ∷ Begun 12 3 reducing None ∷ filled
 
 reduced_lengths : list_of (plain_state origin reduced) ≡ (5 ∷ [], 6) ∷ []
 unfolding volumes_of place_of primary met leg_spot
@@ -250,7 +250,7 @@ reduced_old = refl
 
 -- another name is the same volume
 abbrev renamed : List Entry
-renamed = Changed 12 3 (Some version_6) ∷ Opened 12 3 (Some version_6) ∷ Begun 12 3 renaming 0 ∷ filled
+renamed = Changed 12 3 (Some version_6) ∷ Opened 12 3 (Some version_6) ∷ Begun 12 3 renaming None ∷ filled
 
 renamed_key : key_of (plain_state origin renamed).volumes (6 ∷ []) ≡ Some 0
 unfolding volumes_of place_of primary met leg_spot
@@ -262,10 +262,10 @@ renamed_old = refl
 
 -- a volume that is removed and made again is another one
 abbrev removed : List Entry
-removed = Answered 12 3 answer.Fine ∷ Changed 12 3 (Some version_1) ∷ Opened 12 3 (Some version_1) ∷ Begun 12 3 removing 0 ∷ filled
+removed = Answered 12 3 answer.Fine ∷ Changed 12 3 (Some version_1) ∷ Opened 12 3 (Some version_1) ∷ Begun 12 3 removing None ∷ filled
 
 abbrev again : List Entry
-again = Changed 13 4 (Some version_7) ∷ Opened 13 4 (Some version_7) ∷ Begun 13 4 creating 0 ∷ removed
+again = Changed 13 4 (Some version_7) ∷ Opened 13 4 (Some version_7) ∷ Begun 13 4 creating None ∷ removed
 
 removed_volumes : list_of (plain_state origin removed) ≡ []
 unfolding volumes_of place_of primary met leg_spot
@@ -284,7 +284,7 @@ again_in_order = refl
 
 -- a text that is restored: what it places elsewhere is open until then, and has what stands there; the rest stays
 abbrev restores : Version → List Entry
-restores version = Opened 12 3 (Some version) ∷ Begun 12 3 restoring 0 ∷ filled
+restores version = Opened 12 3 (Some version) ∷ Begun 12 3 restoring None ∷ filled
 
 abbrev restored : Version → List Entry
 restored version = Changed 12 3 (Some version) ∷ restores version
@@ -311,7 +311,7 @@ restored_more = refl
 
 -- a fill of two sectors in two pieces: each may hold its number once it is begun, and it is answered once both took place
 abbrev in_pieces : List Entry
-in_pieces = Took 12 2 piece ∷ Begun 8 2 (filling 0 2 7) 0 ∷ created
+in_pieces = Took 12 2 piece ∷ Begun 8 2 (filling 0 2 7) (Some 0) ∷ created
 
 abbrev second_piece : Piece
 second_piece = record { volume = 0; first = 1; count = 1; write = true }
@@ -354,28 +354,96 @@ fenced_pending = refl
 given_up : fenced_by (Answered 14 3 (answer.PvFailed 0) ∷ GivenUp 14 3 ∷ extends_so) ≡ None
 given_up = refl
 
+abbrev read_piece : Piece
+read_piece = record { volume = 0; first = 0; count = 1; write = false }
+
 -- a read gives what the machine had at its piece's Took, also where a later fill was answered first
 abbrev read_so : List Entry
-read_so = Took 12 4 piece ∷ Took 12 3 piece ∷ Begun 12 4 (filling 0 1 9) 0 ∷ Begun 12 3 reading 0 ∷ filled
+read_so = Took 12 4 piece ∷ Took 12 3 read_piece ∷ Begun 12 4 (filling 0 1 9) (Some 0) ∷ Begun 12 3 reading (Some 0) ∷ filled
 
-read_gives : read_values origin read_so 3 (Some (reading, 0)) ≡ number_sector 7 ∷ []
+read_gives : read_values origin read_so 3 (Some (reading, Some 0)) ≡ number_sector 7 ∷ []
 unfolding volumes_of place_of primary met leg_spot
 read_gives = refl
 
 -- the disk of a pvcreate that wrote is left out until it is answered ok
-left_out_disk : left_out origin (Begun 0 0 pvcreating 0 ∷ []) 1 0 ≡ true
+left_out_disk : left_out origin (Begun 0 0 pvcreating None ∷ []) 1 0 ≡ true
 unfolding number_named
 left_out_disk = refl
 
-not_left_out : left_out origin (Begun 0 0 pvcreating 0 ∷ []) 0 0 ≡ false
+not_left_out : left_out origin (Begun 0 0 pvcreating None ∷ []) 0 0 ≡ false
 unfolding number_named
 not_left_out = refl
 
-back_again : left_out origin (Answered 4 0 answer.Fine ∷ Took 4 0 zero_piece ∷ Begun 0 0 pvcreating 0 ∷ []) 4 0 ≡ false
+back_again : left_out origin (Answered 4 0 answer.Fine ∷ Took 4 0 zero_piece ∷ Begun 0 0 pvcreating None ∷ []) 4 0 ≡ false
 unfolding number_named
 back_again = refl
 
 -- it is too where that wrote and was refused
-refused_out : left_out origin (Answered 4 0 (answer.Refused refusal.ReadOnly) ∷ Begun 0 0 pvcreating 0 ∷ []) 4 0 ≡ true
+refused_out : left_out origin (Answered 4 0 (answer.Refused refusal.ReadOnly) ∷ Begun 0 0 pvcreating None ∷ []) 4 0 ≡ true
 unfolding number_named
 refused_out = refl
+
+-- a write to another of its sectors isn't the pvcreate's
+others_stay : left_out (record origin { told = record { opened = zeros; steps = write 1 10 9 ∷ [] } }) (Begun 0 0 pvcreating None ∷ []) 1 0 ≡ false
+unfolding number_named
+others_stay = refl
+
+-- ---- what isn't in order
+
+-- a piece of a volume that isn't there, and one of a read that writes
+unknown_takes : is_in_order (Begun 8 2 (filling 0 1 7) None ∷ created) (Took 12 2 piece) ≡ false
+unknown_takes = refl
+
+read_writes : is_in_order (Begun 12 3 reading (Some 0) ∷ filled) (Took 12 3 piece) ≡ false
+read_writes = refl
+
+-- a line on such a volume is refused alone
+unknown_answers : (is_in_order (Begun 8 2 (filling 0 1 7) None ∷ created) (Answered 12 2 answer.Fine) || is_in_order (Begun 8 2 (filling 0 1 7) None ∷ created) (Answered 12 2 (answer.PvFailed 0))) ≡ false
+unknown_answers = refl
+
+unknown_refused : is_in_order (Begun 8 2 (filling 0 1 7) None ∷ created) (Answered 12 2 (answer.Refused (refusal.UnknownVolume (5 ∷ [])))) ≡ true
+unknown_refused = refl
+
+-- a read that is answered ok, a fill that is answered by sectors, a list that is answered ok; and as they may be
+abbrev was_read : List Entry
+was_read = Took 12 3 read_piece ∷ Begun 12 3 reading (Some 0) ∷ filled
+
+abbrev was_listed : List Entry
+was_listed = Took 12 3 zero_piece ∷ Begun 12 3 listing None ∷ filled
+
+answers_fit : is_in_order was_read (Answered 12 3 answer.Fine) ∷ is_in_order in_pieces (Answered 12 2 (answer.Read [])) ∷ is_in_order was_listed (Answered 12 3 answer.Fine) ∷ [] ≡ false ∷ false ∷ false ∷ []
+answers_fit = refl
+
+answers_are : is_in_order was_read (Answered 12 3 (answer.Read (number_sector 7 ∷ []))) ∷ is_in_order was_listed (Answered 12 3 (answer.Listed [])) ∷ [] ≡ true ∷ true ∷ []
+answers_are = refl
+
+-- a second commit of an ordinary command; that of a move is
+second_commit : is_in_order extended (Opened 13 3 (Some version_4)) ≡ false
+second_commit = refl
+
+second_move : is_in_order moved_so (Opened 13 3 (Some version_3)) ≡ true
+second_move = refl
+
+-- a fill that is refused once a piece of it took place: only where a commit that took its volume away, or made it shorter, stands
+-- behind that piece
+refused_late : is_in_order in_pieces (Answered 12 2 (answer.Refused (refusal.PastEnd 9 6))) ≡ false
+refused_late = refl
+
+abbrev shorter : List Entry
+shorter = Changed 12 3 (Some version_5) ∷ Opened 12 3 (Some version_5) ∷ Begun 12 3 reducing None ∷ in_pieces
+
+refused_behind : is_in_order shorter (Answered 12 2 (answer.Refused (refusal.PastEnd 9 6))) ≡ true
+refused_behind = refl
+
+refused_otherwise : is_in_order shorter (Answered 12 2 (answer.Refused refusal.ReadOnly)) ≡ false
+refused_otherwise = refl
+
+refused_since : is_in_order (Took 12 2 second_piece ∷ shorter) (Answered 12 2 (answer.Refused (refusal.PastEnd 9 6))) ≡ false
+refused_since = refl
+
+-- a group that is being removed isn't left as it is
+removal_given_up : is_in_order (Opened 12 1 None ∷ Begun 12 1 group_removing None ∷ made) (GivenUp 12 1) ≡ false
+removal_given_up = refl
+
+commit_given_up : is_in_order extends_so (GivenUp 13 3) ≡ true
+commit_given_up = refl

@@ -8,6 +8,7 @@ pub legal_append : (e : Entry) (c : Chronicle)
     → IsLegalHistory c → IsOrdered c.origin.start c.entries e → IsFaithful (origin_at (moment_of e) c.origin) c.entries e
     → moment_of e ≤ length c.origin.told.steps → IsLegalHistory (with_entry e c)
 legal_append e c legal ordered faithful by = record {
+  from = legal.from;
   opening = legal.opening;
   told = by;
   ordered = (ordered, legal.ordered);
@@ -39,6 +40,7 @@ pub legal_step : (step : Step) (c : Chronicle) → IsLegalHistory c → IsLegalH
 legal_step step c legal =
     let by : c.origin.start ≤ length c.origin.told.steps = omega (arith, starts_by c.origin.start c.entries legal.ordered, legal.told) in
     record {
+      from = legal.from;
       opening = subst (λ (p : Origin). FindsNow p [] c.origin.start c.origin.version) (sym (origin_stays step c.origin c.origin.start by)) legal.opening;
       told = omega (arith, legal.told);
       ordered = legal.ordered;

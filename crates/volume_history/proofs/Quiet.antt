@@ -22,12 +22,12 @@ use Rattle.volume_history.specs.Replay.{failed_step, line_step, opening_state, o
 use Rattle.volume_history.specs.Sources.{Base}
 
 -- what is known of a line that is quiet, or of none
-pub record QuietLine (b : Option (Line × ℕ)) : Type 0 where
+pub record QuietLine (b : Option (Line × Option ℕ)) : Type 0 where
   pub step : (before after : Option Version) (state : PlainState) (image : Image) → (plain_after state (line_step b before after state image)).volumes ≡ state.volumes
   pub births : (before after : Option Version) (state : PlainState) (image : Image) (key x : ℕ) → is_born (line_step b before after state image) state key x ≡ false
   pub writes : writes_line b ≡ false
 
-quiet_line : (line : Line) (key : ℕ) → is_quiet line.command ≡ true → QuietLine (Some (line, key))
+quiet_line : (line : Line) (key : Option ℕ) → is_quiet line.command ≡ true → QuietLine (Some (line, key))
 quiet_line line key q = let c = quiet_command line.command q in record { step = c.step; births = c.births; writes = c.writes_xl }
 
 quiet_none : QuietLine None
@@ -53,11 +53,11 @@ no_step true s e = cc
 no_step false s e = refl
 
 -- a line that writes nothing takes no step with a piece
-pub took_nothing : (b : Option (Line × ℕ)) (piece : Piece) → writes_line b ≡ false → took_step b piece ≡ Nothing
+pub took_nothing : (b : Option (Line × Option ℕ)) (piece : Piece) → writes_line b ≡ false → took_step b piece ≡ Nothing
 took_nothing None piece w = refl
 took_nothing (Some l) piece w = no_step (writes l.0.command) _ w
 
-failed_nothing : (b : Option (Line × ℕ)) (version : Option Version) (state : PlainState) (image : Image) (piece : Piece) → writes_line b ≡ false → failed_step b version state image piece ≡ Nothing
+failed_nothing : (b : Option (Line × Option ℕ)) (version : Option Version) (state : PlainState) (image : Image) (piece : Piece) → writes_line b ≡ false → failed_step b version state image piece ≡ Nothing
 failed_nothing None version state image piece w = refl
 failed_nothing (Some l) version state image piece w = no_step (writes l.0.command) _ w
 

@@ -1,5 +1,6 @@
 -- The histories of single lines.
 use Rattle.std.proofs.Common.{◌≡◌, ◌≤◌, ◌<◌, ℕ, ◌+◌, ◌-◌, ◌==◌, ◌&&◌, Bool, true, false, not, if◌then◌else◌, List, [], ◌∷◌, length, take, Option, Some, None, inl, inr, ⊎_elim, refl, sym, ap, subst, ◌∙◌, arith}
+use Rattle.std.proofs.lemmas.Bool.{true≢false}
 use Rattle.disk_model.specs.CrashValues.{IsImage}
 use Rattle.disk_model.specs.Moments.{at_moment}
 use Rattle.disk_model.specs.Steps.{Image, Step, Told}
@@ -8,7 +9,7 @@ use Rattle.line_table.specs.Machine.{PlainState, PlainStep, plain_after, sector_
 use Rattle.lvm_script.specs.declared.answer.Answer.{Answer}
 use Rattle.lvm_script.specs.declared.line.Line.{Line}
 use Rattle.volume_history.proofs.Bits.{eq_of}
-use Rattle.volume_history.proofs.CommandKinds.{commit_kind, created_quiet, quiet_command, undata}
+use Rattle.volume_history.proofs.CommandKinds.{commit_kind, created_quiet, created_says, quiet_command, undata}
 use Rattle.volume_history.proofs.LegalLines.{answered_faithful, created_faithful, created_ordered, fenced_faithful, fenced_ordered, gives_nothing, given_up_faithful, given_up_ordered, made_faithful, made_ordered, undone_ordered}
 use Rattle.volume_history.proofs.Past.{now_before}
 use Rattle.volume_history.proofs.Phases.{HasPhases, IsPhase, all_moments, each_moment, finds_with, opening_phase, told_at_end, untouched_then}
@@ -16,8 +17,8 @@ use Rattle.volume_history.proofs.Quiet.{took_nothing}
 use Rattle.volume_history.proofs.Reshaped.{HasNoBase, made_primaries, next_places}
 use Rattle.volume_history.proofs.Written.{since_seen, since_seen_now, since_start, unwritten_by}
 use Rattle.volume_history.specs.Candidates.{IsConsistentMoment, base, is_born, no_image, pending_step, writes_line}
-use Rattle.volume_history.specs.Chronicles.{Answered, Changed, Entry, GivenUp, Opened, Origin, Took, has_written, in_force, left_out, names_disk, now_at, origin_at, pending, piece_covers, steps_upto}
-use Rattle.volume_history.specs.Commands.{commits, created_disk, is_data, is_fine, is_good}
+use Rattle.volume_history.specs.Chronicles.{Answered, Changed, Entry, GivenUp, Opened, Origin, Took, has_written, in_force, left_out, is_number, now_at, origin_at, pending, piece_covers, steps_upto}
+use Rattle.volume_history.specs.Commands.{commits, created_disk, is_created_at, is_data, is_fine, is_good, may_say, removes}
 use Rattle.volume_history.specs.Laws.{DoneCreate, FailedCreate, NoLine, Tells}
 use Rattle.volume_history.specs.Legal.{AllFaithful, AllOrdered, FindsNow, last_moment}
 use Rattle.volume_history.specs.Parts.{FindsPending, NextPart, NextPlaces, Primaries, ScansPart}
@@ -25,7 +26,7 @@ use Rattle.volume_history.specs.Placed.{group_name, volumes_of}
 use Rattle.volume_history.specs.Quiet.{AllUntouched}
 use Rattle.volume_history.specs.Replay.{command_step, opening_state, plain_state}
 use Rattle.volume_history.specs.Runs.{zero_piece}
-use Rattle.volume_history.specs.Single.{AllFind, CommitLaw, CreateLaw, DoneLaw, GivenUpLaw, IsStill, MadeLaw, MayEnd, LeavesDisk, StaysLaw, answered_entries, begun_entries, taken_entries, done_entries, end_of, fenced_entries, given_up_entries, made_entries, is_half_made, none_out, open_entries}
+use Rattle.volume_history.specs.Single.{AllFind, CommitLaw, CreateLaw, DoneLaw, GivenUpLaw, IsStill, MadeLaw, MayEnd, LeavesAll, LeavesDisk, StaysLaw, answered_entries, begun_entries, taken_entries, done_entries, end_of, fenced_entries, given_up_entries, made_entries, is_half_made, none_out, open_entries}
 use Rattle.lvm_script.specs.declared.answer.Answer.TheVariants as answer
 
 -- the run has a history with these entries, where it is legal and each moment is consistent
@@ -35,7 +36,7 @@ tells o es still told ordered faithful moments = record {
   history = record {
     chronicle = record { origin = o; entries = es };
     of_run = record { told = refl; first = refl; sizes = refl; names = refl; clock = refl; journal_xl = refl; lines_xl = refl };
-    legal = record { opening = still.found; told = told; ordered = ordered; faithful = faithful };
+    legal = record { from = still.from; opening = still.found; told = told; ordered = ordered; faithful = faithful };
     consistent = moments;
   };
   entries_xl = refl;
@@ -45,34 +46,34 @@ tells o es still told ordered faithful moments = record {
 module _ (o : Origin) (line : Line) where
   -- with these entries, where the line isn't answered ok
   abbrev leaves : Option ℕ → Bool → ℕ → Bool
-  leaves disk written pv = if names_disk disk pv && written then true else false
+  leaves disk written pv = if is_number disk pv && written then true else false
 
   false_and : (a b : Bool) → (a ≡ true → b ≡ false) → (if a && b then true else false) ≡ false
   false_and true true unless = let e : true ≡ false = unless refl in absurd cc
   false_and true false unless = refl
   false_and false b unless = refl
 
-  names_it : (disk : Option ℕ) (pv : ℕ) → names_disk disk pv ≡ true → disk ≡ Some pv
+  names_it : (disk : Option ℕ) (pv : ℕ) → is_number disk pv ≡ true → disk ≡ Some pv
   names_it None pv is = cc
   names_it (Some d) pv is = ap (λ (k : ℕ). Some k) (eq_of d pv is)
 
   -- one that leaves its disk alone leaves none out
-  leaves_none : LeavesDisk o line → (m : ℕ) → o.start ≤ m → m ≤ end_of o → (written : ℕ → Bool) → ((pv : ℕ) → written pv ≡ has_written (since_start o m) pv) → (pv : ℕ)
+  leaves_none : LeavesDisk o line → (m : ℕ) → o.start ≤ m → m ≤ end_of o → (written : ℕ → Bool) → ((pv : ℕ) → written pv ≡ has_written (is_created_at line.command pv) (since_start o m)) → (pv : ℕ)
       → none_out pv ≡ leaves (created_disk o.names line.command) (written pv) pv
   leaves_none alone m ge le written same pv =
-      sym (false_and (names_disk (created_disk o.names line.command) pv) (written pv)
-      (λ is. same pv ∙ unwritten_by o m pv ge le (alone pv (names_it (created_disk o.names line.command) pv is))))
+      sym (false_and (is_number (created_disk o.names line.command) pv) (written pv)
+      (λ is. same pv ∙ unwritten_by (is_created_at line.command pv) o m ge le (alone pv (names_it (created_disk o.names line.command) pv is))))
 
   out_begun : (m : ℕ) → m ≤ end_of o → (pv : ℕ)
-      → left_out (origin_at m o) (begun_entries o line) (length (origin_at m o).told.steps) pv ≡ leaves (created_disk o.names line.command) (has_written (since_start o m) pv) pv
-  out_begun m le pv = ap (λ (l : List Step). leaves (created_disk o.names line.command) (has_written l pv) pv) (since_seen_now o m le)
+      → left_out (origin_at m o) (begun_entries o line) (length (origin_at m o).told.steps) pv ≡ leaves (created_disk o.names line.command) (has_written (is_created_at line.command pv) (since_start o m)) pv
+  out_begun m le pv = ap (λ (l : List Step). leaves (created_disk o.names line.command) (has_written (is_created_at line.command pv) l) pv) (since_seen_now o m le)
 
   out_answered : (a : Answer) → is_fine a ≡ false → (pv : ℕ)
       → left_out (origin_at (end_of o) o) (answered_entries o line a) (length (origin_at (end_of o) o).told.steps) pv
-      ≡ leaves (created_disk o.names line.command) (has_written (since_start o (end_of o)) pv) pv
+      ≡ leaves (created_disk o.names line.command) (has_written (is_created_at line.command pv) (since_start o (end_of o))) pv
   out_answered a bad pv =
-      ap (λ (b : Bool). if names_disk (created_disk o.names line.command) pv && has_written (take (end_of o - o.start) (steps_upto (origin_at (end_of o) o) (end_of o))) pv then not b else false) bad
-      ∙ ap (λ (l : List Step). leaves (created_disk o.names line.command) (has_written l pv) pv) (since_seen o (end_of o) (omega arith))
+      ap (λ (b : Bool). if is_number (created_disk o.names line.command) pv && has_written (is_created_at line.command pv) (take (end_of o - o.start) (steps_upto (origin_at (end_of o) o) (end_of o))) then not b else false) bad
+      ∙ ap (λ (l : List Step). leaves (created_disk o.names line.command) (has_written (is_created_at line.command pv) l) pv) (since_seen o (end_of o) (omega arith))
 
 -- ---- no line, and a line that commits nothing and writes nothing
 
@@ -90,7 +91,7 @@ not_fine answer.Aborted bad = refl
 not_fine answer.NoMemory bad = refl
 
 module _ (o : Origin) (line : Line) (still : IsStill o) (plain : is_data line.command ≡ false) where
-  writes_none : writes_line (Some (line, 0)) ≡ false
+  writes_none : writes_line (Some (line, None)) ≡ false
   writes_none = (undata line.command plain).0
 
   no_base : (a w t : Bool) (all rest : List Entry) → w ≡ false → rest ≡ [] → (if a && (w && t) then all else rest) ≡ []
@@ -102,8 +103,8 @@ module _ (o : Origin) (line : Line) (still : IsStill o) (plain : is_data line.co
   is_taken : AllFind o.sizes none_out o.version o.told → IsPhase o (taken_entries o line) (end_of o)
   is_taken finds =
       opening_phase o still (taken_entries o line) (end_of o) (omega (arith, still.from, still.until)) (omega arith)
-      (λ key x. no_base (piece_covers (zero_piece 0) key x) (writes_line (Some (line, 0))) true (Took (end_of o) 0 (zero_piece 0) ∷ begun_entries o line) [] writes_none refl)
-      (ap (λ (s : PlainStep). plain_after (opening_state (origin_at (end_of o) o)) s) (took_nothing (Some (line, 0)) (zero_piece 0) writes_none)) refl
+      (λ key x. no_base (piece_covers (zero_piece 0) key x) (writes_line (Some (line, None))) true (Took (end_of o) 0 (zero_piece 0) ∷ begun_entries o line) [] writes_none refl)
+      (ap (λ (s : PlainStep). plain_after (opening_state (origin_at (end_of o) o)) s) (took_nothing (Some (line, None)) (zero_piece 0) writes_none)) refl
       (λ image is. inl (finds_with o.sizes image none_out (left_out (origin_at (end_of o) o) (taken_entries o line) (length (origin_at (end_of o) o).told.steps)) o.version
       (λ k. none_left _) (finds image (subst (λ (t : Told). IsImage t image) (told_at_end o) is)))) tt
     where
@@ -126,12 +127,12 @@ module _ (o : Origin) (line : Line) (law : StaysLaw o) (plain : is_data line.com
   is_open_line m ge le =
       opening_phase o law.still (begun_entries o line) m (omega (arith, law.still.from, ge)) le (λ key x. refl) refl refl
       (λ image is. inl (finds_with o.sizes image none_out (left_out (origin_at m o) (begun_entries o line) (length (origin_at m o).told.steps)) o.version
-      (λ pv. leaves_none o line alone m ge le (λ k. has_written (since_start o m) k) (λ k. refl) pv ∙ sym (out_begun o line m le pv)) (law.after m ge le image is))) tt
+      (λ pv. leaves_none o line alone m ge le (λ k. has_written (is_created_at line.command k) (since_start o m)) (λ k. refl) pv ∙ sym (out_begun o line m le pv)) (law.after m ge le image is))) tt
 
-  pub undone_line : (a : Answer) → is_good a ≡ false → Tells o (answered_entries o line a)
-  undone_line a bad =
+  pub undone_line : (a : Answer) → LeavesAll o line → is_good a ≡ false → may_say line.command a ≡ true → Tells o (answered_entries o line a)
+  undone_line a leaves_all bad says =
       tells o (answered_entries o line a) law.still (omega arith)
-      (undone_ordered o line plain law.still.until a bad) (answered_faithful o line plain law.still.until a (gives_nothing (origin_at (end_of o) o) (begun_entries o line) 0 a bad))
+      (undone_ordered o line plain law.still.until a bad says) (answered_faithful o line plain law.still.until a leaves_all (gives_nothing (origin_at (end_of o) o) (begun_entries o line) 0 a bad))
       (all_moments o law.still (Answered (end_of o) 0 a ∷ []) [] (begun_entries o line) (end_of o) law.still.until (omega arith) (refl, tt) tt (refl, tt)
       (λ m ge lt. is_open_line m ge (omega (arith, lt))) (λ m ge lt. absurd (omega (arith, ge, lt))) answered)
     where
@@ -139,13 +140,13 @@ module _ (o : Origin) (line : Line) (law : StaysLaw o) (plain : is_data line.com
       answered =
           opening_phase o law.still (answered_entries o line a) (end_of o) (omega (arith, law.still.from, law.still.until)) (omega arith) (λ key x. refl) refl refl
           (λ image is. inl (finds_with o.sizes image none_out (left_out (origin_at (end_of o) o) (answered_entries o line a) (length (origin_at (end_of o) o).told.steps)) o.version
-          (λ pv. leaves_none o line alone (end_of o) law.still.until (omega arith) (λ k. has_written (since_start o (end_of o)) k) (λ k. refl) pv ∙ sym (out_answered o line a (not_fine a bad) pv))
+          (λ pv. leaves_none o line alone (end_of o) law.still.until (omega arith) (λ k. has_written (is_created_at line.command k) (since_start o (end_of o))) (λ k. refl) pv ∙ sym (out_answered o line a (not_fine a bad) pv))
           (law.after (end_of o) law.still.until (omega arith) image is))) tt
 
-  pub done_line : commits line.command ≡ false → Tells o (taken_entries o line)
-  done_line none =
+  pub done_line : commits line.command ≡ false → may_say line.command answer.Fine ≡ true → Tells o (taken_entries o line)
+  done_line none says =
       tells o (taken_entries o line) law.still (omega arith)
-      (created_ordered o line plain law.still.until none) (created_faithful o line plain law.still.until)
+      (created_ordered o line plain law.still.until none says) (created_faithful o line plain law.still.until)
       (all_moments o law.still (Answered (end_of o) 0 answer.Fine ∷ Took (end_of o) 0 (zero_piece 0) ∷ []) [] (begun_entries o line) (end_of o) law.still.until (omega arith) (refl, (refl, tt)) tt (refl, tt)
       (λ m ge lt. is_open_line m ge (omega (arith, lt))) (λ m ge lt. absurd (omega (arith, ge, lt)))
       (is_taken o line law.still plain (λ image is. law.after (end_of o) law.still.until (omega arith) image (subst (λ (t : Told). IsImage t image) (sym (told_at_end o)) is))))
@@ -160,8 +161,8 @@ module _ (o : Origin) (line : Line) (opened : ℕ) (version : Option Version) (l
   begins = let a : o.first ≤ o.start = law.still.from in let b : o.start ≤ opened = law.from in omega (arith, a, b)
 
   -- no disk is left out, whatever a line that creates none has written
-  out_none : (written fine : Bool) (pv : ℕ) → none_out pv ≡ (if names_disk (created_disk o.names line.command) pv && written then fine else false)
-  out_none written fine pv = ap (λ (d : Option ℕ). if names_disk d pv && written then fine else false) (sym kind_of.1)
+  out_none : (written fine : Bool) (pv : ℕ) → none_out pv ≡ (if is_number (created_disk o.names line.command) pv && written then fine else false)
+  out_none written fine pv = ap (λ (d : Option ℕ). if is_number d pv && written then fine else false) (sym kind_of.1)
 
   -- before its commit starts
   is_begun_line : (m : ℕ) → o.start ≤ m → m < opened → IsPhase o (begun_entries o line) m
@@ -302,10 +303,10 @@ module _ (o : Origin) (line : Line) (opened : ℕ) (version : Option Version) (l
           let e : end_of o ≡ m = omega (arith, ge, le) in
           subst (λ (k : ℕ). P (at_moment k o.told)) e (subst P (sym (told_at_end o)) is)
 
-  pub given_up_commit : (pv : ℕ) → GivenUpLaw o → Tells o (given_up_entries o line opened version pv)
-  given_up_commit pv given_up =
+  pub given_up_commit : (pv : ℕ) → GivenUpLaw o → removes line.command ≡ false → Tells o (given_up_entries o line opened version pv)
+  given_up_commit pv given_up kept =
       tells o (given_up_entries o line opened version pv) law.still (omega arith)
-      (given_up_ordered o line kind_of.0 law.still.until opened law.from law.until version pv law.commits_xl) (given_up_faithful o line kind_of.0 law.still.until opened law.from law.until version law.makes pv)
+      (given_up_ordered o line kind_of.0 law.still.until opened law.from law.until version pv law.commits_xl kept) (given_up_faithful o line kind_of.0 law.still.until opened law.from law.until version law.makes pv kept)
       (all_moments o law.still (Answered (end_of o) 0 (answer.PvFailed pv) ∷ GivenUp (end_of o) 0 ∷ []) (Opened opened 0 version ∷ []) (begun_entries o line) opened law.from law.until (refl, (refl, tt)) (refl, tt) (refl, tt)
       is_begun_line (λ m ge lt. is_open m ge (omega (arith, lt))) is_given_up)
     where
@@ -335,8 +336,10 @@ module _ (o : Origin) (line : Line) (disk before : ℕ) (law : CreateLaw o line 
   kind = let k = created_quiet o.names disk line.command law.names in ((quiet_command line.command k.0).data_xl, k.1)
 
   -- the disk is left out once it was written
-  half_made : (m : ℕ) → m ≤ end_of o → (pv : ℕ) → is_half_made o disk m pv ≡ leaves o line (created_disk o.names line.command) (has_written (since_start o m) pv) pv
-  half_made m le pv = sym (as_it_is ((disk == pv) && has_written (since_start o m) pv)) ∙ ap (λ (d : Option ℕ). leaves o line d (has_written (since_start o m) pv) pv) (sym law.names)
+  half_made : (m : ℕ) → m ≤ end_of o → (pv : ℕ) → is_half_made o line disk m pv ≡ leaves o line (created_disk o.names line.command) (has_written (is_created_at line.command pv) (since_start o m)) pv
+  half_made m le pv =
+      sym (as_it_is ((disk == pv) && has_written (is_created_at line.command pv) (since_start o m)))
+      ∙ ap (λ (d : Option ℕ). leaves o line d (has_written (is_created_at line.command pv) (since_start o m)) pv) (sym law.names)
     where
       as_it_is : (b : Bool) → (if b then true else false) ≡ b
       as_it_is true = refl
@@ -345,25 +348,26 @@ module _ (o : Origin) (line : Line) (disk before : ℕ) (law : CreateLaw o line 
   is_begun : (m : ℕ) → o.start ≤ m → m < before → m ≤ end_of o → IsPhase o (begun_entries o line) m
   is_begun m ge lt le =
       opening_phase o law.still (begun_entries o line) m (omega (arith, law.still.from, ge)) le (λ key x. refl) refl refl
-      (λ image is. inl (finds_with o.sizes image (is_half_made o disk m) (left_out (origin_at m o) (begun_entries o line) (length (origin_at m o).told.steps)) o.version
+      (λ image is. inl (finds_with o.sizes image (is_half_made o line disk m) (left_out (origin_at m o) (begun_entries o line) (length (origin_at m o).told.steps)) o.version
       (λ pv. half_made m le pv ∙ sym (out_begun o line m le pv)) (law.between m ge lt image is))) tt
 
 pub done_create : DoneCreate
 done_create o line disk law done =
     tells o (taken_entries o line) law.still (omega arith)
-    (created_ordered o line (kind o line disk (end_of o) law).0 law.still.until (kind o line disk (end_of o) law).1) (created_faithful o line (kind o line disk (end_of o) law).0 law.still.until)
+    (created_ordered o line (kind o line disk (end_of o) law).0 law.still.until (kind o line disk (end_of o) law).1 (created_says o.names disk 0 line.command law.names).0) (created_faithful o line (kind o line disk (end_of o) law).0 law.still.until)
     (all_moments o law.still (Answered (end_of o) 0 answer.Fine ∷ Took (end_of o) 0 (zero_piece 0) ∷ []) [] (begun_entries o line) (end_of o) law.still.until (omega arith) (refl, (refl, tt)) tt (refl, tt)
     (λ m ge lt. is_begun o line disk (end_of o) law m ge lt (omega (arith, lt))) (λ m ge lt. absurd (omega (arith, ge, lt))) (is_taken o line law.still (kind o line disk (end_of o) law).0 done.after))
 
 pub failed_create : FailedCreate
 failed_create o line disk pv law =
     tells o (answered_entries o line (answer.PvFailed pv)) law.still (omega arith)
-    (undone_ordered o line (kind o line disk (end_of o + 1) law).0 law.still.until (answer.PvFailed pv) refl) (answered_faithful o line (kind o line disk (end_of o + 1) law).0 law.still.until (answer.PvFailed pv) tt)
+    (undone_ordered o line (kind o line disk (end_of o + 1) law).0 law.still.until (answer.PvFailed pv) refl (created_says o.names disk pv line.command law.names).1)
+    (answered_faithful o line (kind o line disk (end_of o + 1) law).0 law.still.until (answer.PvFailed pv) (λ removing. absurd (true≢false (sym removing ∙ (created_says o.names disk pv line.command law.names).2))) tt)
     (all_moments o law.still (Answered (end_of o) 0 (answer.PvFailed pv) ∷ []) [] (begun_entries o line) (end_of o) law.still.until (omega arith) (refl, tt) tt (refl, tt)
     (λ m ge lt. is_begun o line disk (end_of o + 1) law m ge (omega (arith, lt)) (omega (arith, lt))) (λ m ge lt. absurd (omega (arith, ge, lt))) is_failed)
   where
     is_failed : IsPhase o (answered_entries o line (answer.PvFailed pv)) (end_of o)
     is_failed =
         opening_phase o law.still (answered_entries o line (answer.PvFailed pv)) (end_of o) (omega (arith, law.still.from, law.still.until)) (omega arith) (λ key x. refl) refl refl
-        (λ image is. inl (finds_with o.sizes image (is_half_made o disk (end_of o)) (left_out (origin_at (end_of o) o) (answered_entries o line (answer.PvFailed pv)) (length (origin_at (end_of o) o).told.steps)) o.version
+        (λ image is. inl (finds_with o.sizes image (is_half_made o line disk (end_of o)) (left_out (origin_at (end_of o) o) (answered_entries o line (answer.PvFailed pv)) (length (origin_at (end_of o) o).told.steps)) o.version
         (λ k. half_made o line disk (end_of o + 1) law (end_of o) (omega arith) k ∙ sym (out_answered o line (answer.PvFailed pv) refl k)) (law.between (end_of o) law.still.until (omega arith) image is))) tt

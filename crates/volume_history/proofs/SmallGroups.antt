@@ -124,6 +124,12 @@ moving = line (command.Pvmove GoOn)
 abbrev pub pvcreating : Line
 pvcreating = line (command.Pvcreate (0 ∷ []) 1)
 
+abbrev pub group_removing : Line
+group_removing = line (command.Vgremove (70 ∷ []))
+
+abbrev pub listing : Line
+listing = line command.List
+
 -- one sector is filled, and read
 abbrev pub filling : ℕ → ℕ → ℕ → Line
 filling first count number = line (command.Fill path first count number)

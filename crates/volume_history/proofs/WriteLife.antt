@@ -24,7 +24,7 @@ abbrev pub IsOwnOrLater : List Entry → ℕ → ℕ → ℕ → Line → List �
 IsOwnOrLater es key x n line v = (value_for line.command x ≡ v) ⊎ ((k : ℕ) × (other : Line) × Brings es es key x k es other × ((n == k) ≡ false) × (value_for other.command x ≡ v))
 
 -- its base is its Took, once it is answered ok
-taken_base : (o : Origin) (es : List Entry) (key x m n : ℕ) (line : Line) (piece : Piece) → begun_in es n ≡ Some (line, key) → writes line.command ≡ true → piece_covers piece key x ≡ true
+taken_base : (o : Origin) (es : List Entry) (key x m n : ℕ) (line : Line) (piece : Piece) → begun_in es n ≡ Some (line, Some key) → writes line.command ≡ true → piece_covers piece key x ≡ true
     → base o (Answered m n answer.Fine ∷ Took m n piece ∷ es) key x ≡ Took m n piece ∷ es
 taken_base o es key x m n line piece begun writing covers' =
     ap (λ (t : Bool). if t then Took m n piece ∷ es else base_from o (Answered m n answer.Fine ∷ Took m n piece ∷ es) key x es)
@@ -40,7 +40,7 @@ taken_base o es key x m n line piece begun writing covers' =
 -- a write of a line, where every other write of the place has completed: once it has completed well, a flush that was
 -- submitted after that too, the piece has taken place and its line is answered ok, the sector has its place on that base
 pub write_lives : (o : Origin) (es : List Entry) (key x m n tag flush : ℕ) (place : Place) (line : Line) (piece : Piece) (span : Span) (sectors : List (List ℕ)) (fresh fresh' : List Bool)
-    → begun_in es n ≡ Some (line, key) → writes line.command ≡ true → piece_covers piece key x ≡ true
+    → begun_in es n ≡ Some (line, Some key) → writes line.command ≡ true → piece_covers piece key x ≡ true
     → IsTrue (covers span place.disk place.sector) → value_at span sectors place.sector ≡ value_for line.command x
     → OnlyLeavesOrCompleted o.told place.disk place.sector (IsOwnOrLater es key x n line)
     → let written = origin_on (Completed tag (Writing span sectors) true fresh) (origin_on (Submitted tag (Writing span sectors)) o) in

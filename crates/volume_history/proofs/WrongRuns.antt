@@ -45,7 +45,7 @@ holding = version_of 1 (volume_5 0 1 ∷ [])
 abbrev unflushed : Chronicle
 unflushed = record {
   origin = record (origin_of (record { opened = opened; steps = Submitted 1 (Writing (record { pv = 0; first = 10; count = 1 }) (number_sector 7 ∷ [])) ∷ [] })) { version = Some holding };
-  entries = Answered 1 0 answer.Fine ∷ Took 1 0 (record { volume = 0; first = 0; count = 1; write = true }) ∷ Begun 0 0 (filling 0 1 7) 0 ∷ [];
+  entries = Answered 1 0 answer.Fine ∷ Took 1 0 (record { volume = 0; first = 0; count = 1; write = true }) ∷ Begun 0 0 (filling 0 1 7) (Some 0) ∷ [];
 }
 
 different : (n : ℕ) → n ≡ 7 → n ≡ 0 → ⊥

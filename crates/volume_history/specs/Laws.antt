@@ -1,5 +1,5 @@
 -- The laws of histories.
-use Rattle.std.specs.Prelude.{◌≡◌, ◌≤◌, ℕ, suc, ◌+◌, Bool, false, List, [], ◌∷◌, length, map, Option, Some}
+use Rattle.std.specs.Prelude.{◌≡◌, ◌≤◌, ℕ, suc, ◌+◌, Bool, true, false, List, [], ◌∷◌, length, map, Option, Some}
 use Rattle.disk_model.specs.Steps.{Image, Step}
 use Rattle.image_scans.specs.Versions.{FindsVersion, Version}
 use Rattle.lvm_script.specs.declared.answer.Answer.{Answer}
@@ -8,7 +8,7 @@ use Rattle.lvm_script.specs.declared.line.Line.{Line}
 use Rattle.volume_rules.specs.Rules.{IsAccepted}
 use Rattle.volume_view.specs.View.{view}
 use Rattle.volume_history.specs.Placed.{Place, PlacedVolume, group_name, values_on, volumes_of}
-use Rattle.volume_history.specs.Commands.{commits, is_data, is_good}
+use Rattle.volume_history.specs.Commands.{commits, is_data, is_good, may_say, removes}
 use Rattle.volume_history.specs.Chronicles.{AreUpto, Entry, Answered, Origin, Chronicle, moment_of, chronicle_at, in_force, origin_at, origin_on, pending, with_step, with_entry}
 use Rattle.volume_history.specs.Replay.{plain_state}
 use Rattle.volume_history.specs.Legal.{IsFaithful, IsLegalHistory, IsOrdered}
@@ -16,7 +16,7 @@ use Rattle.volume_history.specs.Candidates.{base, candidates, IsConsistentMoment
 use Rattle.volume_history.specs.Parts.{NextPart, PlaceHolds, Primaries, ScansPart}
 use Rattle.volume_history.specs.Quiet.{IsQuietMoment}
 use Rattle.volume_history.specs.Runs.{HasHistory, Run, journal_of, lines_of}
-use Rattle.volume_history.specs.Single.{CommitLaw, CreateLaw, CreatedLaw, DoneLaw, GivenUpLaw, LeavesDisk, MadeLaw, MayEnd, StaysLaw, taken_entries, done_entries, end_of, fenced_entries, given_up_entries, made_entries, answered_entries}
+use Rattle.volume_history.specs.Single.{CommitLaw, CreateLaw, CreatedLaw, DoneLaw, GivenUpLaw, LeavesAll, LeavesDisk, MadeLaw, MayEnd, StaysLaw, taken_entries, done_entries, end_of, fenced_entries, given_up_entries, made_entries, answered_entries}
 use Rattle.volume_history.specs.Sources.{HoldsFrom, IsSource, MovesNone, Source, value_of}
 
 -- an earlier moment stays what it was, whatever is told or entered later
@@ -92,14 +92,14 @@ NoLine = (o : Origin) → StaysLaw o → Tells o []
 -- a line that wasn't done, and wrote nothing: it was refused, or a read failed
 abbrev pub UndoneLine : Type 0
 UndoneLine =
-    (o : Origin) (line : Line) (answer : Answer) → StaysLaw o → is_data line.command ≡ false → LeavesDisk o line → is_good answer ≡ false
-    → Tells o (answered_entries o line answer)
+    (o : Origin) (line : Line) (answer : Answer) → StaysLaw o → is_data line.command ≡ false → LeavesDisk o line → LeavesAll o line → is_good answer ≡ false
+    → may_say line.command answer ≡ true → Tells o (answered_entries o line answer)
 
 -- a line that was done, and commits and writes nothing: a report
 abbrev pub DoneLine : Type 0
 DoneLine =
     (o : Origin) (line : Line) → StaysLaw o → is_data line.command ≡ false → LeavesDisk o line → commits line.command ≡ false
-    → Tells o (taken_entries o line)
+    → may_say line.command answer.Fine ≡ true → Tells o (taken_entries o line)
 
 -- a commit that was done
 abbrev pub DoneCommit : Type 0
@@ -111,10 +111,10 @@ MadeCommit =
     (o : Origin) (line : Line) (opened made : ℕ) (version : Option Version) (said : Answer) → CommitLaw o line opened version → MadeLaw o opened made version → MayEnd said
     → Tells o (made_entries o line opened made version said)
 
--- one that was given up
+-- one that was given up; a removal isn't
 abbrev pub GivenUpCommit : Type 0
 GivenUpCommit =
-    (o : Origin) (line : Line) (opened : ℕ) (version : Option Version) (pv : ℕ) → CommitLaw o line opened version → GivenUpLaw o → Tells o (given_up_entries o line opened version pv)
+    (o : Origin) (line : Line) (opened : ℕ) (version : Option Version) (pv : ℕ) → CommitLaw o line opened version → GivenUpLaw o → removes line.command ≡ false → Tells o (given_up_entries o line opened version pv)
 
 -- one that fences the group
 abbrev pub FencedCommit : Type 0

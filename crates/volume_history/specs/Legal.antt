@@ -1,6 +1,10 @@
 -- Legal histories: what each entry needs of those before it.
-use Rattle.std.specs.Prelude.{◌≡◌, ◌≤◌, ◌<◌, ◌⊎◌, ℕ, ◌+◌, nat_lt, Bool, true, false, not, ◌==◌, ◌&&◌, ◌||◌, IsTrue, if◌then◌else◌, List, [], ◌∷◌, length, map, Option, Some, None, slice_index_or, is_some}
+use Rattle.std.specs.Prelude.{◌≡◌, ◌≤◌, ◌<◌, ◌⊎◌, ℕ, ◌+◌, ◌-◌, nat_lt, Bool, true, false, not, ◌==◌, ◌&&◌, ◌||◌, IsTrue, if◌then◌else◌, List, [], ◌∷◌, length, map, take, Option, Some, None, slice_index_or, is_some}
 use Rattle.std.specs.List.{range_with_len}
+use Rattle.std.specs.Option.{option_and_then, option_map_or}
+use Rattle.std.specs.Str.{bytes_eq}
+use Rattle.disk_model.specs.Order.{WritesNothing}
+use Rattle.disk_model.specs.Steps.{Step}
 use Rattle.sector_base.specs.declared.places.Piece.{Piece}
 use Rattle.extent_alloc.specs.declared.part.Part.{Part}
 use Rattle.group_ops.specs.Allocating.{Takes}
@@ -10,14 +14,14 @@ use Rattle.group_ops.specs.declared.backup.Backup.{Backup}
 use Rattle.group_ops.specs.declared.state.Change.{Change}
 use Rattle.image_scans.specs.Versions.{FindsVersion, Version}
 use Rattle.line_table.specs.Machine.{PlainState, key_of, list_of, sector_of}
-use Rattle.lvm_script.specs.Options.{Word}
+use Rattle.lvm_script.specs.declared.command.Path.{Path}
 use Rattle.lvm_script.specs.declared.answer.Answer.{Answer}
 use Rattle.lvm_script.specs.declared.answer.Answer.TheVariants as answer
 use Rattle.lvm_script.specs.declared.line.Line.{Line}
 use Rattle.meta_model.specs.declared.group.Group.{Group}
-use Rattle.volume_history.specs.Commands.{is_data, is_wait, is_move, is_tended, failed_pv, is_good, is_refused, writes, commits, covers_sector, range_of, value_for, volume_named}
-use Rattle.volume_history.specs.Chronicles.{Entry, Begun, Opened, Took, Changed, GivenUp, Failed, Answered, Origin, Chronicle, origin_at, moment_of, now_at, begun_in, count_begun, is_open, open_among, every, pending, in_force, may_begin, piece_covers, took_at, settled_at, has_took, left_out}
-use Rattle.volume_history.specs.Replay.{key_or, plain_state, shown_at}
+use Rattle.volume_history.specs.Commands.{is_data, is_wait, is_move, is_tended, failed_pv, is_good, is_judged_again, is_refused, may_say, writes, commits, covers_sector, range_of, removes, value_for, volume_named}
+use Rattle.volume_history.specs.Chronicles.{Entry, Begun, Opened, Took, Changed, GivenUp, Failed, Answered, Origin, Chronicle, origin_at, moment_of, now_at, begun_in, count_begun, is_number, is_open, open_among, every, pending, in_force, may_begin, piece_covers, steps_upto, took_at, settled_at, has_took, left_out}
+use Rattle.volume_history.specs.Replay.{plain_state, shown_at}
 
 -- ---- the order of entries, which needs no content
 
@@ -31,39 +35,57 @@ abbrev pub sectors_in : Option (ℕ × ℕ) → List ℕ
 sectors_in None = []
 sectors_in (Some r) = range_with_len r.0 r.1
 
--- whether the piece has sectors, which are of the line's range, and of which no piece of the line has one
-abbrev pub is_new_piece : List Entry → ℕ → Line → ℕ → Piece → Bool
-is_new_piece es number line key piece =
-    (piece.volume == key) && nat_lt 0 piece.count
-    && all_in (λ x. covers_sector line.command x && not (settled_at es number key x)) (range_with_len piece.first piece.count)
-
--- whether it is the piece of an entry of a command
-abbrev pub is_zero_piece : Piece → Bool
-is_zero_piece piece = (piece.volume == 0) && (piece.first == 0) && (piece.count == 0)
-
--- whether a piece of a line may take place: a new one of a line that reads or writes, or the one of a command that commits
--- nothing
-abbrev pub may_take : List Entry → ℕ → Option (Line × ℕ) → Piece → Bool
-may_take es number None piece = false
-may_take es number (Some l) piece =
-    if is_data l.0.command then is_new_piece es number l.0 l.1 piece else (not (commits l.0.command) && is_zero_piece piece && not (has_took es number))
-
--- whether a piece of a line may fail
-abbrev pub may_fail : List Entry → ℕ → Option (Line × ℕ) → Piece → Bool
-may_fail es number None piece = false
-may_fail es number (Some l) piece = is_data l.0.command && is_new_piece es number l.0 l.1 piece
-
 -- whether both are true, or both false
 abbrev pub same : Bool → Bool → Bool
 same true b = b
 same false b = not b
 
+-- whether the piece is of the line's volume, writes as the line does, and has sectors, which are of the line's range, and of which
+-- no piece of the line has one
+abbrev pub is_new_piece : List Entry → ℕ → Line → Option ℕ → Piece → Bool
+is_new_piece es number line key piece =
+    is_number key piece.volume && same piece.write (writes line.command) && nat_lt 0 piece.count
+    && all_in (λ x. covers_sector line.command x && not (settled_at es number piece.volume x)) (range_with_len piece.first piece.count)
+
+-- whether it is the piece of an entry of a command
+abbrev pub is_zero_piece : Piece → Bool
+is_zero_piece piece = (piece.volume == 0) && (piece.first == 0) && (piece.count == 0) && not piece.write
+
+-- whether a piece of a line may take place: a new one of a line that reads or writes, or the one of a command that commits
+-- nothing
+abbrev pub may_take : List Entry → ℕ → Option (Line × Option ℕ) → Piece → Bool
+may_take es number None piece = false
+may_take es number (Some l) piece =
+    if is_data l.0.command then is_new_piece es number l.0 l.1 piece else (not (commits l.0.command) && is_zero_piece piece && not (has_took es number))
+
+-- whether a piece of a line may fail
+abbrev pub may_fail : List Entry → ℕ → Option (Line × Option ℕ) → Piece → Bool
+may_fail es number None piece = false
+may_fail es number (Some l) piece = is_data l.0.command && is_new_piece es number l.0 l.1 piece
+
+-- whether each sector of the line passes the test, of the volume with its key; none does where that isn't there
+abbrev pub each_sector : (ℕ → ℕ → Bool) → Line → Option ℕ → Bool
+each_sector test line None = false
+each_sector test line (Some key) = all_in (test key) (sectors_in (range_of line.command))
+
+-- whether a commit has made a version since the line's newest piece took place, and since it was begun
+abbrev pub is_overtaken : List Entry → ℕ → Bool
+is_overtaken [] number = false
+is_overtaken (Begun moment n line key ∷ es) number = not (n == number) && is_overtaken es number
+is_overtaken (Took moment n piece ∷ es) number = not (n == number) && is_overtaken es number
+is_overtaken (Changed moment n version ∷ es) number = true
+is_overtaken (_ ∷ es) number = is_overtaken es number
+
+-- whether a line that reads or writes may be refused so: before its pieces, or, where it is judged again, behind a commit
+abbrev pub may_refuse : List Entry → ℕ → Answer → Bool
+may_refuse es number answer = not (has_took es number) || (is_judged_again answer && is_overtaken es number)
+
 -- whether a line that reads or writes may be answered so: as done exactly where each sector took place, and, unless it is
 -- refused, once each sector took place or failed
-abbrev pub may_answer_data : List Entry → ℕ → Line → ℕ → Answer → Bool
+abbrev pub may_answer_data : List Entry → ℕ → Line → Option ℕ → Answer → Bool
 may_answer_data es number line key answer =
-    same (is_good answer) (all_in (λ x. took_at es number key x) (sectors_in (range_of line.command)))
-    && (is_refused answer || all_in (λ x. settled_at es number key x) (sectors_in (range_of line.command)))
+    same (is_good answer) (each_sector (took_at es number) line key)
+    && (if is_refused answer then may_refuse es number answer else each_sector (settled_at es number) line key)
 
 -- whether no other line is open
 abbrev pub is_alone : List (ℕ × Line) → ℕ → Bool
@@ -81,28 +103,35 @@ abbrev pub is_pending : Option (ℕ × Option Version) → ℕ → Bool
 is_pending None number = false
 is_pending (Some p) number = p.0 == number
 
--- whether a line may be answered so; a command whose commit is open only where that fences the group
-abbrev pub may_answer : List Entry → ℕ → Option (Line × ℕ) → Answer → Bool
+-- whether a line may be answered so, by an answer that its command may have; a command whose commit is open only where that fences
+-- the group
+abbrev pub may_answer : List Entry → ℕ → Option (Line × Option ℕ) → Answer → Bool
 may_answer es number None answer = false
 may_answer es number (Some l) answer =
-    if is_data l.0.command
+    may_say l.0.command answer
+    && (if is_data l.0.command
     then may_answer_data es number l.0 l.1 answer
-    else (may_answer_command es number l.0 answer && (not (is_pending (pending es) number) || is_some (failed_pv answer)))
+    else (may_answer_command es number l.0 answer && (not (is_pending (pending es) number) || is_some (failed_pv answer))))
 
--- whether a commit of the line may start: none is open
-abbrev pub may_open : Option (Line × ℕ) → Option (ℕ × Option Version) → Bool
-may_open (Some l) None = commits l.0.command
-may_open _ _ = false
+-- whether a commit of the line may start: none is open, and it has made none, unless it is a move's
+abbrev pub may_open : List Entry → ℕ → Option (Line × Option ℕ) → Option (ℕ × Option Version) → Bool
+may_open es number (Some l) None = commits l.0.command && (is_tended l.0.command || not (has_took es number))
+may_open es number _ _ = false
+
+-- whether the commit of the line may be given up: what clears the disks of a group that is removed isn't
+abbrev pub may_give_up : Option (Line × Option ℕ) → Bool
+may_give_up None = false
+may_give_up (Some l) = not (removes l.0.command)
 
 -- whether the entry may come behind the others
 abbrev pub is_in_order : List Entry → Entry → Bool
 is_in_order es (Begun moment n line key) = (n == count_begun es) && may_begin es line
 is_in_order es (Opened moment n version) =
-    is_open es n && may_open (begun_in es n) (pending es)
+    is_open es n && may_open es n (begun_in es n) (pending es)
     && every (λ o. (o.0 == n) || not (commits o.1.command) || is_tended o.1.command) (open_among es es)
 is_in_order es (Took moment n piece) = is_open es n && may_take es n (begun_in es n) piece
 is_in_order es (Changed moment n version) = is_open es n && is_pending (pending es) n
-is_in_order es (GivenUp moment n) = is_open es n && is_pending (pending es) n
+is_in_order es (GivenUp moment n) = is_open es n && is_pending (pending es) n && may_give_up (begun_in es n)
 is_in_order es (Failed moment n piece) = is_open es n && may_fail es n (begun_in es n) piece
 is_in_order es (Answered moment n answer) = is_open es n && may_answer es n (begun_in es n) answer
 
@@ -137,9 +166,9 @@ state_taken o (Took moment n piece ∷ es) number = if n == number then plain_st
 state_taken o (_ ∷ es) number = state_taken o es number
 
 -- what a read gave of all its sectors
-abbrev pub read_values : Origin → List Entry → ℕ → Option (Line × ℕ) → List (List ℕ)
+abbrev pub read_values : Origin → List Entry → ℕ → Option (Line × Option ℕ) → List (List ℕ)
 read_values o es number None = []
-read_values o es number (Some l) = map (λ (x : ℕ). read_sector o es number l.1 x) (sectors_in (range_of l.0.command))
+read_values o es number (Some l) = option_map_or (λ (key : ℕ). map (λ (x : ℕ). read_sector o es number key x) (sectors_in (range_of l.0.command))) l.1 []
 
 -- an answer gives what the machine had
 abbrev pub GivesMachine : Origin → List Entry → ℕ → Answer → Type 0
@@ -148,17 +177,20 @@ GivesMachine o es number (answer.Listed volumes) = volumes ≡ list_of (state_ta
 GivesMachine o es number _ = Unit {0}
 
 -- a write piece that failed left each of its sectors old or written
-abbrev pub LeavesOldOrNew : Origin → List Entry → Option (Line × ℕ) → ℕ → Piece → Type 0
+abbrev pub LeavesOldOrNew : Origin → List Entry → Option (Line × Option ℕ) → ℕ → Piece → Type 0
 LeavesOldOrNew o es None moment piece = Unit {0}
 LeavesOldOrNew o es (Some l) moment piece =
     (i : ℕ) → i < piece.count → IsTrue (writes l.0.command)
     → (slice_index_or (shown_at (in_force o es) (plain_state o es) (now_at o moment) piece) i [] ≡ sector_of (plain_state o es) piece.volume (piece.first + i))
     ⊎ (slice_index_or (shown_at (in_force o es) (plain_state o es) (now_at o moment) piece) i [] ≡ value_for l.0.command (piece.first + i))
 
--- the key of the volume of this name, if there is one
-abbrev pub key_named : Origin → List Entry → Option Word → ℕ
-key_named o es None = 0
-key_named o es (Some name) = key_or (key_of (plain_state o es).volumes name)
+-- the key of the volume of this path, where the group has its name and such a volume
+abbrev pub key_in : PlainState → Path → Option ℕ
+key_in state path = if option_map_or (λ (name : List ℕ). bytes_eq name path.vg) state.group false then key_of state.volumes path.lv else None
+
+-- the same of what the machine has after the entries
+abbrev pub key_named : Origin → List Entry → Option Path → Option ℕ
+key_named o es path = option_and_then (key_in (plain_state o es)) path
 
 -- a scan of what a read gave at the moment, without the disks that are left out, finds this version
 abbrev pub FindsNow : Origin → List Entry → ℕ → Option Version → Type 0
@@ -186,9 +218,28 @@ pub record Makes (o : Origin) (es : List Entry) (moment : ℕ) (line : Line) (af
   pub change : after ≡ version_made (change_of (state_in before.found o.names backup) line o.clock given)
 
 -- the same of a line that was begun
-abbrev pub MakesFrom : Origin → List Entry → ℕ → Option (Line × ℕ) → Option Version → Type 0
+abbrev pub MakesFrom : Origin → List Entry → ℕ → Option (Line × Option ℕ) → Option Version → Type 0
 MakesFrom o es moment None after = ⊥
 MakesFrom o es moment (Some l) after = Makes o es moment l.0 after
+
+-- the moment at which the line was begun
+abbrev pub begun_at : List Entry → ℕ → ℕ
+begun_at [] number = 0
+begun_at (Begun moment n line key ∷ es) number = if n == number then moment else begun_at es number
+begun_at (_ ∷ es) number = begun_at es number
+
+-- what was told since a line was begun, by a moment
+abbrev pub steps_since : Origin → List Entry → ℕ → ℕ → List Step
+steps_since o es number moment = take (moment - begun_at es number) (steps_upto o moment)
+
+-- whether the line is one that removes the group, and has neither done nor begun that
+abbrev pub keeps_group : List Entry → ℕ → Option (Line × Option ℕ) → Bool
+keeps_group es number None = false
+keeps_group es number (Some l) = removes l.0.command && not (has_took es number || is_pending (pending es) number)
+
+-- nothing was written since such a line was begun
+abbrev pub LeavesGroup : Origin → List Entry → ℕ → ℕ → Type 0
+LeavesGroup o es number moment = IsTrue (keeps_group es number (begun_in es number)) → WritesNothing (steps_since o es number moment)
 
 -- the entry agrees with the machine and with what stands on the disks
 abbrev pub IsFaithful : Origin → List Entry → Entry → Type 0
@@ -198,7 +249,7 @@ IsFaithful o es (Took moment n piece) = Unit {0}
 IsFaithful o es (Changed moment n version) = FindsNow o es moment version
 IsFaithful o es (GivenUp moment n) = Unit {0}
 IsFaithful o es (Failed moment n piece) = LeavesOldOrNew o es (begun_in es n) moment piece
-IsFaithful o es (Answered moment n answer) = GivesMachine o es n answer
+IsFaithful o es (Answered moment n answer) = GivesMachine o es n answer × LeavesGroup o es n moment
 
 -- each entry may come behind those before it
 abbrev pub AllOrdered : ℕ → List Entry → Type 0
@@ -210,8 +261,10 @@ abbrev pub AllFaithful : Origin → List Entry → Type 0
 AllFaithful o [] = Unit {0}
 AllFaithful o (e ∷ es) = IsFaithful (origin_at (moment_of e) o) es e × AllFaithful o es
 
--- a legal history: a scan at the start finds the version in force, and each entry has its order and is faithful
+-- a legal history: it starts no earlier than the disks were handed in, a scan at the start finds the version in force, and each entry
+-- has its order and is faithful
 pub record IsLegalHistory (c : Chronicle) : Type 0 where
+  pub from : c.origin.first ≤ c.origin.start
   pub opening : FindsNow (origin_at c.origin.start c.origin) [] c.origin.start c.origin.version
   pub told : last_moment c.origin.start c.entries ≤ length c.origin.told.steps
   pub ordered : AllOrdered c.origin.start c.entries

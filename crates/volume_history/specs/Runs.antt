@@ -1,5 +1,5 @@
 -- What a run tells of its history: the promise to the administrator.
-use Rattle.std.specs.Prelude.{◌≡◌, ◌≤◌, ℕ, false, List, [], ◌∷◌, ◌++◌, length, Option, option_map}
+use Rattle.std.specs.Prelude.{◌≡◌, ◌≤◌, ℕ, false, List, [], ◌∷◌, ◌++◌, length, Option, option_map, unwrap_or}
 use Rattle.sector_base.specs.declared.places.Piece.{Piece}
 use Rattle.disk_model.specs.Steps.{Told}
 use Rattle.line_table.specs.declared.journal.EntryKind.TheVariants as kind
@@ -18,7 +18,7 @@ zero_piece key = record { volume = key; first = 0; count = 0; write = false }
 -- the journal of the entries, the oldest first: without the notes, and without lines, versions and answers
 abbrev pub journal_of : List Entry → List JournalEntry
 journal_of [] = []
-journal_of (Begun moment n line key ∷ es) = journal_of es ++ record { kind = kind.Begun; line = n; piece = zero_piece key; moment = moment } ∷ []
+journal_of (Begun moment n line key ∷ es) = journal_of es ++ record { kind = kind.Begun; line = n; piece = zero_piece (unwrap_or key 0); moment = moment } ∷ []
 journal_of (Opened moment n version ∷ es) = journal_of es
 journal_of (Took moment n piece ∷ es) = journal_of es ++ record { kind = kind.Took; line = n; piece = piece; moment = moment } ∷ []
 journal_of (Changed moment n version ∷ es) = journal_of es ++ record { kind = kind.Took; line = n; piece = zero_piece 0; moment = moment } ∷ []

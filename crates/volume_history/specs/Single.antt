@@ -1,7 +1,8 @@
 -- The histories of a single command, by how it ends.
-use Rattle.std.specs.Prelude.{◌≡◌, ◌≤◌, ◌<◌, ◌⊎◌, ℕ, ◌-◌, ◌==◌, ◌&&◌, Bool, true, false, List, [], ◌∷◌, length, take, Option, Some}
+use Rattle.std.specs.Prelude.{◌≡◌, ◌≤◌, ◌<◌, ◌⊎◌, ℕ, ◌-◌, ◌==◌, ◌&&◌, Bool, true, false, List, [], ◌∷◌, length, take, Option, Some, None}
 use Rattle.disk_model.specs.CrashValues.{IsImage}
 use Rattle.disk_model.specs.Moments.{at_moment}
+use Rattle.disk_model.specs.Order.{WritesNothing}
 use Rattle.disk_model.specs.Steps.{Image, Told}
 use Rattle.image_scans.specs.Versions.{FindsVersion, Version}
 use Rattle.lvm_script.specs.declared.answer.Answer.{Answer}
@@ -10,7 +11,7 @@ use Rattle.lvm_script.specs.declared.command.Command.{Command}
 use Rattle.lvm_script.specs.declared.line.Line.{Line}
 use Rattle.volume_history.specs.Placed.{volumes_of}
 use Rattle.line_table.specs.Machine.{plain_after}
-use Rattle.volume_history.specs.Commands.{commits, created_disk}
+use Rattle.volume_history.specs.Commands.{commits, created_disk, is_created_at, removes}
 use Rattle.volume_history.specs.Chronicles.{Entry, Begun, Opened, Took, Changed, GivenUp, Answered, Origin, has_written, now_at, origin_at, steps_upto}
 use Rattle.volume_history.specs.Legal.{FindsNow, Makes}
 use Rattle.volume_history.specs.Quiet.{AllUntouched}
@@ -26,7 +27,7 @@ end_of o = length o.told.steps
 
 -- the line is begun at the start
 abbrev pub begun_entries : Origin → Line → List Entry
-begun_entries o line = Begun o.start 0 line 0 ∷ []
+begun_entries o line = Begun o.start 0 line None ∷ []
 
 -- it is answered so at the end
 abbrev pub answered_entries : Origin → Line → Answer → List Entry
@@ -84,9 +85,13 @@ pub record StaysLaw (o : Origin) : Type 0 where
   pub still : IsStill o
   pub after : (m : ℕ) → o.start ≤ m → m ≤ end_of o → AllFind o.sizes none_out o.version (at_moment m o.told)
 
--- the line has submitted no write of the disk on which it is to create a physical volume, if it is
+-- the line has submitted no write of the physical volume that it is to create, if it is
 abbrev pub LeavesDisk : Origin → Line → Type 0
-LeavesDisk o line = (disk : ℕ) → created_disk o.names line.command ≡ Some disk → has_written (take (end_of o - o.start) o.told.steps) disk ≡ false
+LeavesDisk o line = (disk : ℕ) → created_disk o.names line.command ≡ Some disk → has_written (is_created_at line.command disk) (take (end_of o - o.start) o.told.steps) ≡ false
+
+-- nor any write, where it is to remove the group
+abbrev pub LeavesAll : Origin → Line → Type 0
+LeavesAll o line = removes line.command ≡ true → WritesNothing (take (end_of o - o.start) o.told.steps)
 
 -- only zeros may be left at the places of the sectors that are born as zeros in the version
 abbrev pub ZeroesStand : Origin → Command → Option Version → Type 0
@@ -132,16 +137,16 @@ MayEnd _ = ⊥
 pub record GivenUpLaw (o : Origin) : Type 0 where
   pub after : AllFind o.sizes none_out o.version o.told
 
--- whether it is this disk, and a write of it was submitted since the start
-abbrev pub is_half_made : Origin → ℕ → ℕ → ℕ → Bool
-is_half_made o disk m pv = (disk == pv) && has_written (take (m - o.start) (steps_upto o m)) pv
+-- whether it is this disk, and a write of what the line creates there was submitted since the start
+abbrev pub is_half_made : Origin → Line → ℕ → ℕ → ℕ → Bool
+is_half_made o line disk m pv = (disk == pv) && has_written (is_created_at line.command pv) (take (m - o.start) (steps_upto o m))
 
 -- a pvcreate of this disk that was begun at the start: at each moment before this one every image shows the version in
 -- force, where the disk is left out once a write of it was submitted
 pub record CreateLaw (o : Origin) (line : Line) (disk before : ℕ) : Type 0 where
   pub still : IsStill o
   pub names : created_disk o.names line.command ≡ Some disk
-  pub between : (m : ℕ) → o.start ≤ m → m < before → AllFind o.sizes (is_half_made o disk m) o.version (at_moment m o.told)
+  pub between : (m : ℕ) → o.start ≤ m → m < before → AllFind o.sizes (is_half_made o line disk m) o.version (at_moment m o.told)
 
 -- it was done: at the end no disk is left out
 pub record CreatedLaw (o : Origin) : Type 0 where
