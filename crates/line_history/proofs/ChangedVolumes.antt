@@ -45,7 +45,8 @@ use Rattle.group_ops.proofs.CreatedVolume.{Creates, creates}
 use Rattle.group_ops.proofs.NextVersions.{drawn_is}
 use Rattle.group_ops.specs.Lvcreate.{created_group, kind_for}
 use Rattle.group_ops.specs.Lvextend.{extend_in_rows, extend_lv_rows, lengthen_rows}
-use Rattle.group_ops.specs.Lvreduce.{kept_by, reduce_change, reduce_in_rows, reduce_lv_rows, reduced_group}
+use Rattle.group_ops.specs.Sizes.{kept_by}
+use Rattle.group_ops.specs.Lvreduce.{reduce_change, reduce_in_rows, reduce_lv_rows, reduced_group}
 use Rattle.group_ops.specs.Lvremove.{remove_change, remove_in_rows, remove_lv_rows}
 use Rattle.group_ops.specs.Lvrename.{rename_in_rows, rename_lv_rows}
 use Rattle.group_ops.specs.NewGroup.{extended, free_number, names_in, pv_name, with_added}

@@ -1,11 +1,13 @@
 -- Once a commit is done, and disks are cleared behind it, each copy on any disk is that of the new group, so no set of disks finds
 -- another.
-use Rattle.std.proofs.Common.{◌≡◌, ℕ, ◌+◌, true, false, List, [], get_or, Option, Some, None, ⊎_elim, sym, ap, subst, ◌∙◌, arith}
-use Rattle.std.specs.Prelude.{All, slice_get}
+use Rattle.std.proofs.Common.{◌≡◌, ◌≢◌, ◌<◌, ℕ, ◌+◌, true, false, List, [], length, get_or, Option, Some, None, ⊎_elim, refl, sym, ap, subst, ◌∙◌, arith}
+use Rattle.std.specs.Prelude.{All, Contains, slice_get}
 use Rattle.std.specs.FinSet as set
+use Rattle.std.specs.Ordering.{nat_cmp}
 use Rattle.std.proofs.lemmas.Bool.{cases_Bool, false_from_ne_true, true≢false}
-use Rattle.std.proofs.lemmas.List.Elements.{recursion_from_All}
-use Rattle.std.proofs.lemmas.Option.{same_Some}
+use Rattle.std.proofs.lemmas.List.{length-map}
+use Rattle.std.proofs.lemmas.List.Elements.{All-contains, All-from_recursion, recursion_from_All}
+use Rattle.std.proofs.lemmas.Option.{same_Some, slice_get_within}
 use Rattle.conf_text.specs.Printed.{printed}
 use Rattle.disk_batch.specs.InTurn.{HasFirstBatches, with_batches}
 use Rattle.disk_model.specs.Steps.{Image}
@@ -34,6 +36,7 @@ use Rattle.group_ops.specs.declared.state.GroupState.{GroupState}
 use Rattle.vg_change.specs.Batches.{batches_of, clears_of}
 use Rattle.vg_change.specs.Building.{AreScanned}
 use Rattle.vg_change.specs.Laws.{HoldsAfter}
+use Rattle.group_ops.proofs.Passed.{absent}
 use Rattle.vg_change.proofs.ClearedAreas.{state_scanned}
 use Rattle.vg_change.proofs.KeptImages.{of_passed}
 use Rattle.image_scans.proofs.ClearedAgain.{others_same}
@@ -52,6 +55,7 @@ use Rattle.line_history.proofs.EachSetCleared.{cleared_gives}
 use Rattle.line_history.proofs.EachSetDisks.{OneRead, read_again, read_same}
 use Rattle.line_history.proofs.EachSetListed.{nothing_off}
 use Rattle.line_history.proofs.EachSetScan.{EachGives, set_finds}
+use Rattle.line_history.specs.EachSet.{EachMemberFinds}
 
 none_given : (group : Group) (r : AreaReading) → IsNone r → GivesOnly group r
 none_given group r is = subst (GivesOnly group) (sym is) tt
@@ -76,9 +80,12 @@ module _ (base : Image) (sizes : List ℕ) (found : Found) (names : List (List �
   scanned : AreScanned found.disks found.areas
   scanned = state_scanned state (is_state base sizes found names backup line now given p)
 
+  all_cleared : HasFirstBatches (clears_of state line now given) committed last
+  all_cleared = all_written (clears_of state line now given) committed
+
   -- on a disk that isn't cleared nothing is written behind the commit
-  uncleared_same : (k : ℕ) → set.contains change.cleared k ≡ false → (sector : ℕ) → last k sector ≡ committed k sector
-  uncleared_same k uncleared sector = others_same found.disks found.areas scanned change.cleared p.keeps.clears committed last (all_written (clears_of state line now given) committed) k uncleared sector
+  uncleared_same : (image : Image) → HasFirstBatches (clears_of state line now given) committed image → (k : ℕ) → set.contains change.cleared k ≡ false → (sector : ℕ) → image k sector ≡ committed k sector
+  uncleared_same image way k uncleared sector = others_same found.disks found.areas scanned change.cleared p.keeps.clears committed image way k uncleared sector
 
   module _ (c : Commits found state change) where
     abbrev group : Group
@@ -131,9 +138,10 @@ module _ (base : Image) (sizes : List ℕ) (found : Found) (names : List (List �
         uncleared : set.contains change.cleared k ≡ false
         uncleared = false_from_ne_true (set.contains change.cleared k) (λ cleared. true≢false (sym on ∙ apart k cleared))
 
-        on_group : OneRead k (last k) (GivesOnly group) disk
-        on_group =
-            subst (λ (sector_at : ℕ → List ℕ). OneRead k sector_at (GivesOnly group) disk) (λ i sector. sym (uncleared_same k uncleared sector) i)
+        -- also while others are cleared
+        on_group : (image : Image) → HasFirstBatches (clears_of state line now given) committed image → OneRead k (image k) (GivesOnly group) disk
+        on_group image way =
+            subst (λ (sector_at : ℕ → List ℕ). OneRead k sector_at (GivesOnly group) disk) (λ i sector. sym (uncleared_same image way k uncleared sector) i)
             (read_again k (committed k) (GivesOnly group) (lists group) (λ id r. false) new disk reading again is_read gives)
 
       -- ---- any other
@@ -150,14 +158,20 @@ module _ (base : Image) (sizes : List ℕ) (found : Found) (names : List (List �
 
         on_other : set.contains change.cleared k ≡ false → OneRead k (last k) (GivesOnly group) disk
         on_other uncleared =
-            read_same k (base k) (last k) (GivesOnly group) disk reading (λ sector. uncleared_same k uncleared sector ∙ other_same sector) reads is_read
+            read_same k (base k) (last k) (GivesOnly group) disk reading (λ sector. uncleared_same last all_cleared k uncleared sector ∙ other_same sector) reads is_read
             (pv_weaker IsNone (GivesOnly group) (none_given group) reading.pv (nothing_off base sizes found names backup line now given p k disk reading at_disk at_reading reads group c.makes.made off uncleared))
 
       each : OneRead k (last k) (GivesOnly group) disk
-      each = ⊎_elim on_group (λ off. ⊎_elim (on_cleared off) (on_other off) (cases_Bool (set.contains change.cleared k))) (cases_Bool (set.contains (set_of change.disk_of) k))
+      each = ⊎_elim (λ on. on_group on last all_cleared) (λ off. ⊎_elim (on_cleared off) (on_other off) (cases_Bool (set.contains change.cleared k))) (cases_Bool (set.contains (set_of change.disk_of) k))
 
-    all_give : EachGives base sizes found p.whole p.scan last (λ other. other ≡ group)
-    all_give = each
+    all_give : (unread : set.FinSet nat_cmp) → EachGives base sizes found p.whole p.scan last (λ other. other ≡ group) unread
+    all_give unread k disk reading at_disk at_reading reads is_read read = each k disk reading at_disk at_reading reads is_read
+
+    -- those of the group do on the way too
+    members_give : (image : Image) → HasFirstBatches (clears_of state line now given) committed image → (unread : set.FinSet nat_cmp)
+        → ((k : ℕ) → k < length found.disks → set.contains unread k ≡ false → set.contains (set_of change.disk_of) k ≡ true) → EachGives base sizes found p.whole p.scan image (λ other. other ≡ group) unread
+    members_give image way unread members k disk reading at_disk at_reading reads is_read read =
+        on_group k disk reading at_disk at_reading reads is_read (members k (slice_get_within found.disks k disk at_disk) read) image way
 
 -- a line that commits a group
 pub commit_finds : OneReading → (base : Image) (sizes : List ℕ) (found : Found) (names : List (List ℕ)) (backup : Option Backup) (line : Line) (now : ℕ) (given : List Part) → CanCarryOut base sizes found names backup line now given → (group : Group)
@@ -167,7 +181,34 @@ commit_finds one_reading base sizes found names backup line now given p group is
   where
     by : LineMakes found (state_in found names backup) (change_of (state_in found names backup) line now given) → other ≡ group
     by (makes_version c) =
-        set_finds base sizes found p.whole p.scan (last base sizes found names backup line now given p) (λ own. own ≡ c.group) (all_give base sizes found names backup line now given p c) one_reading some other scan finds
+        set_finds base sizes found p.whole p.scan (last base sizes found names backup line now given p) (λ own. own ≡ c.group) one_reading some other (all_give base sizes found names backup line now given p c some.unread) scan finds
+        ∙ same_Some c.group group (sym c.makes.made ∙ is)
+    by (makes_pv m) = absurd (let e : ◌≡◌ {A = Option Group} None (Some group) = sym m.none ∙ is in cc)
+    by (makes_nothing none labels) = absurd (let e : ◌≡◌ {A = Option Group} None (Some group) = sym none ∙ is in cc)
+
+-- one of these numbers is in their set
+member_there : (numbers : List ℕ) (k : ℕ) → Contains numbers k → set.contains (set_of numbers) k ≡ true
+member_there numbers k has =
+    ⊎_elim (λ there. there)
+    (λ off. absurd (All-contains (λ n. n ≢ k) numbers k (All-from_recursion (λ n. n ≢ k) numbers (absent set.empty numbers k off).1) has refl))
+    (cases_Bool (set.contains (set_of numbers) k))
+
+-- the disks of the group, also while others are cleared
+pub members_find : OneReading → EachMemberFinds
+members_find one_reading base image sizes found names backup line now given group p is way some other scan members finds = by (line_makes base sizes found names backup line now given p)
+  where
+    change : Change
+    change = change_of (state_in found names backup) line now given
+
+    are_members : (k : ℕ) → k < length found.disks → set.contains some.unread k ≡ false → set.contains (set_of change.disk_of) k ≡ true
+    are_members k within read =
+        let many : length found.disks ≡ length sizes = sym (length-map found.disks (λ (d : Disk). d.sectors)) ∙ ap (λ (l : List ℕ). length l) p.scan.are.sizes_xl in
+        member_there change.disk_of k (members k (omega (arith, within, many)) read)
+
+    by : LineMakes found (state_in found names backup) change → other ≡ group
+    by (makes_version c) =
+        set_finds base sizes found p.whole p.scan image (λ own. own ≡ c.group) one_reading some other
+        (members_give base sizes found names backup line now given p c image way some.unread are_members) scan finds
         ∙ same_Some c.group group (sym c.makes.made ∙ is)
     by (makes_pv m) = absurd (let e : ◌≡◌ {A = Option Group} None (Some group) = sym m.none ∙ is in cc)
     by (makes_nothing none labels) = absurd (let e : ◌≡◌ {A = Option Group} None (Some group) = sym none ∙ is in cc)

@@ -1,5 +1,5 @@
 -- A disk that is cleared gives nothing.
-use Rattle.std.proofs.Common.{◌≡◌, ℕ, ◌+◌, true, false, List, Option, Some, None, inl, refl, sym, ap, subst, ◌∙◌, arith}
+use Rattle.std.proofs.Common.{◌≡◌, ℕ, ◌+◌, true, false, List, Option, Some, None, refl, sym, ap, subst, ◌∙◌, arith}
 use Rattle.std.specs.Prelude.{slice_get}
 use Rattle.std.specs.FinSet as set
 use Rattle.std.specs.List.{AllByRecursion as Each}
@@ -35,7 +35,7 @@ module _ (disks : List Disk) (areas : List (Area × Option Locn)) (scanned : Are
 
   again : DiskAgain pv (last pv) (λ id. false) any_bare new disk reading
   again =
-      disk_cleared disks areas scanned cleared clears mid last (all_written (clear_batches cleared disks areas) mid) base shown text group passed copy (λ id. false) any_bare (inl (λ id r. refl)) pv same disk there reading reads
+      disk_cleared disks areas scanned cleared clears mid last (all_written (clear_batches cleared disks areas) mid) base shown text group passed copy (λ id. false) any_bare (λ id r. refl) pv same disk there reading reads
       (any_pv reading.pv)
 
   emptied : Each (IsEmptied pv (last pv)) (areas_on disk.contents)

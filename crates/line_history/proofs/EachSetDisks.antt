@@ -42,7 +42,7 @@ pub record SetRead (image : Image) (unread : set.FinSet nat_cmp) (first : ℕ) (
   pub gives : DisksGive (λ disk. P) read
 
 module _ (image : Image) (unread : set.FinSet nat_cmp) (P : AreaReading → Type 0) where
-  with_one : (first : ℕ) (disk : Disk) (disks : List Disk) (b : Bool) → set.contains unread first ≡ b → OneRead first (image first) P disk → SetRead image unread (first + 1) P disks → SetRead image unread first P (disk ∷ disks)
+  with_one : (first : ℕ) (disk : Disk) (disks : List Disk) (b : Bool) → set.contains unread first ≡ b → (b ≡ false → OneRead first (image first) P disk) → SetRead image unread (first + 1) P disks → SetRead image unread first P (disk ∷ disks)
   with_one first disk disks true is one later = record {
     there = record { sectors = disk.sectors; contents = None } ∷ later.there;
     read = record { sectors = disk.sectors; pv = None } ∷ later.read;
@@ -50,30 +50,33 @@ module _ (image : Image) (unread : set.FinSet nat_cmp) (P : AreaReading → Type
     are = (((λ none. is), (λ has. refl)), record { contents = tt; sectors_xl = refl; pv_xl = refl }, later.are);
     gives = (tt, later.gives);
   }
-  with_one first disk disks false is one later = record {
-    there = one.there ∷ later.there;
-    read = one.read ∷ later.read;
-    sizes_xl = λ i. one.sectors_xl i ∷ later.sizes_xl i;
-    are = (((λ none. absurd (one.is_read none)), (λ has. absurd (true≢false (sym has ∙ is)))), one.is, later.are);
-    gives = (one.gives, later.gives);
-  }
+  with_one first disk disks false is read later =
+      let one = read refl in
+      record {
+        there = one.there ∷ later.there;
+        read = one.read ∷ later.read;
+        sizes_xl = λ i. one.sectors_xl i ∷ later.sizes_xl i;
+        are = (((λ none. absurd (one.is_read none)), (λ has. absurd (true≢false (sym has ∙ is)))), one.is, later.are);
+        gives = (one.gives, later.gives);
+      }
 
-  -- each of these disks, by how it reads in the base
+  -- each of these disks that is read, by how it reads in the base
   pub set_read : (base : Image) (away : set.FinSet nat_cmp) (first : ℕ) (disks : List Disk) (readings : List Reading) → AreDiskReadings base away first disks readings
       → ((k : ℕ) (disk : Disk) (reading : Reading) → slice_get disks k ≡ Some disk → slice_get readings k ≡ Some reading → IsUnread away (first + k) disk → IsDiskReading (first + k) (base (first + k)) disk reading
-      → OneRead (first + k) (image (first + k)) P disk)
+      → set.contains unread (first + k) ≡ false → OneRead (first + k) (image (first + k)) P disk)
       → SetRead image unread first P disks
   set_read base away first [] [] are each = record { there = []; read = []; sizes_xl = refl; are = tt; gives = tt }
   set_read base away first [] (reading ∷ readings) are each = absurd are
   set_read base away first (disk ∷ disks) [] are each = absurd are
   set_read base away first (disk ∷ disks) (reading ∷ readings) are each =
       let here : first + 0 ≡ first = omega arith in
-      let one : OneRead (first + 0) (image (first + 0)) P disk =
-      each 0 disk reading refl refl (subst (λ (n : ℕ). IsUnread away n disk) (sym here) are.0) (subst (λ (n : ℕ). IsDiskReading n (base n) disk reading) (sym here) are.1)
+      let one : set.contains unread first ≡ false → OneRead first (image first) P disk =
+      subst (λ (n : ℕ). set.contains unread n ≡ false → OneRead n (image n) P disk) here
+      (each 0 disk reading refl refl (subst (λ (n : ℕ). IsUnread away n disk) (sym here) are.0) (subst (λ (n : ℕ). IsDiskReading n (base n) disk reading) (sym here) are.1))
       in
-      with_one first disk disks (set.contains unread first) refl (subst (λ (n : ℕ). OneRead n (image n) P disk) here one)
+      with_one first disk disks (set.contains unread first) refl one
       (set_read base away (first + 1) disks readings are.2
       (λ k d r at_disk at_reading is_unread is.
       let next : first + 1 + k ≡ first + suc k = omega arith in
-      subst (λ (n : ℕ). OneRead n (image n) P d) (sym next)
+      subst (λ (n : ℕ). set.contains unread n ≡ false → OneRead n (image n) P d) (sym next)
       (each (suc k) d r at_disk at_reading (subst (λ (n : ℕ). IsUnread away n d) next is_unread) (subst (λ (n : ℕ). IsDiskReading n (base n) d r) next is))))

@@ -94,8 +94,8 @@ module _ (base : Image) (sizes : List ℕ) (found : Found) (names : List (List �
       each : OneRead k (last k) GivesNone disk
       each = ⊎_elim on_cleared on_other (cases_Bool (set.contains cleared k))
 
-    all_give : EachGives base sizes found p.whole p.scan last (λ group. ⊥)
-    all_give = each
+    all_give : (unread : set.FinSet nat_cmp) → EachGives base sizes found p.whole p.scan last (λ group. ⊥) unread
+    all_give unread k disk reading at_disk at_reading reads is_read read = each k disk reading at_disk at_reading reads is_read
 
   -- a scan finds none
   pub removal_finds : OneReading → (some : Found) → IsScanOf last sizes some → some.group ≡ None
@@ -104,4 +104,4 @@ module _ (base : Image) (sizes : List ℕ) (found : Found) (names : List (List �
       by : IsSettledScan p.scan.readings found → (o : Option Group) → some.group ≡ o → o ≡ None
       by (settled_none nothing none all) o there = absurd (some_group none)
       by (settled_some held parts own copy all settled_all) None there = refl
-      by (settled_some held parts own copy all settled_all) (Some other) there = absurd (set_finds base sizes found p.whole p.scan last (λ group. ⊥) (all_give held copy) one_reading some other scan there)
+      by (settled_some held parts own copy all settled_all) (Some other) there = absurd (set_finds base sizes found p.whole p.scan last (λ group. ⊥) one_reading some other (all_give held copy some.unread) scan there)

@@ -58,6 +58,6 @@ module _ (state : GroupState) (vg : List ℕ) (now : ℕ) (made : Restores state
       let rows = none_holds (sound_tests state made.old made.said) sound in
       let none =
       both_false (is_some (id_lacked made.old made.said)) (is_some (id_lacked made.said made.old))
-      (test_fails (is_some (id_lacked made.old made.said) || is_some (id_lacked made.said made.old)) _ rows.1.1.1.1.1.1.1.0)
+      (test_fails (is_some (id_lacked made.old made.said) || is_some (id_lacked made.said made.old)) _ rows.1.1.1.1.1.1.1.1.0)
       in
       none_lacked made.said id made.old.pvs (no_some (id_lacked made.said made.old) none.1) listed

@@ -1,5 +1,5 @@
 -- What a scan of any of the disks finds, the others taken as empty: a group whose copies some disk gives, if any.
-use Rattle.std.proofs.Common.{◌≡◌, ℕ, ◌+◌, List, Option, Some, None, refl, sym, subst, ◌∙◌, arith}
+use Rattle.std.proofs.Common.{◌≡◌, ℕ, ◌+◌, false, List, Option, Some, None, refl, sym, subst, ◌∙◌, arith}
 use Rattle.std.specs.Prelude.{slice_get}
 use Rattle.std.specs.FinSet as set
 use Rattle.std.specs.Ordering.{nat_cmp}
@@ -37,24 +37,24 @@ found_such P readings some other gives finds (Conflict a b seqno) is by = absurd
 found_such P readings some other gives finds (PvShape pv) is by = absurd by
 
 module _ (base : Image) (sizes : List ℕ) (found : Found) (whole : IsWhole found) (scan : IsScanOf base sizes found) (image : Image) (P : Group → Type 0) where
-  -- each disk does in the image, by how it reads in the base
-  abbrev pub EachGives : Type 0
-  EachGives =
+  -- each disk that is read does in the image, by how it reads in the base
+  abbrev pub EachGives : set.FinSet nat_cmp → Type 0
+  EachGives unread =
       (k : ℕ) (disk : Disk) (reading : Reading) → slice_get found.disks k ≡ Some disk → slice_get scan.readings k ≡ Some reading → IsDiskReading k (base k) disk reading → (disk.contents ≡ None → ⊥)
-      → OneRead k (image k) (GivesSuch P) disk
+      → set.contains unread k ≡ false → OneRead k (image k) (GivesSuch P) disk
 
-  module _ (each : EachGives) where
-    disks : (unread : set.FinSet nat_cmp) → SetRead image unread 0 (GivesSuch P) found.disks
-    disks unread =
+  module _ (unread : set.FinSet nat_cmp) (each : EachGives unread) where
+    disks : SetRead image unread 0 (GivesSuch P) found.disks
+    disks =
         set_read image unread (GivesSuch P) base found.unread 0 found.disks scan.readings scan.are.each
         (λ k disk reading at_disk at_reading is_unread reads.
         let zero_less : 0 + k ≡ k = omega arith in
-        subst (λ (n : ℕ). OneRead n (image n) (GivesSuch P) disk) (sym zero_less)
+        subst (λ (n : ℕ). set.contains unread n ≡ false → OneRead n (image n) (GivesSuch P) disk) (sym zero_less)
         (each k disk reading at_disk at_reading (subst (λ (n : ℕ). IsDiskReading n (base n) disk reading) zero_less reads)
         (λ none. absurd (false≢true (sym (none_unread found whole (0 + k)) ∙ is_unread.0 none)))))
 
-    pub set_finds : OneReading → (some : Found) (other : Group) → IsScanOf image sizes some → some.group ≡ Some other → P other
-    set_finds one_reading some other own finds =
-        let s : SetRead image some.unread 0 (GivesSuch P) found.disks = disks some.unread in
-        let same : s.read ≡ own.readings = one_reading image sizes some.unread s.there some.disks s.read own.readings (record { sizes_xl = s.sizes_xl ∙ scan.are.sizes_xl; each = s.are }) own.are in
-        found_such P own.readings some other (subst (DisksGive (λ disk. GivesSuch P)) same s.gives) finds (decide_scan own.readings) refl own.answer
+  pub set_finds : OneReading → (some : Found) (other : Group) → EachGives some.unread → IsScanOf image sizes some → some.group ≡ Some other → P other
+  set_finds one_reading some other each own finds =
+      let s : SetRead image some.unread 0 (GivesSuch P) found.disks = disks some.unread each in
+      let same : s.read ≡ own.readings = one_reading image sizes some.unread s.there some.disks s.read own.readings (record { sizes_xl = s.sizes_xl ∙ scan.are.sizes_xl; each = s.are }) own.are in
+      found_such P own.readings some other (subst (DisksGive (λ disk. GivesSuch P)) same s.gives) finds (decide_scan own.readings) refl own.answer

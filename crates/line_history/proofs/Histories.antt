@@ -1,15 +1,18 @@
 -- A run of one line has its history.
-use Rattle.std.proofs.Common.{◌≡◌, ℕ, zero, suc, ◌+◌, ◌-◌, Bool, true, false, ◌≤◌, ◌<◌, List, [], ◌∷◌, ◌++◌, length, drop, map, take, Option, Some, None, ⊎_elim, refl, sym, ap, subst, ◌∙◌, arith}
+use Rattle.std.proofs.Common.{◌≡◌, ℕ, zero, ◌+◌, ◌-◌, Bool, true, false, not, ◌≤◌, ◌<◌, List, [], ◌∷◌, ◌++◌, length, map, take, Option, Some, None, ⊎_elim, refl, sym, ap, subst, ◌∙◌, arith}
 use Rattle.std.specs.Prelude.{flat_map, is_some}
-use Rattle.std.proofs.lemmas.Bool.{cases_lt}
+use Rattle.std.proofs.lemmas.Bool.{cases_lt, true≢false}
 use Rattle.sector_base.specs.declared.spans.Span.{Span}
 use Rattle.disk_batch.specs.InTurn.{Put, WritesInTurn}
 use Rattle.disk_model.proofs.StepsSince.{steps_joined}
+use Rattle.disk_model.specs.Order.{WritesNothing}
 use Rattle.disk_model.specs.Since.{writes_submitted}
-use Rattle.disk_model.specs.Steps.{Completed, Flushing, Reading, Step, Submitted, Told, Writing, steps_on}
+use Rattle.disk_model.specs.Steps.{Told, steps_on}
+use Rattle.extent_alloc.specs.declared.part.Part.{Part}
 use Rattle.group_ops.proofs.NoClears.{clears}
 use Rattle.group_ops.specs.Laws.{state_in}
-use Rattle.group_ops.specs.Planning.{IsPlanned}
+use Rattle.group_ops.specs.Planning.{IsPlanned, change_of}
+use Rattle.group_ops.specs.declared.state.GroupState.{GroupState}
 use Rattle.lvm_script.specs.Options.{Word}
 use Rattle.lvm_script.specs.declared.answer.Answer.{Answer}
 use Rattle.lvm_script.specs.declared.answer.Answer.TheVariants as answer
@@ -23,22 +26,22 @@ use Rattle.repair_scans.specs.Laws.{RepairedScans}
 use Rattle.vg_repair.proofs.RepairedSizes.{repaired_count}
 use Rattle.vg_repair.specs.Repaired.{repaired_of}
 use Rattle.volume_history.proofs.SingleLines.{done_commit, done_create, failed_create, fenced_commit, made_commit, no_line, undone_line}
-use Rattle.volume_history.specs.Chronicles.{Entry, Origin, has_written, pending}
+use Rattle.volume_history.specs.Chronicles.{Entry, Origin, pending}
 use Rattle.volume_history.specs.Laws.{Tells}
 use Rattle.vg_change.specs.Batches.{batch_if, zero_put}
-use Rattle.volume_history.specs.Commands.{created_disk, is_data, is_good}
+use Rattle.volume_history.specs.Commands.{created_disk, is_created_at, is_data, is_good, is_wait, may_say, removes}
 use Rattle.volume_history.specs.Runs.{journal_of, lines_of}
-use Rattle.volume_history.specs.Single.{LeavesDisk, MayEnd as MayFollow, answered_entries, done_entries, made_entries, taken_entries}
+use Rattle.volume_history.specs.Single.{LeavesAll, LeavesDisk, MayEnd as MayFollow, answered_entries, done_entries, made_entries, taken_entries}
 use Rattle.line_history.proofs.ClearedLines.{committed_law, made_law}
 use Rattle.line_history.proofs.Clearing.{as_written, ended_base, whole_origin}
-use Rattle.line_history.proofs.LineKinds.{Kind, commits_group, creates, kind_of, removes}
+use Rattle.line_history.proofs.LineKinds.{Kind, commits_group, creates, kind_of, removes_group}
 use Rattle.line_history.proofs.Lines.{change, commit_law, next, none_created, origin_handed, origin_repaired, stays_handed, stays_repaired, stays_unpublished}
 use Rattle.line_history.proofs.NewDisk.{create_law, created_law}
 use Rattle.line_history.proofs.Origins.{origin_of}
-use Rattle.line_history.proofs.RemovedGroup.{creates_none, removal_law, removed_law, stays_unremoved, stays_unwritten}
-use Rattle.line_history.proofs.Seen.{part_then, steps_more}
+use Rattle.line_history.proofs.RemovedGroup.{creates_none, removal_law, removal_unbegun, removal_unwritten, removed_law, stays_unremoved, stays_unwritten}
 use Rattle.line_history.proofs.Settled.{none_pending}
-use Rattle.line_history.proofs.Submitted.{all_submitted, both_submitted, submitted}
+use Rattle.line_history.proofs.Submitted.{all_submitted, both_begun, submitted}
+use Rattle.line_history.proofs.Unwritten.{newest, none_submitted, none_written, nothing_of}
 use Rattle.line_history.specs.Histories.{HasHistoryOf, IsBeforeLine, MayAnswer, MayEnd, commits_in, journal_of_line, making, took_of}
 use Rattle.line_history.specs.LineRun.{ClearsLine, Given, RunsLine, Stage, Opened, Repairing, Repaired, Zeroing, Writing, Done, batches_if, batches_in, clears_in, is_repaired, is_zeroed, zeros_begun, zeros_in}
 
@@ -58,17 +61,30 @@ quiet_line id (Lvremove path) planned = refl
 quiet_line id (Lvrename vg old new) planned = refl
 quiet_line id command planned = absurd planned
 
--- where no write was submitted none was written
-none_submitted : (steps : List Step) (pv : ℕ) → writes_submitted steps ≡ [] → has_written steps pv ≡ false
-none_submitted [] pv none = refl
-none_submitted (Submitted tag (Writing span sectors) ∷ steps) pv none = absurd (not_none (writes_submitted steps) none)
+-- what one may answer: a refusal, or that a disk failed
+planned_says : (id : Option (List ℕ)) (command : Command) (pv : ℕ) → IsPlanned id command → (is_wait command ≡ false) × (may_say command (answer.PvFailed pv) ≡ true)
+planned_says id (Pvcreate name copies) pv planned = (refl, refl)
+planned_says id (Vgcreate vg extent_size pvs) pv planned = (refl, refl)
+planned_says id (Vgextend vg pvs) pv planned = (refl, refl)
+planned_says id (Vgreduce vg gone) pv planned = (refl, refl)
+planned_says id (Vgremove vg) pv planned = (refl, refl)
+planned_says id (Vgcfgrestore vg text) pv planned = (refl, refl)
+planned_says id (Vgrename vg new) pv planned = (refl, refl)
+planned_says id (Lvcreate new) pv planned = (refl, refl)
+planned_says id (Lvextend path growth pvs) pv planned = (refl, refl)
+planned_says id (Lvreduce path amount) pv planned = (refl, refl)
+planned_says id (Lvremove path) pv planned = (refl, refl)
+planned_says id (Lvrename vg old new) pv planned = (refl, refl)
+planned_says id command pv planned = absurd planned
+
+-- one that commits a group removes none
+keeps_group : (state : GroupState) (line : Line) (now : ℕ) (given : List Part) (group : Group) → (change_of state line now given).group ≡ Some group → removes line.command ≡ false
+keeps_group state line now given group made = by line.command refl
   where
-    not_none : (puts : List Put) → puts ++ (span, sectors) ∷ [] ≡ [] → ⊥
-    not_none [] is = cc
-    not_none (put ∷ puts) is = cc
-none_submitted (Submitted tag (Reading span) ∷ steps) pv none = none_submitted steps pv none
-none_submitted (Submitted tag (Flushing disk) ∷ steps) pv none = none_submitted steps pv none
-none_submitted (Completed tag work well fresh ∷ steps) pv none = none_submitted steps pv none
+    by : (command : Command) → line.command ≡ command → removes command ≡ false
+    by (Vgremove vg) is =
+        absurd (let e : ◌≡◌ {A = Option Group} None (Some group) = sym (ap (λ (c : Command). (change_of state (record { number = line.number; id = line.id; command = c }) now given).group) is) ∙ made in cc)
+    by command is = refl
 
 -- a line that creates no physical volume
 creates_no_disk : (o : Origin) (line : Line) → created_disk o.names line.command ≡ None → LeavesDisk o line
@@ -99,48 +115,54 @@ module _ (scans : RepairedScans) (g : Given) (start ended : Told) where
     is_end : ended ≡ steps_on zeros.since start
     is_end = r.unzeroed unzeroed ∙ zeros.steps
 
-    -- it has written to no disk where it writes no zeros
+    -- it has written nothing where it writes no zeros
+    nothing_since : writes_submitted zeros.since ≡ [] → WritesNothing (take (length ended.steps - length start.steps) ended.steps)
+    nothing_since none = subst WritesNothing (sym (newest start ended zeros.since is_end)) (none_submitted zeros.since none)
+
     leaves : writes_submitted zeros.since ≡ [] → LeavesDisk (origin_repaired scans g stage start ended r repaired) g.line
-    leaves none disk created =
-        let more = steps_more start ended zeros.since is_end in
-        let e : length ended.steps - length ended.steps ≡ 0 = omega arith in
-        ap (λ (l : List Step). has_written (take (length ended.steps - length start.steps) l) disk) (sym (ap (λ (n : ℕ). drop n ended.steps) e))
-        ∙ ap (λ (l : List Step). has_written l disk) (part_then start ended zeros.since is_end (length ended.steps) more (omega arith))
-        ∙ ap (λ (n : ℕ). has_written (drop n zeros.since) disk) e
-        ∙ none_submitted zeros.since disk none
+    leaves none disk created = none_written (is_created_at g.line.command disk) (take (length ended.steps - length start.steps) ended.steps) (nothing_since none)
 
-    undone : LeavesDisk (origin_repaired scans g stage start ended r repaired) g.line → (said : Answer) → is_good said ≡ false → Tells (origin_repaired scans g stage start ended r repaired) (answered_entries (origin_repaired scans g stage start ended r repaired) g.line said)
-    undone left said bad =
-        undone_line (origin_repaired scans g stage start ended r repaired) g.line (stays_repaired scans g stage start ended r repaired unzeroed) (quiet_line g.line.id g.line.command r.given.planned) left said bad
-
-  nothing_of : (n : ℕ) → flat_map (λ (batch : List Put). batch) (take n []) ≡ []
-  nothing_of zero = refl
-  nothing_of (suc n) = refl
+    undone : LeavesDisk (origin_repaired scans g stage start ended r repaired) g.line → LeavesAll (origin_repaired scans g stage start ended r repaired) g.line → (said : Answer) → is_good said ≡ false → may_say g.line.command said ≡ true
+        → Tells (origin_repaired scans g stage start ended r repaired) (answered_entries (origin_repaired scans g stage start ended r repaired) g.line said)
+    undone left all said bad says =
+        undone_line (origin_repaired scans g stage start ended r repaired) g.line (stays_repaired scans g stage start ended r repaired unzeroed) (quiet_line g.line.id g.line.command r.given.planned) left said all bad says
 
   refused : (r : RunsLine g Repaired start ended) (refusal : OpRefusal)
       → HasHistoryOf g ended (journal_of_line (length start.steps) None (length ended.steps)) ((g.line, Some (answer.Refused refusal)) ∷ [])
   refused r refusal =
+      let none : writes_submitted (r.zeros refl).since ≡ [] = (r.zeros refl).writes ∙ nothing_of (r.zeros refl).submitted in
       repaired_so (answered_entries (origin_repaired scans g Repaired start ended r refl) g.line (answer.Refused refusal))
-      (undone Repaired r refl refl (leaves Repaired r refl refl ((r.zeros refl).writes ∙ nothing_of (r.zeros refl).submitted)) (answer.Refused refusal) refl) refl
+      (undone Repaired r refl refl (leaves Repaired r refl refl none) (λ removing. nothing_since Repaired r refl refl none) (answer.Refused refusal) refl
+      (ap not (planned_says g.line.id g.line.command 0 r.given.planned).0)) refl
 
   -- ---- its zeros were begun
   kind : (stage : Stage) (r : RunsLine g stage start ended) (repaired : is_repaired stage ≡ true) (begun : zeros_begun stage ≡ true) → Kind g.names g.line.command (change scans g stage start ended r repaired)
-  kind stage r repaired begun = kind_of (state_in (repaired_of g.found) g.names g.backup) (r.given.named ∙ sym (repaired_count g.found)) g.line g.clock g.given r.given.planned (r.given_back begun) (r.takes begun) (r.passes begun)
+  kind stage r repaired begun = kind_of (state_in (repaired_of g.found) g.names g.backup) (r.given.named ∙ sym (repaired_count g.found)) (λ k disk there. ((r.repaired_shape repaired).disks k disk there).0) g.line g.clock g.given r.given.planned (r.given_back begun) (r.takes begun) (r.passes begun)
 
   -- one of them failed
   module _ (r : RunsLine g Zeroing start ended) (pv : ℕ) where
-    -- a line that creates a physical volume has none
-    left : Kind g.names g.line.command (change scans g Zeroing start ended r refl) → LeavesDisk (origin_repaired scans g Zeroing start ended r refl) g.line
-    left (commits_group group made) = creates_no_disk (origin_repaired scans g Zeroing start ended r refl) g.line (none_created scans g Zeroing start ended r refl refl group made)
-    left (creates disk label none created labels on no_zeros) =
-        leaves Zeroing r refl refl
-        ((r.zeros refl).writes ∙ ap (λ (spans : List Span). flat_map (λ (batch : List Put). batch) (take (r.zeros refl).submitted (batch_if (map zero_put spans)))) no_zeros ∙ nothing_of (r.zeros refl).submitted)
-    left (removes vg command_is none labels no_zeros) = creates_no_disk (origin_repaired scans g Zeroing start ended r refl) g.line (creates_none g.names g.line.command vg command_is)
+    -- a line that creates a physical volume, or removes the group, has none
+    none_zeroed : (change scans g Zeroing start ended r refl).zero ≡ [] → writes_submitted (r.zeros refl).since ≡ []
+    none_zeroed no_zeros =
+        (r.zeros refl).writes ∙ ap (λ (spans : List Span). flat_map (λ (batch : List Put). batch) (take (r.zeros refl).submitted (batch_if (map zero_put spans)))) no_zeros ∙ nothing_of (r.zeros refl).submitted
+
+    left : Kind g.names g.line.command (change scans g Zeroing start ended r refl) → LeavesDisk (origin_repaired scans g Zeroing start ended r refl) g.line × LeavesAll (origin_repaired scans g Zeroing start ended r refl) g.line
+    left (commits_group group made) = (
+      creates_no_disk (origin_repaired scans g Zeroing start ended r refl) g.line (none_created scans g Zeroing start ended r refl refl group made),
+      λ removing. absurd (true≢false (sym removing ∙ keeps_group (state_in (repaired_of g.found) g.names g.backup) g.line g.clock g.given group made)),
+    )
+    left (creates disk label none created labels on no_zeros places) =
+        (leaves Zeroing r refl refl (none_zeroed no_zeros), λ removing. nothing_since Zeroing r refl refl (none_zeroed no_zeros))
+    left (removes_group vg command_is none labels no_zeros) = (
+      creates_no_disk (origin_repaired scans g Zeroing start ended r refl) g.line (creates_none g.names g.line.command vg command_is),
+      λ removing. nothing_since Zeroing r refl refl (none_zeroed no_zeros),
+    )
 
     zeros_failed : HasHistoryOf g ended (journal_of_line (length start.steps) None (length ended.steps)) ((g.line, Some (answer.PvFailed pv)) ∷ [])
     zeros_failed =
+        let left_are = left (kind Zeroing r refl refl) in
         repaired_so (answered_entries (origin_repaired scans g Zeroing start ended r refl) g.line (answer.PvFailed pv))
-        (undone Zeroing r refl refl (left (kind Zeroing r refl refl)) (answer.PvFailed pv) refl) refl
+        (undone Zeroing r refl refl left_are.0 left_are.1 (answer.PvFailed pv) refl (planned_says g.line.id g.line.command pv r.given.planned).1) refl
 
   -- ---- a commit failed
   module _ (r : RunsLine g Writing start ended) (pv : ℕ) (group : Group) (made : (change scans g Writing start ended r refl).group ≡ Some group) where
@@ -156,10 +178,12 @@ module _ (scans : RepairedScans) (g : Given) (start ended : Told) where
         (λ (less : own.submitted < length (batches_in g)).
         repaired_so (answered_entries origin g.line (answer.PvFailed pv))
         (undone_line origin g.line (stays_unpublished scans g Writing start ended r refl refl group made less) (quiet_line g.line.id g.line.command r.given.planned)
-        (creates_no_disk origin g.line (none_created scans g Writing start ended r refl refl group made)) (answer.PvFailed pv) refl) refl)
+        (creates_no_disk origin g.line (none_created scans g Writing start ended r refl refl group made)) (answer.PvFailed pv)
+        (λ removing. absurd (true≢false (sym removing ∙ keeps_group (state_in (repaired_of g.found) g.names g.backup) g.line g.clock g.given group made))) refl
+        (planned_says g.line.id g.line.command pv r.given.planned).1) refl)
         (λ (le : length (batches_in g) ≤ own.submitted). record {
           history = (fenced_commit origin g.line (length r.zeroed.steps) (next scans g Writing start ended r refl refl group made) (commit_law scans g Writing start ended r refl refl group made) pv).history;
-          last = λ some. all_submitted g Writing start ended r refl refl ended own.since (batches_in g) own.steps (submitted r.zeroed ended (batches_in g) false own le) (ap (λ (o : Option Group). making (is_some o) (batches_in g) (clears_in g)) made);
+          last = λ some. all_submitted g Writing start ended r refl refl ended own.since (batches_in g) 1 own.steps (submitted r.zeroed ended (batches_in g) false own le) (omega arith) (ap (λ (o : Option Group). making (is_some o) 1 (batches_in g) (clears_in g)) made);
         })
         (cases_lt own.submitted (length (batches_in g)))
 
@@ -170,13 +194,14 @@ module _ (scans : RepairedScans) (g : Given) (start ended : Told) where
       by : Kind g.names g.line.command (change scans g Writing start ended r refl)
           → HasHistoryOf g ended (journal_of_line (length start.steps) None (length ended.steps)) ((g.line, Some (answer.PvFailed pv)) ∷ [])
       by (commits_group group made) = commit_failed r pv group made
-      by (creates disk label none created labels on no_zeros) =
+      by (creates disk label none created labels on no_zeros places) =
           repaired_so (answered_entries (origin_repaired scans g Writing start ended r refl) g.line (answer.PvFailed pv))
-          (failed_create (origin_repaired scans g Writing start ended r refl) g.line disk pv (create_law scans g Writing start ended r refl refl disk label none created labels on no_zeros (length ended.steps + 1) (omega arith))) refl
-      by (removes vg command_is none labels no_zeros) =
+          (failed_create (origin_repaired scans g Writing start ended r refl) g.line disk pv (create_law scans g Writing start ended r refl refl disk label none created labels on no_zeros places (length ended.steps + 1) (omega arith))) refl
+      by (removes_group vg command_is none labels no_zeros) =
           repaired_so (answered_entries (origin_repaired scans g Writing start ended r refl) g.line (answer.PvFailed pv))
           (undone_line (origin_repaired scans g Writing start ended r refl) g.line (stays_unwritten scans g Writing start ended r refl refl vg command_is) (quiet_line g.line.id g.line.command r.given.planned)
-          (creates_no_disk (origin_repaired scans g Writing start ended r refl) g.line (creates_none g.names g.line.command vg command_is)) (answer.PvFailed pv) refl) refl
+          (creates_no_disk (origin_repaired scans g Writing start ended r refl) g.line (creates_none g.names g.line.command vg command_is)) (answer.PvFailed pv)
+          (λ removing. removal_unwritten scans g Writing start ended r refl refl vg command_is no_zeros) refl (planned_says g.line.id g.line.command pv r.given.planned).1) refl
 
   pub lines : (stage : Stage) (said : Answer) → RunsLine g stage start ended → MayAnswer stage said → HasHistoryOf g ended (journal_of_line (length start.steps) None (length ended.steps)) ((g.line, Some said) ∷ [])
   lines Repaired (answer.Refused refusal) r may = refused r refusal
@@ -216,44 +241,47 @@ module _ (scans : RepairedScans) (g : Given) (start ended : Told) where
   module _ (c : ClearsLine g true start ended) where
     all_well : Kind g.names g.line.command (change scans g Done start c.made c.line refl) → TookPlace (took_of (commits_in g) true (length c.made.steps) (length ended.steps)) answer.Fine
     all_well (commits_group group made) = committed true c group made answer.Fine tt
-    all_well (creates disk label none created labels on no_zeros) =
+    all_well (creates disk label none created labels on no_zeros places) =
         let other : clears g.line.command ≡ false = created_clears g.names g.line.command disk created in
         let r : RunsLine g Writing start ended = as_written scans g true start ended c other in
         took_by true answer.Fine c false (ap (λ (o : Option Group). is_some o) none)
         (repaired_so scans g start ended (taken_entries (origin_repaired scans g Writing start ended r refl) g.line)
-        (done_create (origin_repaired scans g Writing start ended r refl) g.line disk (create_law scans g Writing start ended r refl refl disk label none created labels on no_zeros (length ended.steps) (omega arith))
-        (created_law scans g Writing start ended r refl refl disk label none created labels on no_zeros (ended_base scans g true start ended c other refl))) refl)
-    all_well (removes vg command_is none labels no_zeros) =
+        (done_create (origin_repaired scans g Writing start ended r refl) g.line disk (create_law scans g Writing start ended r refl refl disk label none created labels on no_zeros places (length ended.steps) (omega arith))
+        (created_law scans g Writing start ended r refl refl disk label none created labels on no_zeros places (ended_base scans g true start ended c other refl))) refl)
+    all_well (removes_group vg command_is none labels no_zeros) =
         took_by true answer.Fine c false (ap (λ (o : Option Group). is_some o) none)
         (repaired_so scans g start ended (done_entries (whole_origin scans g true start ended c) g.line (length c.made.steps) None)
         (done_commit (whole_origin scans g true start ended c) g.line (length c.made.steps) None (removal_law scans g true start ended c vg command_is) (removed_law scans g true start ended c vg command_is refl)) refl)
 
   -- an operation failed
   module _ (c : ClearsLine g false start ended) (pv : ℕ) where
-    -- before the last batch of a vgremove was begun, or behind that
-    removal_failed : (vg : Word) → g.line.command ≡ Vgremove vg → (change scans g Done start c.made c.line refl).group ≡ None → TookPlace None (answer.PvFailed pv)
-    removal_failed vg command_is none =
+    -- before the clearing of a vgremove was begun, or behind that
+    removal_failed : (vg : Word) → g.line.command ≡ Vgremove vg → (change scans g Done start c.made c.line refl).group ≡ None → (change scans g Done start c.made c.line refl).zero ≡ [] → TookPlace None (answer.PvFailed pv)
+    removal_failed vg command_is none no_zeros =
         let own : WritesInTurn c.line.zeroed (batches_in g) true c.made = c.line.written refl in
         ⊎_elim
-        (λ (less : c.clears.submitted < length (clears_in g)).
-        repaired_so scans g start ended (answered_entries (whole_origin scans g false start ended c) g.line (answer.PvFailed pv))
-        (undone_line (whole_origin scans g false start ended c) g.line (stays_unremoved scans g false start ended c vg command_is less) (quiet_line g.line.id g.line.command c.line.given.planned)
-        (creates_no_disk (whole_origin scans g false start ended c) g.line (creates_none g.names g.line.command vg command_is)) (answer.PvFailed pv) refl) refl)
-        (λ (le : length (clears_in g) ≤ c.clears.submitted). record {
+        (λ (begun : 0 < c.clears.submitted). record {
           history = (fenced_commit (whole_origin scans g false start ended c) g.line (length c.made.steps) None (removal_law scans g false start ended c vg command_is) pv).history;
           last = λ some.
-              all_submitted g Done start c.made c.line refl refl ended (c.clears.since ++ own.since) (batches_in g ++ clears_in g) (steps_joined c.line.zeroed c.made ended own.since c.clears.since own.steps c.clears.steps)
-              (both_submitted c.line.zeroed c.made ended (batches_in g) (clears_in g) false own c.clears le)
-              (ap (λ (o : Option Group). making (is_some o) (batches_in g) (clears_in g)) none);
+              all_submitted g Done start c.made c.line refl refl ended (c.clears.since ++ own.since) (batches_in g ++ take c.clears.submitted (clears_in g)) c.clears.submitted
+              (steps_joined c.line.zeroed c.made ended own.since c.clears.since own.steps c.clears.steps)
+              (both_begun c.line.zeroed c.made ended (batches_in g) (clears_in g) false own c.clears) (omega (arith, begun))
+              (ap (λ (o : Option Group). making (is_some o) c.clears.submitted (batches_in g) (clears_in g)) none);
         })
-        (cases_lt c.clears.submitted (length (clears_in g)))
+        (λ (none_begun : c.clears.submitted ≤ 0).
+        let unbegun : c.clears.submitted ≡ 0 = omega (arith, none_begun) in
+        repaired_so scans g start ended (answered_entries (whole_origin scans g false start ended c) g.line (answer.PvFailed pv))
+        (undone_line (whole_origin scans g false start ended c) g.line (stays_unremoved scans g false start ended c vg command_is unbegun) (quiet_line g.line.id g.line.command c.line.given.planned)
+        (creates_no_disk (whole_origin scans g false start ended c) g.line (creates_none g.names g.line.command vg command_is)) (answer.PvFailed pv)
+        (λ removing. removal_unbegun scans g false start ended c vg command_is unbegun no_zeros) refl (planned_says g.line.id g.line.command pv c.line.given.planned).1) refl)
+        (cases_lt 0 c.clears.submitted)
 
     one_failed : Kind g.names g.line.command (change scans g Done start c.made c.line refl) → TookPlace (took_of (commits_in g) false (length c.made.steps) (length ended.steps)) (answer.PvFailed pv)
     one_failed (commits_group group made) = committed false c group made (answer.PvFailed pv) tt
-    one_failed (creates disk label none created labels on no_zeros) =
+    one_failed (creates disk label none created labels on no_zeros places) =
         took_by false (answer.PvFailed pv) c false (ap (λ (o : Option Group). is_some o) none)
         (failed scans g start ended (as_written scans g false start ended c (created_clears g.names g.line.command disk created)) pv)
-    one_failed (removes vg command_is none labels no_zeros) = took_by false (answer.PvFailed pv) c false (ap (λ (o : Option Group). is_some o) none) (removal_failed vg command_is none)
+    one_failed (removes_group vg command_is none labels no_zeros) = took_by false (answer.PvFailed pv) c false (ap (λ (o : Option Group). is_some o) none) (removal_failed vg command_is none no_zeros)
 
   pub cleared : (well : Bool) (said : Answer) (c : ClearsLine g well start ended) → MayEnd well said → TookPlace (took_of (commits_in g) well (length c.made.steps) (length ended.steps)) said
   cleared true answer.Fine c may = all_well c (kind_cleared true c)

@@ -7,6 +7,7 @@ pub mod RemovedVolumes
 pub mod RestoredVolumes
 pub mod ChangedVolumes
 pub mod Untouched
+pub mod Unwritten
 pub mod Seen
 pub mod Settled
 pub mod Stays

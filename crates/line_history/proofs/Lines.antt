@@ -31,7 +31,7 @@ use Rattle.repair_scans.proofs.FoundGroup.{found_accepted}
 use Rattle.line_history.proofs.NewZeroes.{line_zeroed, zero_cases}
 use Rattle.volume_history.proofs.Past.{now_before}
 use Rattle.volume_history.proofs.Phases.{finds_with}
-use Rattle.volume_history.specs.Chronicles.{Origin, left_out, names_disk, now_at, origin_at, wrote_disk}
+use Rattle.volume_history.specs.Chronicles.{Origin, is_number, left_out, now_at, origin_at, wrote_disk}
 use Rattle.volume_history.specs.Changing.{ChangesVolumes}
 use Rattle.volume_history.specs.Commands.{commits, created_disk, zero_sector}
 use Rattle.volume_history.specs.Legal.{Makes, version_made}
@@ -164,7 +164,7 @@ module _ (scans : RepairedScans) (g : Given) (stage : Stage) (start ended : Told
 
         -- no disk is left out once it was begun
         none_left : (pv : ℕ) → left_out at (begun_entries at g.line) m pv ≡ false
-        none_left pv = ap (λ (d : Option ℕ). if names_disk d pv && wrote_disk at (begun_entries at g.line) m (length start.steps) 0 pv then true else false) creates_none
+        none_left pv = ap (λ (d : Option ℕ). if is_number d pv && wrote_disk at (begun_entries at g.line) m (length start.steps) 0 g.line pv then true else false) creates_none
 
         pub makes_then : now_at at m ≡ zeroed_base g → next ≡ version_made change → Makes at (begun_entries at g.line) m g.line next
         makes_then now_there makes = record {

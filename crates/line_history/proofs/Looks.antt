@@ -1,11 +1,12 @@
 -- A run that only looks at its disks has its history.
 use Rattle.std.specs.Prelude.{is_some}
-use Rattle.std.proofs.Common.{◌≡◌, ◌≤◌, ℕ, zero, suc, ◌-◌, true, false, List, [], ◌∷◌, length, drop, take, Some, None, refl, sym, ap, subst, ◌∙◌, arith}
+use Rattle.std.proofs.Common.{◌≡◌, ◌≤◌, ℕ, ◌-◌, true, false, List, [], ◌∷◌, ◌++◌, length, take, Some, None, refl, sym, subst, arith}
+use Rattle.disk_model.proofs.StepsSince.{steps_joined}
 use Rattle.disk_model.specs.CrashValues.{IsImage}
 use Rattle.disk_model.specs.Durability.{IsBase}
 use Rattle.disk_model.specs.Moments.{at_moment}
 use Rattle.disk_model.specs.Order.{WritesNothing}
-use Rattle.disk_model.specs.Steps.{Completed, Flushing, Image, Reading, Step, Submitted, Told, Writing, steps_on}
+use Rattle.disk_model.specs.Steps.{Image, Step, Told, steps_on}
 use Rattle.image_scans.specs.Laws.{none_out}
 use Rattle.image_scans.specs.Versions.{FindsVersion}
 use Rattle.lvm_script.specs.Options.{Word}
@@ -13,9 +14,9 @@ use Rattle.lvm_script.specs.declared.answer.Answer.{Answer}
 use Rattle.lvm_script.specs.declared.answer.Answer.TheVariants as answer
 use Rattle.lvm_script.specs.declared.line.Line.{Line}
 use Rattle.volume_history.proofs.SingleLines.{done_line, no_line, undone_line}
-use Rattle.volume_history.specs.Chronicles.{Entry, Origin, has_written, pending}
+use Rattle.volume_history.specs.Chronicles.{Entry, Origin, pending}
 use Rattle.volume_history.proofs.CommandKinds.{quiet_command}
-use Rattle.volume_history.specs.Commands.{commits, is_data, is_good}
+use Rattle.volume_history.specs.Commands.{commits, is_created_at, is_data, is_good, may_say}
 use Rattle.volume_history.specs.Placed.{volumes_of}
 use Rattle.volume_history.specs.Quiet.{is_quiet}
 use Rattle.volume_history.specs.Laws.{Tells}
@@ -24,35 +25,33 @@ use Rattle.volume_history.specs.Single.{LeavesDisk, StaysLaw, answered_entries, 
 use Rattle.line_history.proofs.Finding.{image_of_base}
 use Rattle.line_history.proofs.Images.{quiet_base}
 use Rattle.line_history.proofs.Origins.{origin, still}
-use Rattle.line_history.proofs.Seen.{part, part_then, steps_more, told_then}
+use Rattle.line_history.proofs.Seen.{part, steps_more, told_then}
 use Rattle.line_history.proofs.Settled.{none_pending}
 use Rattle.line_history.proofs.Stays.{all_stay}
+use Rattle.line_history.proofs.Unwritten.{newest, none_written, nothing_first, nothing_newer, nothing_older}
 use Rattle.line_history.specs.Histories.{HasRunHistory, IsFineOrBad, LooksAlone, journal_of_line, took_if}
 
--- older steps of some that write nothing do neither
-nothing_older : (k : ℕ) (steps : List Step) → WritesNothing steps → WritesNothing (drop k steps)
-nothing_older zero steps nothing = nothing
-nothing_older (suc k) [] nothing = tt
-nothing_older (suc k) (Submitted tag (Writing span sectors) ∷ steps) nothing = absurd nothing
-nothing_older (suc k) (Submitted tag (Reading span) ∷ steps) nothing = nothing_older k steps nothing
-nothing_older (suc k) (Submitted tag (Flushing pv) ∷ steps) nothing = nothing_older k steps nothing
-nothing_older (suc k) (Completed tag work well fresh ∷ steps) nothing = nothing_older k steps nothing
-
-none_written : (steps : List Step) (pv : ℕ) → WritesNothing steps → has_written steps pv ≡ false
-none_written [] pv nothing = refl
-none_written (Submitted tag (Writing span sectors) ∷ steps) pv nothing = absurd nothing
-none_written (Submitted tag (Reading span) ∷ steps) pv nothing = none_written steps pv nothing
-none_written (Submitted tag (Flushing disk) ∷ steps) pv nothing = none_written steps pv nothing
-none_written (Completed tag work well fresh ∷ steps) pv nothing = none_written steps pv nothing
-
-module _ (handed : Told) (sizes : List ℕ) (names : List Word) (clock : ℕ) (ended : Told) (l : LooksAlone handed sizes ended) where
-  more : length handed.steps ≤ length ended.steps
-  more = steps_more handed ended l.since l.steps
+module _ (handed : Told) (sizes : List ℕ) (names : List Word) (clock : ℕ) (start ended : Told) (l : LooksAlone handed sizes start ended) where
+  all_steps : ended ≡ steps_on (l.since ++ l.first) handed
+  all_steps = steps_joined handed start ended l.first l.since l.opening l.steps
 
   base_at : (m : ℕ) → length handed.steps ≤ m → m ≤ length ended.steps → IsBase (at_moment m ended) l.base
   base_at m ge le =
-      subst (λ (t : Told). IsBase t l.base) (sym (told_then handed ended l.since l.steps m ge le))
-      (quiet_base handed (steps_on (part handed ended l.since l.steps m ge le) handed) (part handed ended l.since l.steps m ge le) refl (nothing_older (length ended.steps - m) l.since l.nothing) l.base l.base_is)
+      let newer : List Step = part handed ended (l.since ++ l.first) all_steps m ge le in
+      subst (λ (t : Told). IsBase t l.base) (sym (told_then handed ended (l.since ++ l.first) all_steps m ge le))
+      (quiet_base handed (steps_on newer handed) newer refl (nothing_older (length ended.steps - m) (l.since ++ l.first) l.nothing) l.base l.base_is)
+
+  more : length handed.steps ≤ length ended.steps
+  more = steps_more handed ended (l.since ++ l.first) all_steps
+
+  more_before : length handed.steps ≤ length start.steps
+  more_before = steps_more handed start l.first l.opening
+
+  more_behind : length start.steps ≤ length ended.steps
+  more_behind = steps_more start ended l.since l.steps
+
+  start_base : IsBase start l.base
+  start_base = subst (λ (t : Told). IsBase t l.base) (sym l.opening) (quiet_base handed (steps_on l.first handed) l.first refl (nothing_first l.since l.first l.nothing) l.base l.base_is)
 
   finds_at : (m : ℕ) → length handed.steps ≤ m → m ≤ length ended.steps → (image : Image) → IsImage (at_moment m ended) image → FindsVersion sizes image none_out l.version
   finds_at m ge le image is =
@@ -60,25 +59,24 @@ module _ (handed : Told) (sizes : List ℕ) (names : List Word) (clock : ℕ) (e
       (sym (image_of_base (at_moment m ended) l.base image (base_at m ge le) is)) l.finds
 
   abbrev origin_is : Origin
-  origin_is = origin handed handed ended [] l.since refl l.steps l.record_is l.base l.base l.base_is l.base_is sizes names clock l.version
+  origin_is = origin handed start ended l.first l.since l.opening l.steps l.record_is l.base l.base l.base_is start_base sizes names clock l.version
 
   stays : StaysLaw origin_is
   stays = record {
-    still = still handed handed ended [] l.since refl l.steps l.record_is l.base l.base l.base_is l.base_is sizes names clock l.version
-        (λ m ge le image is. finds_at m ge (omega (arith, le, more)) image is) (λ m ge le. all_stay l.base (at_moment m ended) (base_at m ge le) (volumes_of l.version)) l.finds;
-    after = finds_at;
+    still = still handed start ended l.first l.since l.opening l.steps l.record_is l.base l.base l.base_is start_base sizes names clock l.version
+        (λ m ge le image is. finds_at m ge (omega (arith, le, more_behind)) image is) (λ m ge le. all_stay l.base (at_moment m ended) (base_at m ge le) (volumes_of l.version)) l.finds;
+    after = λ m ge le. finds_at m (omega (arith, ge, more_before)) le;
   }
 
+  nothing_since : WritesNothing (take (length ended.steps - length start.steps) ended.steps)
+  nothing_since = subst WritesNothing (sym (newest start ended l.since l.steps)) (nothing_newer l.since l.first l.nothing)
+
   leaves : (line : Line) → LeavesDisk origin_is line
-  leaves line disk created =
-      let e : length ended.steps - length ended.steps ≡ 0 = omega arith in
-      ap (λ (s : List Step). has_written (take (length ended.steps - length handed.steps) s) disk) (sym (ap (λ (n : ℕ). drop n ended.steps) e))
-      ∙ ap (λ (s : List Step). has_written s disk) (part_then handed ended l.since l.steps (length ended.steps) more (omega arith))
-      ∙ none_written (drop (length ended.steps - length ended.steps) l.since) disk (nothing_older (length ended.steps - length ended.steps) l.since l.nothing)
+  leaves line disk created = none_written (is_created_at line.command disk) (take (length ended.steps - length start.steps) ended.steps) nothing_since
 
   -- what has no pending command at its end
   told_so : (es : List Entry) → Tells origin_is es → is_some (pending es) ≡ false → HasRunHistory handed l.base sizes names clock ended (journal_of es) (lines_of es es)
-  told_so es = none_pending handed l.base sizes names clock ended (length handed.steps) l.version es
+  told_so es = none_pending handed l.base sizes names clock ended (length start.steps) l.version es
 
   pub looks : HasRunHistory handed l.base sizes names clock ended [] []
   looks = told_so [] (no_line origin_is stays) refl
@@ -87,26 +85,20 @@ module _ (handed : Told) (sizes : List ℕ) (names : List Word) (clock : ℕ) (e
     plain : is_data line.command ≡ false
     plain = (quiet_command line.command quiet).data_xl
 
-    undone : (said : Answer) → is_good said ≡ false → HasRunHistory handed l.base sizes names clock ended (journal_of_line (length handed.steps) None (length ended.steps)) ((line, Some said) ∷ [])
-    undone answer.Fine bad = cc
-    undone (answer.Read sectors) bad = cc
-    undone (answer.Listed volumes) bad = cc
-    undone (answer.Refused refusal) bad = told_so (answered_entries origin_is line (answer.Refused refusal)) (undone_line origin_is line stays plain (leaves line) (answer.Refused refusal) bad) refl
-    undone (answer.ReadFailed pv) bad = told_so (answered_entries origin_is line (answer.ReadFailed pv)) (undone_line origin_is line stays plain (leaves line) (answer.ReadFailed pv) bad) refl
-    undone (answer.PvFailed pv) bad = told_so (answered_entries origin_is line (answer.PvFailed pv)) (undone_line origin_is line stays plain (leaves line) (answer.PvFailed pv) bad) refl
-    undone (answer.Fenced pv) bad = told_so (answered_entries origin_is line (answer.Fenced pv)) (undone_line origin_is line stays plain (leaves line) (answer.Fenced pv) bad) refl
-    undone (answer.Stopped pv) bad = told_so (answered_entries origin_is line (answer.Stopped pv)) (undone_line origin_is line stays plain (leaves line) (answer.Stopped pv) bad) refl
-    undone answer.Aborted bad = told_so (answered_entries origin_is line answer.Aborted) (undone_line origin_is line stays plain (leaves line) answer.Aborted bad) refl
-    undone answer.NoMemory bad = told_so (answered_entries origin_is line answer.NoMemory) (undone_line origin_is line stays plain (leaves line) answer.NoMemory bad) refl
+    answered : (said : Answer) → is_good said ≡ false → may_say line.command said ≡ true → Tells origin_is (answered_entries origin_is line said)
+    answered said bad says = undone_line origin_is line stays plain (leaves line) said (λ removing. nothing_since) bad says
 
-    pub reports : (said : Answer) → IsFineOrBad said → HasRunHistory handed l.base sizes names clock ended (journal_of_line (length handed.steps) (took_if said (length ended.steps)) (length ended.steps)) ((line, Some said) ∷ [])
-    reports answer.Fine may = told_so (taken_entries origin_is line) (done_line origin_is line stays plain (leaves line) none) refl
-    reports (answer.Read sectors) may = undone (answer.Read sectors) may
-    reports (answer.Listed volumes) may = undone (answer.Listed volumes) may
-    reports (answer.Refused refusal) may = undone (answer.Refused refusal) may
-    reports (answer.ReadFailed pv) may = undone (answer.ReadFailed pv) may
-    reports (answer.PvFailed pv) may = undone (answer.PvFailed pv) may
-    reports (answer.Fenced pv) may = undone (answer.Fenced pv) may
-    reports (answer.Stopped pv) may = undone (answer.Stopped pv) may
-    reports answer.Aborted may = undone answer.Aborted may
-    reports answer.NoMemory may = undone answer.NoMemory may
+    undone : (said : Answer) → is_good said ≡ false → may_say line.command said ≡ true → HasRunHistory handed l.base sizes names clock ended (journal_of_line (length start.steps) None (length ended.steps)) ((line, Some said) ∷ [])
+    undone said bad says = told_so (answered_entries origin_is line said) (answered said bad says) refl
+
+    pub reports : (said : Answer) → IsFineOrBad said → may_say line.command said ≡ true → HasRunHistory handed l.base sizes names clock ended (journal_of_line (length start.steps) (took_if said (length ended.steps)) (length ended.steps)) ((line, Some said) ∷ [])
+    reports answer.Fine may says = told_so (taken_entries origin_is line) (done_line origin_is line stays plain (leaves line) none says) refl
+    reports (answer.Read sectors) may says = undone (answer.Read sectors) may says
+    reports (answer.Listed volumes) may says = undone (answer.Listed volumes) may says
+    reports (answer.Refused refusal) may says = undone (answer.Refused refusal) may says
+    reports (answer.ReadFailed pv) may says = undone (answer.ReadFailed pv) may says
+    reports (answer.PvFailed pv) may says = undone (answer.PvFailed pv) may says
+    reports (answer.Fenced pv) may says = undone (answer.Fenced pv) may says
+    reports (answer.Stopped pv) may says = undone (answer.Stopped pv) may says
+    reports answer.Aborted may says = undone answer.Aborted may says
+    reports answer.NoMemory may says = undone answer.NoMemory may says

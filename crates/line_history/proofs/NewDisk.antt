@@ -20,9 +20,10 @@ use Rattle.vg_repair.specs.Repaired.{repaired_of}
 use Rattle.volume_history.proofs.Bits.{eq_of}
 use Rattle.volume_history.proofs.Phases.{finds_with}
 use Rattle.volume_history.specs.Chronicles.{has_written, steps_upto}
-use Rattle.volume_history.specs.Commands.{created_disk}
+use Rattle.volume_history.specs.Commands.{created_disk, is_created_at}
 use Rattle.volume_history.specs.Single.{CreateLaw, CreatedLaw, is_half_made}
 use Rattle.line_history.proofs.Finding.{can_start, finds_start, image_of_base, repaired_base, same_version}
+use Rattle.line_history.proofs.LineKinds.{IsCreated}
 use Rattle.line_history.proofs.Images.{all_zeros, begun_zeros, line as line_of, quiet_base, start_base}
 use Rattle.line_history.proofs.Lines.{change, done_finds, done_image, is_still, origin_repaired}
 use Rattle.line_history.proofs.OneDisk.{AreOn, BatchesAreOn, first_on, label_on, older_on, unwritten}
@@ -51,7 +52,11 @@ or_false false = refl
 
 module _ (scans : RepairedScans) (g : Given) (stage : Stage) (start ended : Told) (r : RunsLine g stage start ended) (repaired : is_repaired stage ≡ true) (zeroed : is_zeroed stage ≡ true)
     (disk : ℕ) (label : NewLabel) (none : (change scans g stage start ended r repaired).group ≡ None) (created : created_disk g.names g.line.command ≡ Some disk)
-    (labels : (change scans g stage start ended r repaired).labels ≡ label ∷ []) (on : label.disk ≡ disk) (no_zeros : (change scans g stage start ended r repaired).zero ≡ []) where
+    (labels : (change scans g stage start ended r repaired).labels ≡ label ∷ []) (on : label.disk ≡ disk) (no_zeros : (change scans g stage start ended r repaired).zero ≡ []) (places : IsCreated g.line.command disk label) where
+  -- what it may write there
+  abbrev own : Span → Bool
+  own = is_created_at g.line.command disk
+
   -- it writes no zeros, so that its batches are all that it writes
   all_batches : zeros_in g ++ batches_in g ≡ batches_in g
   all_batches = ap (λ (spans : List Span). batch_if (map zero_put spans) ++ batches_in g) no_zeros
@@ -64,19 +69,19 @@ module _ (scans : RepairedScans) (g : Given) (stage : Stage) (start ended : Told
   abbrev version : Option Version
   version = version_in g.found
 
-  -- ---- all its writes are of the disk
+  -- ---- all its writes are such
   abbrev batches_with : Option Group → List NewLabel → List (List Put)
   batches_with group all =
       batch_if (new_area_puts group all) ++ batch_if (map label_put all)
       ++ commit_batches group g.clock (areas_of (change scans g stage start ended r repaired) (repaired_of g.found).areas)
 
-  batches_on : BatchesAreOn disk (batches_in g)
+  batches_on : BatchesAreOn own (batches_in g)
   batches_on =
-      subst (λ (o : Option Group). BatchesAreOn disk (batches_with o (change scans g stage start ended r repaired).labels)) (sym none)
-      (subst (λ (all : List NewLabel). BatchesAreOn disk (batches_with None all)) (sym labels) (label_on disk label on))
+      subst (λ (o : Option Group). BatchesAreOn own (batches_with o (change scans g stage start ended r repaired).labels)) (sym none)
+      (subst (λ (all : List NewLabel). BatchesAreOn own (batches_with None all)) (sym labels) (label_on own label places.0 places.1))
 
-  since_on : AreOn disk (writes_submitted line.since)
-  since_on = subst (AreOn disk) (sym line.writes) (first_on disk line.submitted (batches_in g) batches_on)
+  since_on : AreOn own (writes_submitted line.since)
+  since_on = subst (AreOn own) (sym line.writes) (first_on own line.submitted (batches_in g) batches_on)
 
   -- an image from the start on is one on their way
   new_way : (m : ℕ) → length start.steps ≤ m → m ≤ length ended.steps → (image : Image) → IsImage (at_moment m ended) image
@@ -94,25 +99,26 @@ module _ (scans : RepairedScans) (g : Given) (stage : Stage) (start ended : Told
     part_is : take (m - length start.steps) (steps_upto (origin_repaired scans g stage start ended r repaired) m) ≡ steps
     part_is = part_then start ended line.since line.steps m ge le
 
-    half_made : (w : Bool) → has_written steps disk ≡ w → (pv : ℕ) → is_half_made (origin_repaired scans g stage start ended r repaired) disk m pv ≡ ((disk == pv) && w)
-    half_made w is pv = ap (λ (l : List Step). (disk == pv) && has_written l pv) part_is ∙ at_disk disk pv (λ k. has_written steps k) w is
+    half_made : (w : Bool) → has_written own steps ≡ w → (pv : ℕ) → is_half_made (origin_repaired scans g stage start ended r repaired) g.line disk m pv ≡ ((disk == pv) && w)
+    half_made w is pv =
+        ap (λ (l : List Step). (disk == pv) && has_written (is_created_at g.line.command pv) l) part_is ∙ at_disk disk pv (λ k. has_written (is_created_at g.line.command k) steps) w is
 
     labelled : (pv : ℕ) → is_labelled (change scans g stage start ended r repaired).labels pv ≡ (disk == pv)
     labelled pv = ap (λ (all : List NewLabel). is_labelled all pv) labels ∙ or_false (label.disk == pv) ∙ ap (λ (k : ℕ). k == pv) on
 
-    finds_then : (w : Bool) → has_written steps disk ≡ w → (image : Image) → IsImage (at_moment m ended) image
-        → FindsVersion g.sizes image (is_half_made (origin_repaired scans g stage start ended r repaired) disk m) version
+    finds_then : (w : Bool) → has_written own steps ≡ w → (image : Image) → IsImage (at_moment m ended) image
+        → FindsVersion g.sizes image (is_half_made (origin_repaired scans g stage start ended r repaired) g.line disk m) version
     finds_then true is image im =
-        finds_with g.sizes image (is_labelled (change scans g stage start ended r repaired).labels) (is_half_made (origin_repaired scans g stage start ended r repaired) disk m) version
+        finds_with g.sizes image (is_labelled (change scans g stage start ended r repaired).labels) (is_half_made (origin_repaired scans g stage start ended r repaired) g.line disk m) version
         (λ pv. labelled pv ∙ sym (half_made true is pv ∙ and_true (disk == pv)))
         (subst (λ (v : Option Version). FindsVersion g.sizes image (is_labelled (change scans g stage start ended r repaired).labels) v) (same_version scans g stage start ended r repaired)
         (subst (λ (o : Option Group). FindsOnTheWay g.sizes image (repaired_of g.found) (change scans g stage start ended r repaired) o) none (new_way m ge le image im)))
     finds_then false is image im =
-        let nothing : WritesNothing steps = unwritten disk steps (older_on disk (length ended.steps - m) line.since since_on) is in
+        let nothing : WritesNothing steps = unwritten own steps (older_on own (length ended.steps - m) line.since since_on) is in
         let stays : IsBase (steps_on steps start) (repaired_base g) = quiet_base start (steps_on steps start) steps refl nothing (repaired_base g) (start_base g stage start ended r repaired) in
         let same : image ≡ repaired_base g =
         image_of_base (steps_on steps start) (repaired_base g) image stays (subst (λ (t : Told). IsImage t image) (told_then start ended line.since line.steps m ge le) im) in
-        finds_with g.sizes image none_out (is_half_made (origin_repaired scans g stage start ended r repaired) disk m) version (λ pv. sym (half_made false is pv ∙ and_false (disk == pv)))
+        finds_with g.sizes image none_out (is_half_made (origin_repaired scans g stage start ended r repaired) g.line disk m) version (λ pv. sym (half_made false is pv ∙ and_false (disk == pv)))
         (subst (λ (i : Image). FindsVersion g.sizes i none_out version) (sym same) (finds_start scans g stage start ended r repaired))
 
   -- ---- the laws
@@ -121,7 +127,7 @@ module _ (scans : RepairedScans) (g : Given) (stage : Stage) (start ended : Told
   create_law before by = record {
     still = is_still scans g stage start ended r repaired;
     names = created;
-    between = λ m ge lt image im. finds_then m ge (omega (arith, lt, by)) (has_written (steps m ge (omega (arith, lt, by))) disk) refl image im;
+    between = λ m ge lt image im. finds_then m ge (omega (arith, lt, by)) (has_written own (steps m ge (omega (arith, lt, by)))) refl image im;
   }
 
   pub created_law : IsBase ended (done_image scans g stage start ended r repaired zeroed) → CreatedLaw (origin_repaired scans g stage start ended r repaired)

@@ -1,22 +1,24 @@
--- A line that writes one disk alone.
-use Rattle.std.proofs.Common.{◌≡◌, ℕ, zero, suc, ◌==◌, ◌||◌, Bool, true, false, List, [], ◌∷◌, ◌++◌, map, take, drop, refl, sym, ap, subst, ◌∙◌}
+-- A line that writes what a pvcreate may write alone.
+use Rattle.std.proofs.Common.{◌≡◌, ℕ, zero, suc, ◌/◌, ◌||◌, Bool, true, false, List, [], ◌∷◌, ◌++◌, map, take, drop, sym, ap, ◌∙◌}
 use Rattle.std.proofs.lemmas.Bool.{true≢false}
 use Rattle.std.specs.Prelude.{flat_map}
+use Rattle.std.specs.List.{AllByRecursion as Each}
+use Rattle.sector_base.specs.declared.spans.Span.{Span}
 use Rattle.disk_batch.specs.InTurn.{Put}
 use Rattle.disk_model.specs.Order.{WritesNothing}
+use Rattle.disk_model.specs.Puts.{one_sector}
 use Rattle.disk_model.specs.Since.{writes_submitted}
 use Rattle.disk_model.specs.Steps.{Completed, Flushing, Reading, Step, Submitted, Writing}
 use Rattle.group_ops.specs.declared.state.NewLabel.{NewLabel}
 use Rattle.pv_header.specs.declared.extent_list.Extent.{Extent}
 use Rattle.vg_change.specs.Batches.{area_put, area_puts, batch_if, label_put}
-use Rattle.volume_history.proofs.Bits.{eq_to}
 use Rattle.volume_history.specs.Chronicles.{has_written}
 
-module _ (disk : ℕ) where
-  -- these writes are all of the disk
+module _ (own : Span → Bool) where
+  -- these writes are all such
   abbrev pub AreOn : List Put → Type 0
   AreOn [] = Unit {0}
-  AreOn (put ∷ puts) = (put.0.pv ≡ disk) × AreOn puts
+  AreOn (put ∷ puts) = (own put.0 ≡ true) × AreOn puts
 
   abbrev pub BatchesAreOn : List (List Put) → Type 0
   BatchesAreOn [] = Unit {0}
@@ -34,14 +36,15 @@ module _ (disk : ℕ) where
   if_on [] on = tt
   if_on (put ∷ puts) on = (on, tt)
 
-  areas_on : (areas : List Extent) → AreOn (map (area_put disk) areas)
-  areas_on [] = tt
-  areas_on (area ∷ areas) = (refl, areas_on areas)
+  areas_on : (disk : ℕ) (areas : List Extent) → Each (λ (area : Extent). own (one_sector disk (area.offset / 512)) ≡ true) areas → AreOn (map (area_put disk) areas)
+  areas_on disk [] each = tt
+  areas_on disk (area ∷ areas) each = (each.0, areas_on disk areas each.1)
 
-  -- those of a new physical volume on it
-  pub label_on : (label : NewLabel) → label.disk ≡ disk → BatchesAreOn (batch_if (flat_map area_puts (label ∷ [])) ++ batch_if (map label_put (label ∷ [])) ++ [])
-  label_on label on =
-      let areas : AreOn (area_puts label) = subst (λ (d : ℕ). AreOn (map (area_put d) label.header.areas)) (sym on) (areas_on label.header.areas) in
+  -- those of a new physical volume, where its label and the headers of its areas are
+  pub label_on : (label : NewLabel) → own (one_sector label.disk label.sector) ≡ true → Each (λ (area : Extent). own (one_sector label.disk (area.offset / 512)) ≡ true) label.header.areas
+      → BatchesAreOn (batch_if (flat_map area_puts (label ∷ [])) ++ batch_if (map label_put (label ∷ [])) ++ [])
+  label_on label on areas_are =
+      let areas : AreOn (area_puts label) = areas_on label.disk label.header.areas areas_are in
       batches_both (batch_if (flat_map area_puts (label ∷ [])) ++ batch_if (map label_put (label ∷ []))) []
       (batches_both (batch_if (flat_map area_puts (label ∷ []))) (batch_if (map label_put (label ∷ []))) (if_on (area_puts label ++ []) (both_on (area_puts label) [] areas tt)) ((on, tt), tt))
       tt
@@ -58,7 +61,7 @@ module _ (disk : ℕ) where
   all_but_last [] put on = tt
   all_but_last (first ∷ puts) put on = (on.0, all_but_last puts put on.1)
 
-  the_last : (puts : List Put) (put : Put) → AreOn (puts ++ put ∷ []) → put.0.pv ≡ disk
+  the_last : (puts : List Put) (put : Put) → AreOn (puts ++ put ∷ []) → own put.0 ≡ true
   the_last [] put on = on.0
   the_last (first ∷ puts) put on = the_last puts put on.1
 
@@ -74,14 +77,11 @@ module _ (disk : ℕ) where
   older_on (suc k) [] on = tt
   older_on (suc k) (step ∷ steps) on = older_on k steps (older_one step steps on)
 
-  same_disk : (pv : ℕ) (rest : Bool) → pv ≡ disk → ((pv == disk) || rest) ≡ true
-  same_disk pv rest is = ap (λ (b : Bool). b || rest) (eq_to pv disk is)
-
-  -- where none of them writes it, none writes
-  pub unwritten : (steps : List Step) → AreOn (writes_submitted steps) → has_written steps disk ≡ false → WritesNothing steps
+  -- where none of them is written, none writes
+  pub unwritten : (steps : List Step) → AreOn (writes_submitted steps) → has_written own steps ≡ false → WritesNothing steps
   unwritten [] on none = tt
   unwritten (Submitted tag (Writing span sectors) ∷ steps) on none =
-      absurd (true≢false (sym (same_disk span.pv (has_written steps disk) (the_last (writes_submitted steps) (span, sectors) on)) ∙ none))
+      absurd (true≢false (sym (ap (λ (b : Bool). b || has_written own steps) (the_last (writes_submitted steps) (span, sectors) on)) ∙ none))
   unwritten (Submitted tag (Reading span) ∷ steps) on none = unwritten steps on none
   unwritten (Submitted tag (Flushing pv) ∷ steps) on none = unwritten steps on none
   unwritten (Completed tag work well fresh ∷ steps) on none = unwritten steps on none

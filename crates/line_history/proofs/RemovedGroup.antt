@@ -1,13 +1,17 @@
 -- A vgremove: it commits no group, and what clears the disks of the group is its commit.
-use Rattle.std.proofs.Common.{◌≡◌, ◌≤◌, ◌<◌, ◌⊎◌, ℕ, Bool, true, List, [], ◌∷◌, length, take, Option, Some, None, inl, inr, ⊎_elim, refl, sym, ap, subst, ◌∙◌, arith}
-use Rattle.std.specs.Prelude.{option_map, slice_get}
+use Rattle.std.proofs.Common.{◌≡◌, ◌≤◌, ◌⊎◌, ℕ, ◌-◌, Bool, true, List, [], ◌∷◌, ◌++◌, length, map, take, Option, Some, None, inl, inr, ⊎_elim, refl, sym, ap, subst, ◌∙◌, arith}
+use Rattle.std.specs.Prelude.{flat_map, option_map, slice_get}
 use Rattle.disk_batch.proofs.FrontBatches.{none_front}
-use Rattle.disk_batch.specs.InTurn.{HasFirstBatches, Put, with_batches}
+use Rattle.sector_base.specs.declared.spans.Span.{Span}
+use Rattle.disk_batch.specs.InTurn.{HasFirstBatches, Put, WritesInTurn, with_batches}
 use Rattle.disk_model.proofs.NowStands.{now_base}
+use Rattle.disk_model.proofs.Ordered.{writes_nothing_append}
+use Rattle.disk_model.proofs.StepsSince.{steps_joined}
 use Rattle.disk_model.specs.CrashValues.{IsImage}
 use Rattle.disk_model.specs.Durability.{IsBase}
 use Rattle.disk_model.specs.Moments.{at_moment}
-use Rattle.disk_model.specs.Steps.{Image, Told, now_after}
+use Rattle.disk_model.specs.Order.{WritesNothing}
+use Rattle.disk_model.specs.Steps.{Image, Step, Told, now_after, steps_on}
 use Rattle.group_ops.proofs.Chained.{front_passes}
 use Rattle.group_ops.proofs.NextVersions.{zeroes}
 use Rattle.group_ops.specs.Committing.{named_rows, rows_where_found}
@@ -15,7 +19,7 @@ use Rattle.group_ops.specs.Judging.{first_refusal}
 use Rattle.group_ops.specs.Laws.{state_in}
 use Rattle.group_ops.specs.Planning.{change_of, refusal_of}
 use Rattle.group_ops.specs.Vgremove.{remove_rows, volume_row}
-use Rattle.image_scans.proofs.RemovalScans.{removal_ends, removal_scans, unremoved_scans}
+use Rattle.image_scans.proofs.RemovalScans.{removal_ends, removal_scans}
 use Rattle.image_scans.specs.Laws.{CanCarryOut, none_out}
 use Rattle.image_scans.specs.Versions.{FindsVersion, Version, version_in}
 use Rattle.lvm_script.specs.Options.{Word}
@@ -25,7 +29,7 @@ use Rattle.lvm_script.specs.declared.op_refusal.OpRefusal.TheVariants.{InUse}
 use Rattle.meta_model.specs.declared.group.Group.{Group}
 use Rattle.meta_model.specs.declared.lv.Lv.{Lv}
 use Rattle.repair_scans.specs.Laws.{RepairedScans}
-use Rattle.vg_change.specs.Batches.{batches_of}
+use Rattle.vg_change.specs.Batches.{batch_if, batches_of, zero_put}
 use Rattle.vg_found.specs.Disks.{disks_of}
 use Rattle.vg_found.specs.declared.disk.Disk.{Disk}
 use Rattle.vg_repair.specs.Repaired.{repaired_of}
@@ -43,12 +47,13 @@ use Rattle.volume_history.specs.Reshaping.{MakesVersion}
 use Rattle.volume_history.specs.Single.{CommitLaw, DoneLaw, StaysLaw}
 use Rattle.line_history.proofs.Clearing.{clearing, made_base, made_image, made_origin, more, submitted_clears, untouched, whole_origin}
 use Rattle.line_history.proofs.Finding.{can_carry_out, finds_zeroed, finds_zeroing, image_of_base, one_image, same_version, zeroed_base}
-use Rattle.line_history.proofs.Images.{after_zeros, begun_zeros, from_start}
+use Rattle.line_history.proofs.Images.{after_zeros, all_zeros, begun_zeros, from_start, line}
 use Rattle.line_history.proofs.Lines.{change, is_still, makes_then, origin_repaired}
 use Rattle.line_history.proofs.LongerLaws.{stays_longer, still_longer}
 use Rattle.line_history.proofs.Seen.{moment_seen, now_seen}
+use Rattle.line_history.proofs.Unwritten.{newest, none_submitted, nothing_of}
 use Rattle.line_history.proofs.Stays.{all_stay}
-use Rattle.line_history.specs.LineRun.{ClearsLine, Given, RunsLine, Stage, Done, batches_in, clears_in, is_repaired, is_zeroed}
+use Rattle.line_history.specs.LineRun.{ClearsLine, Given, RunsLine, Stage, Done, batches_in, clears_in, is_done, is_repaired, is_zeroed, zeros_in}
 
 -- ---- its group has no volume
 
@@ -84,6 +89,26 @@ module _ (scans : RepairedScans) (g : Given) (stage : Stage) (start ended : Told
     after = from_start g stage start ended r repaired zeroed (λ image. FindsVersion g.sizes image none_out (version_in g.found)) (λ image is. finds_zeroing scans g stage start ended r repaired image is)
         (λ m ge le image is. finds_still image (after_zeros g stage start ended r repaired zeroed m ge le image is));
   }
+
+  -- and nothing is, where it has no zeros either
+  abbrev zeros : WritesInTurn start (zeros_in g) true r.zeroed
+  zeros = all_zeros g stage start ended r repaired zeroed
+
+  abbrev own : WritesInTurn r.zeroed (batches_in g) (is_done stage) ended
+  own = line g stage start ended r repaired zeroed
+
+  pub since_steps : ended ≡ steps_on (own.since ++ zeros.since) start
+  since_steps = steps_joined start r.zeroed ended zeros.since own.since zeros.steps own.steps
+
+  pub since_nothing : (change scans g stage start ended r repaired).zero ≡ [] → WritesNothing (own.since ++ zeros.since)
+  since_nothing no_zeros =
+      writes_nothing_append own.since zeros.since
+      (none_submitted own.since (own.writes ∙ ap (λ (l : List (List Put)). flat_map (λ (batch : List Put). batch) (take own.submitted l)) no_batches ∙ nothing_of own.submitted))
+      (none_submitted zeros.since
+      (zeros.writes ∙ ap (λ (spans : List Span). flat_map (λ (batch : List Put). batch) (take zeros.submitted (batch_if (map zero_put spans)))) no_zeros ∙ nothing_of zeros.submitted))
+
+  pub removal_unwritten : (change scans g stage start ended r repaired).zero ≡ [] → WritesNothing (take (length ended.steps - length start.steps) ended.steps)
+  removal_unwritten no_zeros = subst WritesNothing (sym (newest start ended (own.since ++ zeros.since) since_steps)) (since_nothing no_zeros)
 
 -- ---- while they are cleared
 
@@ -154,11 +179,27 @@ module _ (scans : RepairedScans) (g : Given) (well : Bool) (start ended : Told) 
         untouched = subst (λ (i : Image). AllUntouched i (volumes_of None) ended) (sym now) (all_stay last ended base (volumes_of None));
       }
 
-  -- where their last batch wasn't begun the version that stood is in force
-  pub stays_unremoved : c.clears.submitted < length (clears_in g) → StaysLaw (whole_origin scans g well start ended c)
-  stays_unremoved less =
-      stays_longer (made_origin scans g well start ended c) ended c.clears.since c.clears.steps stays.still (untouched scans g well start ended c) stays.after
-      (λ m ge le image is.
-      of_found image
-      (unremoved_scans (zeroed_base g) image g.sizes (repaired_of g.found) g.names g.backup g.line g.clock g.given vg can command_is c.clears.submitted less
-      (subst (λ (i : Image). HasFirstBatches (take c.clears.submitted (clears_in g)) i image) nothing_made (submitted_clears scans g well start ended c m ge le image is))))
+  -- where none of these was begun the version that stood is in force, and nothing was written
+  module _ (unbegun : c.clears.submitted ≡ 0) where
+    as_it_was : (m : ℕ) → opened ≤ m → m ≤ length ended.steps → (image : Image) → IsImage (at_moment m ended) image → image ≡ zeroed_base g
+    as_it_was m ge le image is =
+        one_image image (zeroed_base g)
+        (none_front (zeroed_base g) image
+        (subst (λ (i : Image). HasFirstBatches [] i image) nothing_made
+        (subst (λ (n : ℕ). HasFirstBatches (take n (clears_in g)) (made_image scans g well start ended c) image) unbegun (submitted_clears scans g well start ended c m ge le image is))))
+
+    pub stays_unremoved : StaysLaw (whole_origin scans g well start ended c)
+    stays_unremoved =
+        stays_longer (made_origin scans g well start ended c) ended c.clears.since c.clears.steps stays.still (untouched scans g well start ended c) stays.after
+        (λ m ge le image is.
+        subst (λ (i : Image). FindsVersion g.sizes i none_out (version_in g.found)) (sym (as_it_was m ge le image is))
+        (finds_zeroed scans g Done start c.made c.line refl (begun_zeros Done refl)))
+
+    pub removal_unbegun : (change scans g Done start c.made c.line refl).zero ≡ [] → WritesNothing (take (length ended.steps - length start.steps) ended.steps)
+    removal_unbegun no_zeros =
+        let before : List Step = (line g Done start c.made c.line refl refl).since ++ (all_zeros g Done start c.made c.line refl refl).since in
+        subst WritesNothing
+        (sym (newest start ended (c.clears.since ++ before) (steps_joined start c.made ended before c.clears.since (since_steps scans g Done start c.made c.line refl refl vg command_is) c.clears.steps)))
+        (writes_nothing_append c.clears.since before
+        (none_submitted c.clears.since (c.clears.writes ∙ ap (λ (n : ℕ). flat_map (λ (batch : List Put). batch) (take n (clears_in g))) unbegun))
+        (since_nothing scans g Done start c.made c.line refl refl vg command_is no_zeros))

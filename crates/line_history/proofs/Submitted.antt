@@ -1,5 +1,5 @@
 -- All that the repair and the line write was submitted.
-use Rattle.std.proofs.Common.{◌≡◌, ◌≤◌, Bool, true, List, ◌++◌, length, refl, sym, ap, ◌∙◌, arith}
+use Rattle.std.proofs.Common.{◌≡◌, ◌≤◌, ℕ, Bool, true, List, ◌++◌, length, take, refl, sym, ap, ◌∙◌, arith}
 use Rattle.std.specs.Prelude.{flat_map}
 use Rattle.std.proofs.lemmas.List.{take_all}
 use Rattle.std.proofs.lemmas.List.Concat.{flat_map-append}
@@ -20,13 +20,18 @@ all_writes batches = flat_map (λ (batch : List Put). batch) batches
 pub submitted : (old new : Told) (batches : List (List Put)) (well : Bool) (w : WritesInTurn old batches well new) → length batches ≤ w.submitted → writes_submitted w.since ≡ all_writes batches
 submitted old new batches well w le = w.writes ∙ ap all_writes (take_all w.submitted batches le)
 
--- and those before them
-pub both_submitted : (old mid new : Told) (first more : List (List Put)) (well : Bool) (a : WritesInTurn old first true mid) (b : WritesInTurn mid more well new) → length more ≤ b.submitted → writes_submitted (b.since ++ a.since) ≡ all_writes (first ++ more)
-both_submitted old mid new first more well a b le =
+-- those before them, and the first of these, as far as they were
+pub both_begun : (old mid new : Told) (first more : List (List Put)) (well : Bool) (a : WritesInTurn old first true mid) (b : WritesInTurn mid more well new) → writes_submitted (b.since ++ a.since) ≡ all_writes (first ++ take b.submitted more)
+both_begun old mid new first more well a b =
     writes_submitted-append b.since a.since
     ∙ ap (λ (l : List Put). l ++ writes_submitted b.since) (submitted old mid first true a (let all = a.whole refl in omega (arith, all)))
-    ∙ ap (λ (l : List Put). all_writes first ++ l) (submitted mid new more well b le)
-    ∙ sym (flat_map-append _ first more)
+    ∙ ap (λ (l : List Put). all_writes first ++ l) b.writes
+    ∙ sym (flat_map-append _ first (take b.submitted more))
+
+-- all of both
+pub both_submitted : (old mid new : Told) (first more : List (List Put)) (well : Bool) (a : WritesInTurn old first true mid) (b : WritesInTurn mid more well new) → length more ≤ b.submitted → writes_submitted (b.since ++ a.since) ≡ all_writes (first ++ more)
+both_submitted old mid new first more well a b le =
+    both_begun old mid new first more well a b ∙ ap (λ (l : List (List Put)). all_writes (first ++ l)) (take_all b.submitted more le)
 
 module _ (g : Given) (stage : Stage) (start ended : Told) (r : RunsLine g stage start ended) (repaired : is_repaired stage ≡ true) (zeroed : is_zeroed stage ≡ true) where
   abbrev repairs : WritesInTurn r.opened (repairs_in g) true start
@@ -49,9 +54,9 @@ module _ (g : Given) (stage : Stage) (start ended : Told) (r : RunsLine g stage 
       ∙ both_submitted r.opened start r.zeroed (repairs_in g) (zeros_in g) true repairs zeros (let all = zeros.whole refl in omega (arith, all))
 
   -- and then the batches that make the line
-  pub all_submitted : (last : Told) (since : List Step) (batches : List (List Put)) → last ≡ steps_on since r.zeroed → writes_submitted since ≡ all_writes batches → making (commits_in g) (batches_in g) (clears_in g) ≡ batches
+  pub all_submitted : (last : Told) (since : List Step) (batches : List (List Put)) (count : ℕ) → last ≡ steps_on since r.zeroed → writes_submitted since ≡ all_writes batches → 1 ≤ count → making (commits_in g) count (batches_in g) (clears_in g) ≡ batches
       → HasSubmittedAll g.handed g.base g.sizes g.names g.clock g.line last
-  all_submitted last since batches are writes make = record {
+  all_submitted last since batches count are writes some make = record {
     found = g.found;
     scan = r.given.scan;
     since = since ++ before;
@@ -60,6 +65,8 @@ module _ (g : Given) (stage : Stage) (start ended : Told) (r : RunsLine g stage 
     backup = g.backup;
     given_back = r.given_back (begun_zeros stage zeroed);
     takes = r.takes (begun_zeros stage zeroed);
+    count = count;
+    some = some;
     writes = writes_submitted-append since before
         ∙ ap (λ (l : List Put). l ++ writes_submitted since) before_write
         ∙ ap (λ (l : List Put). all_writes (repairs_in g ++ zeros_in g) ++ l) writes

@@ -1,5 +1,5 @@
 -- The history of a run of one line: its journal and its answers, by what the line came to.
-use Rattle.std.specs.Prelude.{◌≡◌, ℕ, Bool, true, false, List, [], ◌∷◌, ◌++◌, flat_map, is_some, length, Option, Some, None}
+use Rattle.std.specs.Prelude.{◌≡◌, ◌≤◌, ℕ, Bool, true, false, List, [], ◌∷◌, ◌++◌, flat_map, is_some, length, take, Option, Some, None}
 use Rattle.disk_batch.specs.InTurn.{Put}
 use Rattle.disk_model.specs.Durability.{IsBase}
 use Rattle.disk_model.specs.Order.{WritesNothing}
@@ -26,7 +26,7 @@ use Rattle.vg_repair.specs.Batches.{repair_batches}
 use Rattle.vg_repair.specs.Repaired.{repaired_of}
 use Rattle.vg_scan.specs.Scans.{IsScanOf}
 use Rattle.volume_history.specs.Chronicles.{pending}
-use Rattle.volume_history.specs.Commands.{commits, is_good}
+use Rattle.volume_history.specs.Commands.{commits, is_good, may_say}
 use Rattle.volume_history.specs.Quiet.{is_quiet}
 use Rattle.volume_history.specs.Runs.{HasHistory, Run, zero_piece}
 use Rattle.line_history.specs.LineRun.{ClearsLine, Given, RunsLine, Stage, Repaired, Zeroing, Writing, Done}
@@ -69,12 +69,14 @@ took_of false false made ended = None
 abbrev pub commits_in : Given → Bool
 commits_in g = is_some (change_of (state_in (repaired_of g.found) g.names g.backup) g.line g.clock g.given).group
 
--- the batches that end what a line makes, where it commits a group: the others; and else those that clear disks too
-abbrev pub making : Bool → List (List Put) → List (List Put) → List (List Put)
-making true batches clears = batches
-making false batches clears = batches ++ clears
+-- the batches that make what a line makes: where it commits a group, the others; and else, where it removes one, those that clear
+-- disks too, the first so many of them
+abbrev pub making : Bool → ℕ → List (List Put) → List (List Put) → List (List Put)
+making true count batches clears = batches
+making false count batches clears = batches ++ take count clears
 
--- all was submitted that the repair of what a scan of the base finds and this line write until the line is made
+-- all was submitted that the repair of what a scan of the base finds and this line write until the group is committed, or the clearing
+-- of its disks was begun, where the line removes it
 pub record HasSubmittedAll (handed : Told) (base : Image) (sizes : List ℕ) (names : List Word) (clock : ℕ) (line : Line) (ended : Told) : Type 0 where
   pub found : Found
   pub scan : IsScanOf base sizes found
@@ -84,17 +86,19 @@ pub record HasSubmittedAll (handed : Told) (base : Image) (sizes : List ℕ) (na
   pub backup : Option Backup
   pub given_back : IsBackupOf line.command backup
   pub takes : Takes (asks_of (state_in (repaired_of found) names backup) line) given
+  pub count : ℕ
+  pub some : 1 ≤ count
   pub writes : writes_submitted since ≡ flat_map (λ batch. batch) (repair_batches found ++ zeros_of (state_in (repaired_of found) names backup) line clock given ++
-      making (is_some (change_of (state_in (repaired_of found) names backup) line clock given).group) (batches_of (state_in (repaired_of found) names backup) line clock given) (clears_of (state_in (repaired_of found) names backup) line clock given))
+      making (is_some (change_of (state_in (repaired_of found) names backup) line clock given).group) count (batches_of (state_in (repaired_of found) names backup) line clock given) (clears_of (state_in (repaired_of found) names backup) line clock given))
 
--- a run of one line had come to its last batch
+-- a run of one line had come so far
 abbrev pub IsAtLast : Told → Image → List ℕ → List Word → ℕ → List (Line × Option Answer) → Told → Type 0
 IsAtLast handed base sizes names clock ((line, said) ∷ []) ended = HasSubmittedAll handed base sizes names clock line ended
 IsAtLast handed base sizes names clock lines ended = ⊥
 
 -- A run has its history, where each sector had one possible value when the disks were handed in, that of the base. A command is
--- pending at its end only where the run had come to its last batch: a commit that failed earlier is given up, and the version
--- that stood is in force.
+-- pending at its end only where the run had come to its commit's last batch, or to the first of those that clear the disks of a group
+-- that is removed: one that failed earlier has changed nothing, and the version that stood is in force.
 pub record HasRunHistory (handed : Told) (base : Image) (sizes : List ℕ) (names : List Word) (clock : ℕ) (ended : Told) (journal : List JournalEntry) (lines : List (Line × Option Answer)) : Type 0 where
   pub history : HasHistory (run_from handed sizes names clock ended) journal lines
   pub last : is_some (pending history.chronicle.entries) ≡ true → IsAtLast handed base sizes names clock lines ended
@@ -127,22 +131,24 @@ abbrev pub EndsHaveHistories : Type 0
 EndsHaveHistories =
     (g : Given) (stage : Stage) (start ended : Told) → RunsLine g stage start ended → IsBeforeLine stage → HasHistoryOf g ended [] []
 
--- the disks were only looked at: each sector had one possible value when they were handed in, of which a scan finds this version,
--- and nothing was written
-pub record LooksAlone (handed : Told) (sizes : List ℕ) (ended : Told) : Type 0 where
+-- the disks were only looked at, until the line began and then: each sector had one possible value when they were handed in, of which
+-- a scan finds this version, and nothing was written
+pub record LooksAlone (handed : Told) (sizes : List ℕ) (start ended : Told) : Type 0 where
   pub base : Image
   pub base_is : IsBase handed base
   pub version : Option Version
   pub finds : FindsVersion sizes base none_out version
+  pub first : List Step
+  pub opening : start ≡ steps_on first handed
   pub since : List Step
-  pub steps : ended ≡ steps_on since handed
-  pub nothing : WritesNothing since
+  pub steps : ended ≡ steps_on since start
+  pub nothing : WritesNothing (since ++ first)
   pub record_is : IsRecord ended.steps
 
 -- a run that only looked at its disks, and began no line, has its history
 abbrev pub LooksHaveHistories : Type 0
 LooksHaveHistories =
-    (handed : Told) (sizes : List ℕ) (names : List Word) (clock : ℕ) (ended : Told) (l : LooksAlone handed sizes ended) → HasRunHistory handed l.base sizes names clock ended [] []
+    (handed : Told) (sizes : List ℕ) (names : List Word) (clock : ℕ) (start ended : Told) (l : LooksAlone handed sizes start ended) → HasRunHistory handed l.base sizes names clock ended [] []
 
 -- the answer is ok, or none that is given for something done
 abbrev pub IsFineOrBad : Answer → Type 0
@@ -157,6 +163,6 @@ took_if _ ended = None
 -- so has one whose line commits nothing
 abbrev pub ReportsHaveHistories : Type 0
 ReportsHaveHistories =
-    (handed : Told) (sizes : List ℕ) (names : List Word) (clock : ℕ) (ended : Told) (line : Line) (said : Answer) (l : LooksAlone handed sizes ended)
-    → is_quiet line.command ≡ true → commits line.command ≡ false → IsFineOrBad said
-    → HasRunHistory handed l.base sizes names clock ended (journal_of_line (length handed.steps) (took_if said (length ended.steps)) (length ended.steps)) ((line, Some said) ∷ [])
+    (handed : Told) (sizes : List ℕ) (names : List Word) (clock : ℕ) (start ended : Told) (line : Line) (said : Answer) (l : LooksAlone handed sizes start ended)
+    → is_quiet line.command ≡ true → commits line.command ≡ false → IsFineOrBad said → may_say line.command said ≡ true
+    → HasRunHistory handed l.base sizes names clock ended (journal_of_line (length start.steps) (took_if said (length ended.steps)) (length ended.steps)) ((line, Some said) ∷ [])

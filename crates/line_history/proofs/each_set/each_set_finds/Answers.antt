@@ -1,4 +1,4 @@
-use Rattle.line_history.proofs.EachSet.{commit_finds}
+use Rattle.line_history.proofs.EachSet.{commit_finds, members_find}
 use Rattle.line_history.proofs.EachSetRemoved.{removal_finds}
 use Rattle.line_history.proofs.each_set.each_set_finds.Goals as goal
 
@@ -7,3 +7,7 @@ returns-clause-finds c = λ base sizes found names backup line now given group p
 
 pub returns-clause-removed : goal.returns-clause-removed
 returns-clause-removed c = λ base sizes found names backup line now given vg p is some scan. removal_finds base sizes found names backup line now given vg p is c.one_reading.ensures.readings some scan
+
+pub returns-clause-members : goal.returns-clause-members
+returns-clause-members c = λ base image sizes found names backup line now given group p is way some other scan members finds.
+    members_find c.one_reading.ensures.readings base image sizes found names backup line now given group p is way some other scan members finds

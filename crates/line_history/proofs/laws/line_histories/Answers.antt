@@ -12,7 +12,7 @@ pub returns-clause-ends : goal.returns-clause-ends
 returns-clause-ends c = λ g stage start ended r early. ends c.repair_scans.ensures.at_the_end g start ended stage r early
 
 pub returns-clause-looks : goal.returns-clause-looks
-returns-clause-looks c = λ handed sizes names clock ended l. looks handed sizes names clock ended l
+returns-clause-looks c = λ handed sizes names clock start ended l. looks handed sizes names clock start ended l
 
 pub returns-clause-reports : goal.returns-clause-reports
-returns-clause-reports c = λ handed sizes names clock ended line said l quiet none may. reports handed sizes names clock ended l line quiet none said may
+returns-clause-reports c = λ handed sizes names clock start ended line said l quiet none may says. reports handed sizes names clock start ended l line quiet none said may says
