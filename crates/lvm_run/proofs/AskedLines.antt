@@ -20,7 +20,7 @@ use Rattle.lvm_words.specs.declared.asked.Task.{Task}
 use Rattle.lvm_words.specs.declared.command_line.CommandLine.{CommandLine}
 use Rattle.lvm_run.specs.CommandSpec.{CommandSpec, Context, Inputs}
 use Rattle.lvm_run.specs.Commands.{is_built, spec_of}
-use Rattle.lvm_run.specs.History.{KeepsPromise, Said, answers_of, is_answer, journal_by, lines_asked, lines_of_task, lines_of_words, said_of}
+use Rattle.lvm_run.specs.History.{IsEntered, Said, answers_of, is_answer, journal_by, lines_asked, lines_of_task, lines_of_words, said_of}
 use Rattle.lvm_run.specs.Meets.{IsCause}
 use Rattle.lvm_run.specs.Outcomes.{IsOfLineOne, output_of}
 use Rattle.lvm_run.specs.Runs.{EndsUnread, IsRefused, IsRefusedUnread, MeetsSourced, RunsLine, RunsRequest, RunsWords, context_with, ended_by, names_of}
@@ -42,23 +42,23 @@ asked_by_words words line text ids outcome is = ap (λ (o : Option CommandLine).
 
 -- the promise of a task, in the words that ask for it
 pub kept_asked : (words : List Word) (line : CommandLine) (task : Task) (now : ℕ) (text : List ℕ) (ids : ℕ → List ℕ) (old : State) (outcome : Outcome) (journal : List JournalEntry) (new : State) → command_line_of words ≡ Some line
-    → line.request ≡ request_in task → task ≡ task_of (request_in task) ids → KeepsPromise line.names now old journal (lines_of_task task text outcome) new
-    → KeepsPromise (names_of words) now old journal (lines_of_words words text ids outcome) new
+    → line.request ≡ request_in task → task ≡ task_of (request_in task) ids → IsEntered line.names now old journal (lines_of_task task text outcome) new
+    → IsEntered (names_of words) now old journal (lines_of_words words text ids outcome) new
 kept_asked words line task now text ids old outcome journal new is asked drawn kept =
     let lines : lines_of_words words text ids outcome ≡ lines_of_task task text outcome =
     asked_by_words words line text ids outcome is ∙ ap (λ (r : Request). lines_asked r text ids outcome) asked
     ∙ sym (asked_by_task (request_in task) text ids outcome) ∙ ap (λ (t : Task). lines_of_task t text outcome) (sym drawn)
     in
     let names : names_of words ≡ line.names = ap (λ (o : Option CommandLine). option_map_or (λ (l : CommandLine). l.names) o []) is in
-    subst (λ (all : List Said). KeepsPromise (names_of words) now old journal all new) (sym lines)
-    (subst (λ (ns : List Word). KeepsPromise ns now old journal (lines_of_task task text outcome) new) (sym names) kept)
+    subst (λ (all : List Said). IsEntered (names_of words) now old journal all new) (sym lines)
+    (subst (λ (ns : List Word). IsEntered ns now old journal (lines_of_task task text outcome) new) (sym names) kept)
 
 -- where the run ended before its line, no line was begun
 pub kept_ended : (names : List Word) (now : ℕ) (old : State) → IsTold old → (ran : Ran) (ending : Ending) → ran ≡ ended_by ending → (lines : Outcome → List Said) → lines (Ended ending) ≡ []
-    → KeepsPromise names now old (journal_by ran.begun ran.took old.steps ran.outcome) (lines ran.outcome) old
+    → IsEntered names now old (journal_by ran.begun ran.took old.steps ran.outcome) (lines ran.outcome) old
 kept_ended names now old told ran ending is lines none =
-    subst (λ (r : Ran). KeepsPromise names now old (journal_by r.begun r.took old.steps r.outcome) (lines r.outcome) old) (sym is)
-    (subst (λ (all : List Said). KeepsPromise names now old [] all old) (sym none) (kept_undone names now old told))
+    subst (λ (r : Ran). IsEntered names now old (journal_by r.begun r.took old.steps r.outcome) (lines r.outcome) old) (sym is)
+    (subst (λ (all : List Said). IsEntered names now old [] all old) (sym none) (kept_undone names now old told))
 
 -- by the words that ask for it
 pub none_asked : (words : List Word) (text : List ℕ) (ids : ℕ → List ℕ) (ending : Ending) → lines_of_words words text ids (Ended ending) ≡ []

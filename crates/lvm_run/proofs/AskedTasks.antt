@@ -10,7 +10,7 @@ use Rattle.lvm_words.specs.CommandLines.{command_line_of, draws_id, request_in, 
 use Rattle.lvm_words.specs.declared.asked.Task.{Task}
 use Rattle.lvm_words.specs.declared.command_line.CommandLine.{CommandLine}
 use Rattle.lvm_run.specs.Disks.{HasDisks}
-use Rattle.lvm_run.specs.History.{KeepsPromise, journal_by, lines_of_task, lines_of_words}
+use Rattle.lvm_run.specs.History.{IsEntered, journal_by, lines_of_task, lines_of_words}
 use Rattle.lvm_run.specs.Runs.{IsRefusedUnread, RunsRequest, RunsTask, RunsWords, ended_by, names_of}
 use Rattle.lvm_run.specs.Sourced.{SourceState}
 use Rattle.lvm_run.specs.declared.ending.Ending.TheVariants.{NoMemory, WordsRefused}
@@ -37,7 +37,7 @@ module _ (words : List Word) (now : ℕ) (ids : ℕ → List ℕ) (old : State) 
   abbrev Runs : SourceState → SourceState → Ran → (ℕ → List ℕ) → State → Type 0
   Runs from to ran after new =
       (text : List ℕ) × RunsWords words now text from to ids old ran.outcome after new
-      × KeepsPromise (names_of words) now old (journal_by ran.begun ran.took new.steps ran.outcome) (lines_of_words words text ids ran.outcome) new
+      × IsEntered (names_of words) now old (journal_by ran.begun ran.took new.steps ran.outcome) (lines_of_words words text ids ran.outcome) new
 
   -- memory was wanting
   pub wanting : HasDisks words old → IsTold old → (from : SourceState) (ran : Ran) → ran ≡ ended_by NoMemory → (after : ℕ → List ℕ) → after ≡ ids → Runs from from ran after old
@@ -64,7 +64,7 @@ module _ (words : List Word) (now : ℕ) (ids : ℕ → List ℕ) (old : State) 
   module _ (line : CommandLine) (task : Task) (meant : command_line_of words ≡ Some line) (asked : line.request ≡ request_in task) (is : task ≡ task_of (request_in task) ids) where
     pub done : (from to : SourceState) (ran : Ran) (after : ℕ → List ℕ) (new : State) → TakesId (draws_id (request_in task)) ids after
         → ((text : List ℕ) × RunsTask line.names task now text from to old ran.outcome new
-        × KeepsPromise line.names now old (journal_by ran.begun ran.took new.steps ran.outcome) (lines_of_task task text ran.outcome) new) → Runs from to ran after new
+        × IsEntered line.names now old (journal_by ran.begun ran.took new.steps ran.outcome) (lines_of_task task text ran.outcome) new) → Runs from to ran after new
     done from to ran after new takes runs =
         let by_line : RunsRequest line.names line.request ids now runs.0 from to old ran.outcome new =
         subst (λ (r : Request). RunsRequest line.names r ids now runs.0 from to old ran.outcome new) (sym asked)

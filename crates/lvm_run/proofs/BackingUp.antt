@@ -3,6 +3,7 @@ use Rattle.std.proofs.Common.{◌≡◌, ℕ, true, List, [], Option, Some, None
 use Rattle.std.specs.FinSet as set
 use Rattle.std.specs.Ordering.{nat_cmp}
 use Rattle.conf_text.specs.Printed.{printed}
+use Rattle.disk_model.proofs.IdleAgain.{again_nothing}
 use Rattle.disk_model.specs.Faults.{HasSameFaults}
 use Rattle.disk_model.specs.Idle.{IsIdleAgain}
 use Rattle.disk_model.specs.Since.{BetweenTold}
@@ -147,4 +148,4 @@ module _ (names : List Word) (id : Option (List ℕ)) (vg : List ℕ) (time : �
 -- memory was wanting before anything was done
 pub backup_undone : (names : List Word) (id : Option (List ℕ)) (vg : List ℕ) (time : ℕ) (state : State) → state.in_flight ≡ []
     → Meets (vgcfgbackup vg) (record { names = names; sizes = state.sizes; id = id; now = time }) state (Ended NoMemory) state
-backup_undone names id vg time state idle = without_memory names id vg time state state (record { idle = idle; sizes = refl }) (nothing_read state)
+backup_undone names id vg time state idle = without_memory names id vg time state state (again_nothing state idle) (nothing_read state)

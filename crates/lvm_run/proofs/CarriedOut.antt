@@ -4,6 +4,7 @@ use Rattle.std.specs.FinSet as set
 use Rattle.std.specs.Prelude.{All, IsTrue, Result, Ok, Err, MatchResult, is_some}
 use Rattle.disk_batch.proofs.InTurn.{of_submitted}
 use Rattle.disk_batch.specs.InTurn.{HasFirstBatches, Put, WritesInTurn, with_batches}
+use Rattle.disk_model.proofs.IdleAgain.{again_both}
 use Rattle.disk_model.specs.Durability.{IsBase}
 use Rattle.disk_model.specs.Record.{IsRecord}
 use Rattle.disk_model.proofs.NowStands.{now_base}
@@ -132,9 +133,6 @@ module _ (names : List Word) (command : Command) (id : Option (List ℕ)) (time 
 
     -- ---- the repair ended the run
     module _ (new : State) (again : IsIdleAgain mid new) where
-      again_both : IsIdleAgain old new
-      again_both = record { idle = again.idle; sizes = again.sizes ∙ idle.sizes }
-
       meets_fault : (why : RepairFault) → IsRepairFault found mid new why → BetweenTold (Repairs (repair_batches found) (Err why)) mid.told new.told
           → Meets (changing command) context old (Ended (ending_of why)) new
       meets_fault repair.NoMemory cause told = record {
@@ -143,7 +141,7 @@ module _ (names : List Word) (command : Command) (id : Option (List ℕ)) (time 
         told = between_both (λ a b. OpensDisks old.sizes a true b) (λ a b. b ≡ a) (Does no_inputs (Ended NoMemory)) old.told mid.told new.told
             (λ a m b o e. looks (changing command) context no_inputs (Ended NoMemory) refl refl refl None a b (λ t. absurd (cc)) (subst (λ (t : Told). OpensDisks old.sizes a false t) (sym e) (unpassed old.sizes a m o)))
             opens told;
-        again = again_both;
+        again = again_both old mid new idle again;
       }
       meets_fault (repair.Pv pv) cause told = record {
         given = no_inputs;
@@ -155,7 +153,7 @@ module _ (names : List Word) (command : Command) (id : Option (List ℕ)) (time 
               w.1,
               unwritten (changing command) context no_inputs (Ended (RepairFailed pv)) refl (Some found) before o.0 w.0 w.0 (λ t. held_now before is) o.2 w.2 (λ begun. absurd (cc)) (none_in_turn w.0 false),
             );
-        again = again_both;
+        again = again_both old mid new idle again;
       }
       meets_fault (repair.TooLarge pv need room) cause told = record {
         given = no_inputs;
@@ -168,7 +166,7 @@ module _ (names : List Word) (command : Command) (id : Option (List ℕ)) (time 
               looks (changing command) context no_inputs (Ended (RepairRefused pv need room)) refl refl refl (Some found) before w.0 (λ t. held_now before is)
                   (subst (λ (t : Told). OpensDisks old.sizes before true t) (sym w.2) o.2),
             );
-        again = again_both;
+        again = again_both old mid new idle again;
       }
 
     -- ---- all was repaired
@@ -228,7 +226,7 @@ module _ (names : List Word) (command : Command) (id : Option (List ℕ)) (time 
 
       module _ (again_line : IsIdleAgain done new) (record_new : (told : Told) → new.told ≡ Some told → IsRecord told.steps) where
         again_all : IsIdleAgain old new
-        again_all = record { idle = again_line.idle; sizes = again_line.sizes ∙ again.sizes ∙ idle.sizes }
+        again_all = again_both old done new (again_both old mid done idle again) again_line
 
         -- nothing of its own was written
         module _ (said : Answer) (unlined : line_begun (Answered 1 said) ≡ false) (undone : is_done (Answered 1 said) ≡ false) where

@@ -3,6 +3,7 @@ use Rattle.std.proofs.Common.{◌≡◌, ℕ, Bool, true, List, [], ◌∷◌, �
 use Rattle.std.specs.FinSet as set
 use Rattle.std.specs.Prelude.{unwrap_or}
 use Rattle.sector_base.specs.declared.spans.Span.{Span}
+use Rattle.disk_model.proofs.IdleAgain.{again_nothing}
 use Rattle.disk_model.specs.Faults.{HasSameFaults, IsLastFault}
 use Rattle.disk_model.specs.Idle.{IsIdleAgain}
 use Rattle.disk_model.specs.Since.{BetweenTold}
@@ -55,7 +56,7 @@ module _ (names : List Word) (id : Option (List ℕ)) (pv : List ℕ) (time : �
       reads_disks (pvck pv) context no_inputs refl (Answered 1 (Refused (UnknownPv pv))) told told [] (label_span (number_in context pv) ∷ [])
           (record { since = []; steps = refl; reads = tt; spans_are = refl }) ([], inl refl, refl),
     );
-    again = record { idle = idle; sizes = refl };
+    again = again_nothing old idle;
   }
 
   -- memory was wanting before anything was done
@@ -69,7 +70,7 @@ module _ (names : List Word) (id : Option (List ℕ)) (pv : List ℕ) (time : �
       reads_disks (pvck pv) context no_inputs refl (Ended NoMemory) told told [] (label_span (number_in context pv) ∷ [])
           (record { since = []; steps = refl; reads = tt; spans_are = refl }) ([], inl refl, refl),
     );
-    again = record { idle = idle; sizes = refl };
+    again = again_nothing old idle;
   }
 
   module _ (disk : ℕ) (known : number_named names pv ≡ Some disk) where

@@ -7,6 +7,7 @@ pub mod ChangedDisks
 pub mod Checking
 pub mod EachNamed
 pub mod FlushedAndScanned
+pub mod InTime
 pub mod LookedFirst
 pub mod MeantWords
 pub mod NamedDisks

@@ -1,5 +1,6 @@
 -- A run keeps the promise, by what it did to the disks.
-use Rattle.std.proofs.Common.{◌≡◌, ◌<◌, ℕ, ◌^◌, Bool, true, false, List, [], ◌∷◌, length, Option, Some, None, ⊎_elim, refl, sym, ap, subst, ◌∙◌}
+use Rattle.std.proofs.Common.{◌≡◌, ◌≤◌, ◌<◌, ℕ, ◌^◌, Bool, true, false, if◌then◌else◌, List, [], ◌∷◌, ◌++◌, length, Option, Some, None, ⊎_elim, refl, sym, ap, subst, ◌∙◌, arith, true≢false}
+use Rattle.std.proofs.lemmas.List.{append-nil}
 use Rattle.std.proofs.lemmas.Option.{same_Some}
 use Rattle.std.specs.Prelude.{All, IsTrue, MatchResult, Result, Ok, Err, is_some}
 use Rattle.disk_batch.specs.InTurn.{Put, WritesInTurn}
@@ -19,7 +20,7 @@ use Rattle.group_ops.specs.declared.state.GroupState.{GroupState}
 use Rattle.image_scans.specs.Laws.{none_out}
 use Rattle.image_scans.specs.Versions.{FindsVersion, Version}
 use Rattle.line_history.proofs.Looks.{looks}
-use Rattle.line_history.specs.EachSet.{DoneSetsAgree}
+use Rattle.line_history.specs.EachSet.{DoneSetsAgree, MadeMembersAgree}
 use Rattle.line_history.specs.Histories.{ClearsHaveHistories, EndsHaveHistories, HasRunHistory, LinesHaveHistories, LooksAlone, MayAnswer, MayEnd, journal_of_line, took_of as line_took}
 use Rattle.line_history.specs.LineRun.{ClearsLine, Given, IsGiven, RunsLine, Stage, Opened, Repairing, Repaired, Zeroing, Writing, Done, batches_if, is_done, is_repaired, is_zeroed, repair_begun, zeros_begun}
 use Rattle.lvm_script.specs.Options.{Word}
@@ -45,13 +46,14 @@ use Rattle.vg_repair.specs.declared.fault.RepairFault.TheVariants as repair
 use Rattle.vg_scan.specs.Scans.{HoldsNow, IsScanOf}
 use Rattle.lvm_run.specs.Changing.{GoesOn, IsCarriedOut, IsChanged, IsWholeAgain, ending_of, outcome_of, took_of}
 use Rattle.lvm_run.specs.CommandSpec.{Inputs, no_inputs}
-use Rattle.lvm_run.specs.History.{KeepsPromise, Said, journal_by, lines_by}
+use Rattle.lvm_run.specs.History.{AreInTime, IsEntered, KeepsPromise, Said, begun_from, journal_by, lines_by}
 use Rattle.lvm_run.specs.Scan.{IsOpened, OpensDisks}
 use Rattle.lvm_run.specs.declared.ending.Ending.{Ending}
 use Rattle.lvm_run.specs.declared.outcome.Outcome.{Outcome}
 use Rattle.lvm_run.specs.declared.outcome.Outcome.TheVariants.{Ended}
 use Rattle.lvm_run.proofs.ChangedDisks.{none_in_turn}
 use Rattle.lvm_run.proofs.FlushedAndScanned.{same_image}
+use Rattle.lvm_run.proofs.InTime.{LiesBetween, goes_between, lies_whole, planned_writes, run_in_time, run_unbegun}
 
 -- what a shelf's law says of its record
 pub record IsTold (state : State) : Type 0 where
@@ -102,42 +104,69 @@ same_told o a b is also = same_Some a b (sym is ∙ also)
 abbrev pub WroteNothing : Told → Told → Type 0
 WroteNothing old new = (since : List Step) × (new ≡ steps_on since old) × WritesNothing since
 
--- so they were looked at alone
-abbrev pub looked_alone : (old new : State) → IsTold new → BetweenTold WroteNothing old.told new.told → (handed : Told) → old.told ≡ Some handed → (base : Image) → IsBase handed base → (version : Option Version) → FindsVersion old.sizes base none_out version
-    → (ended : Told) → new.told ≡ Some ended → LooksAlone handed old.sizes ended
-looked_alone old new told between handed there base base_is version finds ended at_end =
+-- a line was begun behind what was looked at, or before it; the steps up to then, and those since
+abbrev pub begun_at : Bool → Told → Told → Told
+begun_at behind handed ended = if behind then ended else handed
+
+abbrev before_line : Bool → List Step → List Step
+before_line behind since = if behind then since else []
+
+abbrev since_line : Bool → List Step → List Step
+since_line behind since = if behind then [] else since
+
+pub opening_is : (behind : Bool) (since : List Step) (handed ended : Told) → ended ≡ steps_on since handed → begun_at behind handed ended ≡ steps_on (before_line behind since) handed
+opening_is true since handed ended is = is
+opening_is false since handed ended is = refl
+
+pub since_is : (behind : Bool) (since : List Step) (handed ended : Told) → ended ≡ steps_on since handed → ended ≡ steps_on (since_line behind since) (begun_at behind handed ended)
+since_is true since handed ended is = refl
+since_is false since handed ended is = is
+
+pub nothing_is : (behind : Bool) (since : List Step) → WritesNothing since → WritesNothing (since_line behind since ++ before_line behind since)
+nothing_is true since none = none
+nothing_is false since none = subst WritesNothing (sym (append-nil since)) none
+
+abbrev pub looked_alone : (behind : Bool) (old new : State) → IsTold new → BetweenTold WroteNothing old.told new.told → (handed : Told) → old.told ≡ Some handed → (base : Image) → IsBase handed base → (version : Option Version)
+    → FindsVersion old.sizes base none_out version → (ended : Told) → new.told ≡ Some ended → LooksAlone handed old.sizes (begun_at behind handed ended) ended
+looked_alone behind old new told between handed there base base_is version finds ended at_end =
     let w = between handed there in
-    let same : w.0 ≡ ended = same_told new.told w.0 ended w.1 at_end in
+    let steps : ended ≡ steps_on w.2.0 handed = same_told new.told ended w.0 at_end w.1 ∙ w.2.1 in
     record {
       base = base;
       base_is = base_is;
       version = version;
       finds = finds;
-      since = w.2.0;
-      steps = sym same ∙ w.2.1;
-      nothing = w.2.2;
+      first = before_line behind w.2.0;
+      opening = opening_is behind w.2.0 handed ended steps;
+      since = since_line behind w.2.0;
+      steps = since_is behind w.2.0 handed ended steps;
+      nothing = nothing_is behind w.2.0 w.2.2;
       record_is = told.record_is ended at_end;
     }
 
 -- and no line was begun
-pub kept_unbegun : (names : List Word) (now : ℕ) (old new : State) → IsTold new → BetweenTold WroteNothing old.told new.told → KeepsPromise names now old [] [] new
-kept_unbegun names now old new told between handed there base base_is version finds ended at_end =
-    (looks handed old.sizes names now ended (looked_alone old new told between handed there base base_is version finds ended at_end), tt)
+pub kept_unbegun : (names : List Word) (now : ℕ) (old new : State) → old.steps ≤ new.steps → IsTold new → BetweenTold WroteNothing old.told new.told → IsEntered names now old [] [] new
+kept_unbegun names now old new later told between = record {
+  unbegun = λ none. refl;
+  in_time = later;
+  promise = λ handed there base base_is version finds ended at_end.
+      (looks handed old.sizes names now ended ended (looked_alone true old new told between handed there base base_is version finds ended at_end), tt);
+}
 
-pub kept_undone : (names : List Word) (now : ℕ) (old : State) → IsTold old → KeepsPromise names now old [] [] old
-kept_undone names now old told = kept_unbegun names now old old told (λ handed there. (handed, there, ([], refl, tt)))
+pub kept_undone : (names : List Word) (now : ℕ) (old : State) → IsTold old → IsEntered names now old [] [] old
+kept_undone names now old told = kept_unbegun names now old old (omega arith) told (λ handed there. (handed, there, ([], refl, tt)))
 
 opening_wrote : (sizes : List ℕ) (passes : Bool) (old new : Told) → OpensDisks sizes old passes new → WroteNothing old new
 opening_wrote sizes passes old new o = (o.since, o.steps, o.nothing)
 
 -- the disks weren't taken
-pub kept_unopened : (names : List Word) (now : ℕ) (line : Line) (old new : State) (begun : ℕ) (ending : Ending) → IsTold new → BetweenTold (λ a b. OpensDisks old.sizes a false b) old.told new.told
-    → KeepsPromise names now old (journal_by begun None new.steps (Ended ending)) (lines_by line (Ended ending)) new
-kept_unopened names now line old new begun ending told opens =
-    kept_unbegun names now old new told (λ handed there. let o = opens handed there in (o.0, o.1, opening_wrote old.sizes false handed o.0 o.2))
+pub kept_unopened : (names : List Word) (now : ℕ) (line : Line) (old new : State) (begun : ℕ) (ending : Ending) → old.steps ≤ new.steps → IsTold new → BetweenTold (λ a b. OpensDisks old.sizes a false b) old.told new.told
+    → IsEntered names now old (journal_by begun None new.steps (Ended ending)) (lines_by line (Ended ending)) new
+kept_unopened names now line old new begun ending later told opens =
+    kept_unbegun names now old new later told (λ handed there. let o = opens handed there in (o.0, o.1, opening_wrote old.sizes false handed o.0 o.2))
 
 -- ---- the disks were taken as this was found
-module _ (lines : LinesHaveHistories) (cleared : ClearsHaveHistories) (ends : EndsHaveHistories) (agree : DoneSetsAgree) (names : List Word) (now : ℕ) (line : Line) (old : State) (found : Found) (mid : State) (opened : IsOpened old found mid) (opens : BetweenTold (λ a b. OpensDisks old.sizes a true b) old.told mid.told)
+module _ (lines : LinesHaveHistories) (cleared : ClearsHaveHistories) (ends : EndsHaveHistories) (agree : DoneSetsAgree) (members : MadeMembersAgree) (names : List Word) (now : ℕ) (line : Line) (old : State) (found : Found) (mid : State) (opened : IsOpened old found mid) (opens : BetweenTold (λ a b. OpensDisks old.sizes a true b) old.told mid.told)
     (count : length names ≡ length found.disks) (named : All (λ name. is_disk_name name ≡ true) names) (planned : IsPlanned line.id line.command) (time : now < 2 ^ 48) (old_told : IsTold old) where
   -- what the line is judged against, by what it takes, and what it writes
   abbrev state : Inputs → GroupState
@@ -371,12 +400,12 @@ module _ (lines : LinesHaveHistories) (cleared : ClearsHaveHistories) (ends : En
                 (λ uncleared.
                 answered_cleared handed there base base_is ended at_end passed false uncleared.1 (answer.PvFailed pv) None tt (took_never (commits inputs) uncleared.1.made.steps new.steps uncleared.0))
                 carried,
-            tt,
+            λ took. absurd (true≢false (sym took)),
           )
       line_by (Err (fault.Uncleared pv moment)) takes cause images carried handed there base base_is version finds ended at_end =
           let passed : Passed inputs = record { takes = (takes tt).0; back = (takes tt).1; passes = cause.0; keeps = images tt } in (
             answered_cleared handed there base base_is ended at_end passed false carried.0 (answer.PvFailed pv) (Some moment) tt (took_uncleared (commits inputs) carried.0.made.steps new.steps moment carried.2 carried.1),
-            tt,
+            λ took. members (run handed there base base_is ended at_end) false (start handed there base base_is ended at_end) ended (run_cleared handed there base base_is ended at_end passed false carried.0) carried.2,
           )
 
     by_result : (result : Result Found RepairFault) → IsWholeAgain result → MatchResult result (IsRepaired found mid done_at) (IsRepairFault found mid done_at) → BetweenTold (Repairs (repair_batches found) result) mid.told done_at.told
@@ -393,8 +422,18 @@ module _ (lines : LinesHaveHistories) (cleared : ClearsHaveHistories) (ends : En
         (line_by (subst (IsRepaired found mid done_at) same cause) told (keeps tt) (subst HasShape same whole.0) (subst IsWhole same whole.1) inputs carried.result
         (λ judged. (w.takes judged, carried.given_back judged)) w.cause w.images w.told))
 
-  pub kept_changed : (new : State) (outcome : Outcome) (begun : ℕ) (took : Option ℕ) → IsTold new → IsChanged found names line now mid outcome begun took new
-      → KeepsPromise names now old (journal_by begun took new.steps outcome) (lines_by line outcome) new
-  kept_changed new outcome begun took told_new c =
-      subst (λ (n : ℕ). KeepsPromise names now old (journal_by n took new.steps outcome) (lines_by line outcome) new) (sym c.begun_xl)
-      (by_result c.mid new (record { record_is = c.follows; steps = c.steps }) told_new c.result c.whole c.cause c.told c.images outcome took c.goes)
+  pub kept_changed : old.steps ≤ mid.steps → (new : State) (outcome : Outcome) (begun : ℕ) (took : Option ℕ) → IsTold new → IsChanged found names line now mid outcome begun took new
+      → IsEntered names now old (journal_by begun took new.steps outcome) (lines_by line outcome) new
+  kept_changed opening new outcome begun took told_new c =
+      let later : old.steps ≤ c.mid.steps = omega (arith, opening, c.again.later) in
+      let between : LiesBetween c.mid.steps took new.steps = goes_between names line now c.result c.mid outcome took new c.goes in
+      record {
+        unbegun = run_unbegun line outcome old.steps begun took new.steps;
+        in_time =
+            subst (λ (n : ℕ). AreInTime (begun_from (lines_by line outcome) old.steps new.steps) (journal_by n took new.steps outcome) new.steps) (sym c.begun_xl)
+            (run_in_time line outcome old.steps c.mid.steps took new.steps (omega (arith, later, lies_whole c.mid.steps took new.steps between))
+            (subst (λ (alone : Bool). (if alone then new.steps else old.steps) ≤ c.mid.steps) (sym (planned_writes line.id line.command planned)) later) between);
+        promise =
+            subst (λ (n : ℕ). KeepsPromise names now old (journal_by n took new.steps outcome) (lines_by line outcome) new) (sym c.begun_xl)
+            (by_result c.mid new (record { record_is = c.follows; steps = c.steps }) told_new c.result c.whole c.cause c.told c.images outcome took c.goes);
+      }

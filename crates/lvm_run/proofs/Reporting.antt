@@ -5,6 +5,7 @@ use Rattle.std.specs.FinSet as set
 use Rattle.std.specs.Ordering.{nat_cmp}
 use Rattle.std.specs.Prelude.{◌↔◌, IsTrue}
 use Rattle.sector_base.specs.declared.spans.Span.{Span}
+use Rattle.disk_model.proofs.IdleAgain.{again_nothing}
 use Rattle.disk_model.specs.Idle.{IsIdleAgain}
 use Rattle.disk_model.specs.Since.{BetweenTold, spans_read}
 use Rattle.disk_model.specs.State.{State}
@@ -112,4 +113,4 @@ nothing_read state told e = (told, e, record { since = []; steps = refl; reads =
 -- memory was wanting before anything was done
 pub report_undone : (report : ScanReport) (names : List Word) (id : Option (List ℕ)) (time : ℕ) (state : State) → state.in_flight ≡ []
     → Meets (scan_report report) (record { names = names; sizes = state.sizes; id = id; now = time }) state (Ended NoMemory) state
-report_undone report names id time state idle = without_memory report names id time state state (record { idle = idle; sizes = refl }) (nothing_read state)
+report_undone report names id time state idle = without_memory report names id time state state (again_nothing state idle) (nothing_read state)

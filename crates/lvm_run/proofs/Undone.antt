@@ -1,5 +1,6 @@
 -- Memory was wanting before a line was begun.
 use Rattle.std.proofs.Common.{◌≡◌, ℕ, List, [], Option, refl, inl, inr}
+use Rattle.disk_model.proofs.IdleAgain.{again_nothing}
 use Rattle.disk_model.specs.State.{State}
 use Rattle.lvm_script.specs.Options.{Word}
 use Rattle.lvm_script.specs.declared.command.Command.{Command}
@@ -25,7 +26,7 @@ use Rattle.lvm_run.proofs.Reporting.{report_undone}
 change_undone : (names : List Word) (command : Command) (id : Option (List ℕ)) (now : ℕ) (state : State) → state.in_flight ≡ []
     → Meets (changing command) (record { names = names; sizes = state.sizes; id = id; now = now }) state (Ended NoMemory) state
 change_undone names command id now state idle =
-    meets_unopened names command id now state state NoMemory (record { idle = idle; sizes = refl }) tt (λ told is. (told, is, unopened state.sizes told))
+    meets_unopened names command id now state state NoMemory (again_nothing state idle) tt (λ told is. (told, is, unopened state.sizes told))
 
 -- where the source is to be read, that is why it gave no text
 pub undone : (names : List Word) (request : Request) (ids : ℕ → List ℕ) (now : ℕ) (text : List ℕ) (from : SourceState) (state : State) → state.in_flight ≡ []

@@ -1,19 +1,24 @@
 -- The journal and the answers of a run, and the promise to the administrator.
-use Rattle.std.specs.Prelude.{◌≡◌, ◌≤◌, ℕ, ◌+◌, Bool, true, false, List, [], ◌∷◌, map, Option, Some, None, vec_capacity, vec_len}
+use Rattle.std.specs.Prelude.{◌≡◌, ◌≤◌, ℕ, ◌+◌, Bool, true, false, if◌then◌else◌, List, [], ◌∷◌, map, Option, Some, None, vec_capacity, vec_len}
+use Rattle.std.specs.List.{list_any}
 use Rattle.std.specs.Option.{option_map_or}
 use Rattle.disk_model.specs.Durability.{IsBase}
 use Rattle.disk_model.specs.State.{State}
 use Rattle.disk_model.specs.Steps.{Image, Told}
 use Rattle.image_scans.specs.Laws.{none_out}
 use Rattle.image_scans.specs.Versions.{FindsVersion, Version}
-use Rattle.line_history.specs.EachSet.{SetsAgree}
+use Rattle.line_history.specs.EachSet.{MembersAgree, SetsAgree}
 use Rattle.line_history.specs.Histories.{HasRunHistory, journal_of_line}
+use Rattle.line_table.specs.declared.journal.EntryKind.{EntryKind}
+use Rattle.line_table.specs.declared.journal.EntryKind.TheVariants as kind
 use Rattle.line_table.specs.declared.journal.JournalEntry.{JournalEntry}
 use Rattle.lvm_report.specs.AnswerLines.{answers_text}
 use Rattle.lvm_script.specs.Lines.{line_of, with_text}
 use Rattle.lvm_script.specs.Options.{Word}
 use Rattle.lvm_script.specs.declared.answer.Answer.{Answer}
 use Rattle.lvm_script.specs.declared.answer.Answer.TheVariants as answer
+use Rattle.lvm_script.specs.declared.command.Command.{Command}
+use Rattle.lvm_script.specs.declared.command.Command.TheVariants as command
 use Rattle.lvm_script.specs.declared.line.Line.{Line}
 use Rattle.lvm_script.specs.declared.request.Request.{Request}
 use Rattle.lvm_script.specs.declared.request.Request.TheVariants.{One}
@@ -62,22 +67,57 @@ lines_of_task _ text outcome = []
 abbrev pub lines_of_words : List Word → List ℕ → (ℕ → List ℕ) → Outcome → List Said
 lines_of_words words text ids outcome = option_map_or (λ (line : CommandLine). lines_asked line.request text ids outcome) (command_line_of words) []
 
+-- whether an entry is of something that took place
+abbrev pub is_took : EntryKind → Bool
+is_took kind.Took = true
+is_took _ = false
+
+-- whether anything took place
+abbrev pub took_place : List JournalEntry → Bool
+took_place entries = list_any (λ (entry : JournalEntry). is_took entry.kind) entries
+
 -- where the line has committed a group or removed it and was answered ok, no set of the disks finds an older version of it than
--- all of them
-abbrev pub NoneOlder : List Said → List ℕ → Told → Type 0
-NoneOlder ((line, Some answer.Fine) ∷ []) sizes ended = commits line.command ≡ true → SetsAgree sizes ended
-NoneOlder _ sizes ended = Unit {0}
+-- all of them; and where it has committed one, and disks couldn't be cleared that this lets go, no set of the disks of the group
+abbrev pub NoneOlder : List JournalEntry → List Said → List ℕ → Told → Type 0
+NoneOlder journal ((line, Some answer.Fine) ∷ []) sizes ended = commits line.command ≡ true → SetsAgree sizes ended
+NoneOlder journal ((line, Some (answer.PvFailed pv)) ∷ []) sizes ended = took_place journal ≡ true → MembersAgree sizes ended
+NoneOlder journal _ sizes ended = Unit {0}
 
 -- The promise: where the disks tell their record, each of their sectors has one possible value when they are handed in, and a
 -- scan of them finds one whole version of the group, or none, the journal and the answers are those of one legal history of
 -- plain volumes, and stopped at any moment since then, scanning the disks finds one whole version, in force or of the
 -- pending command, where every sector of every volume is its last acknowledged write or a later one. A command is pending at
--- the end only where its commit, or the clearing that removes a group, failed in its last step; and no set of the disks finds an
--- older version than the last acknowledged one.
+-- the end only where all was submitted that its commit writes, or the clearing that removes a group was begun; and no set of the
+-- disks finds an older version than the last acknowledged one.
 abbrev pub KeepsPromise : List Word → ℕ → State → List JournalEntry → List Said → State → Type 0
 KeepsPromise names now old journal lines new =
     (handed : Told) → old.told ≡ Some handed → (base : Image) → IsBase handed base → (version : Option Version) → FindsVersion old.sizes base none_out version
-    → (ended : Told) → new.told ≡ Some ended → HasRunHistory handed base old.sizes names now ended journal lines × NoneOlder lines old.sizes ended
+    → (ended : Told) → new.told ≡ Some ended → HasRunHistory handed base old.sizes names now ended journal lines × NoneOlder journal lines old.sizes ended
+
+-- each moment of the journal lies between these two, none before that of an earlier entry
+abbrev pub AreInTime : ℕ → List JournalEntry → ℕ → Type 0
+AreInTime from [] to = from ≤ to
+AreInTime from (entry ∷ entries) to = (from ≤ entry.moment) × AreInTime entry.moment entries to
+
+-- whether the command reports on what a scan finds, and does nothing else
+abbrev pub reports_scan : Command → Bool
+reports_scan command.Pvs = true
+reports_scan command.Vgs = true
+reports_scan command.Lvs = true
+reports_scan command.Vgck = true
+reports_scan (command.Vgcfgbackup vg) = true
+reports_scan _ = false
+
+-- the earliest moment of a line between these two: such a report is begun behind its scan, which is the end
+abbrev pub begun_from : List Said → ℕ → ℕ → ℕ
+begun_from ((line, said) ∷ lines) from to = if reports_scan line.command then to else from
+begun_from [] from to = from
+
+-- what a run has entered of its lines, nothing, where none was begun, is in time, told or not, and it keeps the promise
+pub record IsEntered (names : List Word) (now : ℕ) (old : State) (journal : List JournalEntry) (lines : List Said) (new : State) : Type 0 where
+  pub unbegun : lines ≡ [] → journal ≡ []
+  pub in_time : AreInTime (begun_from lines old.steps new.steps) journal new.steps
+  pub promise : KeepsPromise names now old journal lines new
 
 -- of each of these lines, its number and its answer
 abbrev pub answers_of : List Said → List (ℕ × Option Answer)
@@ -90,11 +130,11 @@ is_answer (Answered number said) = true
 is_answer _ = false
 
 -- what a run of these words has entered that came to this outcome, where the source gave this text: the answers of the lines that
--- were asked for and begun, which are what it prints where a line has answered, and their journal, and these keep the promise
+-- were asked for and begun, which are what it prints where a line has answered, and their journal
 pub record HasEntered (words : List Word) (now : ℕ) (text : List ℕ) (ids : ℕ → List ℕ) (old : State) (outcome : Outcome) (journal : List JournalEntry) (answers : List (ℕ × Option Answer)) (new : State) : Type 0 where
   pub answers_xl : answers ≡ answers_of (lines_of_words words text ids outcome)
   pub printed : is_answer outcome ≡ true → output_of (names_of words) outcome ≡ answers_text (names_of words) answers
-  pub promise : KeepsPromise (names_of words) now old journal (lines_of_words words text ids outcome) new
+  pub entered : IsEntered (names_of words) now old journal (lines_of_words words text ids outcome) new
 
 -- ---- what is kept of them in memory
 

@@ -1,5 +1,5 @@
 -- What a run reads of its source.
-use Rattle.std.specs.Prelude.{◌≡◌, ◌≤◌, ◌<◌, ℕ, Bool, true, false, List, length, Option, IfSome, Result, Ok, Err}
+use Rattle.std.specs.Prelude.{◌≡◌, ◌≤◌, ◌<◌, ℕ, Bool, true, false, List, [], length, Option, IfSome, Result, Ok, Err}
 use Rattle.lvm_script.specs.Lines.{with_text}
 use Rattle.lvm_script.specs.Streams.{HasRisen}
 use Rattle.lvm_script.specs.declared.command.Command.{Command}
@@ -22,9 +22,10 @@ abbrev pub reads_source : Command → Bool
 reads_source (Vgcfgrestore vg text) = true
 reads_source _ = false
 
--- the text is all that was left of a source that is read, without a fault, and not too long; one that isn't read is left as it was
+-- the text is all that was left of a source that is read to its end, without a fault, and not too long; one that isn't read is left
+-- as it was
 abbrev pub GivesText : Bool → List ℕ → SourceState → SourceState → Type 0
-GivesText true text from to = (length text ≤ 16777216) × IfSome from.left (λ bytes. text ≡ bytes) × (to.faults ≡ from.faults)
+GivesText true text from to = (length text ≤ 16777216) × IfSome from.left (λ bytes. text ≡ bytes) × IfSome to.left (λ rest. rest ≡ []) × (to.faults ≡ from.faults)
 GivesText false text from to = to ≡ from
 
 -- why a source that is read gave no text: a read failed, it gives more than may be read, or memory was wanting

@@ -9,7 +9,7 @@ ghost use Rattle.vg_found.specs.Shape.{HasShape};
 ghost use Rattle.vg_found.specs.Whole.{IsWhole};
 ghost use Rattle.lvm_run.specs.Changing.{IsCarriedOut, IsChanged, changing, ending_of, outcome_of, took_of};
 ghost use Rattle.lvm_run.specs.Disks.{AreDisks};
-ghost use Rattle.lvm_run.specs.History.{KeepsPromise, journal_by, lines_by};
+ghost use Rattle.lvm_run.specs.History.{IsEntered, journal_by, lines_by};
 ghost use Rattle.lvm_run.specs.Meets.{Meets};
 ghost use Rattle.lvm_run.specs.Runs.{context_with};
 
@@ -43,7 +43,7 @@ pub fn run_change<S: Shelf>(
     requires planned { IsPlanned line.now.id line.now.command }
     requires time { now < 2 ^ 48 }
     ensures meets { Meets (changing line.now.command) (context_with names.now line.now.id now (S.state shelf.old)) (S.state shelf.old) result.outcome (S.state shelf.new) }
-    ensures promise { KeepsPromise names.now now (S.state shelf.old) (journal_by result.begun result.took (S.state shelf.new).steps result.outcome) (lines_by line.now result.outcome) (S.state shelf.new) }
+    ensures entered { IsEntered names.now now (S.state shelf.old) (journal_by result.begun result.took (S.state shelf.new).steps result.outcome) (lines_by line.now result.outcome) (S.state shelf.new) }
 {
     // (what is proved of such runs)
     line_histories();

@@ -7,7 +7,7 @@ ghost use Rattle.lvm_script.specs.Options.{words_of};
 ghost use Rattle.lvm_run.specs.declared.outcome.Outcome.{Outcome as OutcomeRecord};
 ghost use Rattle.lvm_run.specs.Commands.{is_built, spec_of};
 ghost use Rattle.lvm_run.specs.Disks.{AreDisks, HasDisks};
-ghost use Rattle.lvm_run.specs.History.{HasEntered, HasRoom, IsNothing, KeepsPromise, journal_by, lines_by, lines_of_task, lines_of_words, said_of};
+ghost use Rattle.lvm_run.specs.History.{HasEntered, HasRoom, IsNothing, IsEntered, journal_by, lines_by, lines_of_task, lines_of_words, said_of};
 ghost use Rattle.lvm_run.specs.Meets.{Meets};
 ghost use Rattle.lvm_run.specs.Outcomes.{Ends, IsOfLineOne, output_of};
 ghost use Rattle.lvm_run.specs.Runs.{AreNamed, CanPlan, CanPlanTask, RunsLine, RunsTask, RunsWords, context_with, names_of};
@@ -16,7 +16,7 @@ ghost use Rattle.lvm_run.specs.Sourced.{source};
 use crate::built::is_built;
 use crate::changing::run_change;
 use crate::commands::pvck::run_pvck;
-use crate::commands::scan_report::{ScanReport, run_scan_report};
+use crate::commands::scan_report::{ScanReport, reports_scan, run_scan_report};
 use crate::commands::vgcfgbackup::run_vgcfgbackup;
 use crate::ending::Ending;
 use crate::entered::Entered;
@@ -146,7 +146,7 @@ fn run_words<R: Source, S: Shelf, N: Words64>(
     ensures run { (text : List ℕ)
         × RunsWords (words_of words.now) now text (source (R.left script.old) (R.fault_count script.old)) (source (R.left script.new) (R.fault_count script.new))
         (N.upcoming ids.old) (S.state shelf.old) result.0.outcome (N.upcoming ids.new) (S.state shelf.new)
-        × KeepsPromise (names_of (words_of words.now)) now (S.state shelf.old) (journal_by result.0.begun result.0.took (S.state shelf.new).steps result.0.outcome)
+        × IsEntered (names_of (words_of words.now)) now (S.state shelf.old) (journal_by result.0.begun result.0.took (S.state shelf.new).steps result.0.outcome)
         (lines_of_words (words_of words.now) text (N.upcoming ids.old) result.0.outcome) (S.state shelf.new) }
     ensures output { output_of result.1 result.0.outcome ≡ output_of (names_of (words_of words.now)) result.0.outcome }
     ensures room { said_of result.0.outcome ≢ None → HasRoom result.2 }
@@ -179,7 +179,7 @@ fn run_asked<R: Source, S: Shelf, N: Words64>(
     ensures run { (text : List ℕ)
         × RunsWords (words_of words.now) now text (source (R.left script.old) (R.fault_count script.old)) (source (R.left script.new) (R.fault_count script.new))
         (N.upcoming ids.old) (S.state shelf.old) result.0.outcome (N.upcoming ids.new) (S.state shelf.new)
-        × KeepsPromise (names_of (words_of words.now)) now (S.state shelf.old) (journal_by result.0.begun result.0.took (S.state shelf.new).steps result.0.outcome)
+        × IsEntered (names_of (words_of words.now)) now (S.state shelf.old) (journal_by result.0.begun result.0.took (S.state shelf.new).steps result.0.outcome)
         (lines_of_words (words_of words.now) text (N.upcoming ids.old) result.0.outcome) (S.state shelf.new) }
     ensures output { output_of result.1 result.0.outcome ≡ output_of (names_of (words_of words.now)) result.0.outcome }
 {
@@ -212,7 +212,7 @@ fn run_task<R: Source, S: Shelf>(
     ensures { (text : List ℕ)
         × RunsTask names.now task now text (source (R.left script.old) (R.fault_count script.old)) (source (R.left script.new) (R.fault_count script.new))
         (S.state shelf.old) result.outcome (S.state shelf.new)
-        × KeepsPromise names.now now (S.state shelf.old) (journal_by result.begun result.took (S.state shelf.new).steps result.outcome) (lines_of_task task text result.outcome) (S.state shelf.new) }
+        × IsEntered names.now now (S.state shelf.old) (journal_by result.begun result.took (S.state shelf.new).steps result.outcome) (lines_of_task task text result.outcome) (S.state shelf.new) }
 {
     match task {
         Task::One(line) => run_line(alloc, script, shelf, names, line, now),
@@ -237,7 +237,7 @@ fn run_line<R: Source, S: Shelf>(
     ensures { (text : List ℕ)
         × RunsLine names.now line now text (source (R.left script.old) (R.fault_count script.old)) (source (R.left script.new) (R.fault_count script.new))
         (S.state shelf.old) result.outcome (S.state shelf.new)
-        × KeepsPromise names.now now (S.state shelf.old) (journal_by result.begun result.took (S.state shelf.new).steps result.outcome) (lines_by (with_text text line) result.outcome) (S.state shelf.new) }
+        × IsEntered names.now now (S.state shelf.old) (journal_by result.begun result.took (S.state shelf.new).steps result.outcome) (lines_by (with_text text line) result.outcome) (S.state shelf.new) }
 {
     if !is_built(&line.command) {
         return Ran::ended(Ending::WordsRefused);
@@ -256,15 +256,18 @@ fn run_built<S: Shelf>(alloc: Global, shelf: &mut S, names: &DiskNames, line: Li
     requires planned { CanPlan line }
     requires time { now < 2 ^ 48 }
     ensures meets { Meets (spec_of line.command) (context_with names.now line.id now (S.state shelf.old)) (S.state shelf.old) result.outcome (S.state shelf.new) }
-    ensures promise { KeepsPromise names.now now (S.state shelf.old) (journal_by result.begun result.took (S.state shelf.new).steps result.outcome) (lines_by line result.outcome) (S.state shelf.new) }
+    ensures entered { IsEntered names.now now (S.state shelf.old) (journal_by result.begun result.took (S.state shelf.new).steps result.outcome) (lines_by line result.outcome) (S.state shelf.new) }
 {
     if line.command.changes() {
         return run_change(alloc, shelf, names, &line, now);
     }
-    let begun = shelf.steps();
+    let behind = reports_scan(&line.command);
+    let before = shelf.steps();
     let outcome = run_reading(alloc, shelf, names, line, now);
+    let ended = shelf.steps();
+    let begun = if behind { ended } else { before };
     let took = if outcome.is_report() {
-        Some(shelf.steps())
+        Some(ended)
     } else {
         None
     };

@@ -2,6 +2,7 @@
 ghost use Rattle.std.specs.Prelude.{◌≡◌, ◌≤◌, ℕ, List, Option, length, IfOk};
 ghost use Rattle.vg_found.specs.Shape.{HasShape};
 ghost use Rattle.lvm_run.specs.Disks.{AreDisks};
+ghost use Rattle.lvm_run.specs.History.{reports_scan};
 ghost use Rattle.lvm_run.specs.Meets.{Meets};
 ghost use Rattle.lvm_run.specs.ScanReport.{IsReported, scan_report, text_of};
 
@@ -9,7 +10,7 @@ use crate::outcome::Outcome;
 use crate::scanned::scan_ending;
 use disk_model::Shelf;
 use lvm_report::{lvs, pvs, vgck, vgs};
-use lvm_script::{Answer, DiskNames};
+use lvm_script::{Answer, Command, DiskNames};
 use sector_base::Text;
 use std::alloc::{AllocError, Global};
 use vg_found::Found;
@@ -26,6 +27,16 @@ pub enum ScanReport {
     Lvs,
     /// vgck(8).
     Vgck,
+}
+
+/// Whether the command reports on what a scan finds, and does nothing else.
+pub fn reports_scan(command: &Command) -> bool
+    ensures { result ≡ reports_scan command.now }
+{
+    matches!(
+        command,
+        Command::Pvs | Command::Vgs | Command::Lvs | Command::Vgck | Command::Vgcfgbackup { .. }
+    )
 }
 
 /// Scans the disks and reports on what is found, whatever is missing or unread. It submits reads alone.

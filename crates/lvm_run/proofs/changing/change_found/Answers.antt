@@ -1,5 +1,6 @@
 use Rattle.std.proofs.Common.{ℕ, Option, None, refl, sym, ap, subst, ◌∙◌}
 use Rattle.std.specs.Prelude.{Err}
+use Rattle.disk_model.proofs.IdleAgain.{again_nothing}
 use Rattle.group_ops.specs.Laws.{state_in}
 use Rattle.group_ops.specs.Planning.{IsBackupOf}
 use Rattle.group_ops.specs.State.{IsState}
@@ -20,7 +21,7 @@ returns-in-Err g c =
       given_back = λ judged. absurd judged;
       is = refl;
       took_xl = refl;
-      again = record { idle = c.requires.idle; sizes = refl };
+      again = again_nothing s0 c.requires.idle;
       carried = wanting (state_in c.args.found c.args.names.now None) c.args.line.now c.args.now s0 s0 refl (λ pv. refl);
     }
 

@@ -1,7 +1,7 @@
 use Rattle.std.proofs.Common.{◌∙◌, [], refl, sym, ap, subst, inr}
 use Rattle.lvm_script.specs.declared.line.Line.{Line}
 use Rattle.lvm_run.specs.Commands.{is_built}
-use Rattle.lvm_run.specs.History.{KeepsPromise, journal_by, lines_by}
+use Rattle.lvm_run.specs.History.{IsEntered, journal_by, lines_by}
 use Rattle.lvm_run.specs.Runs.{CanPlan}
 use Rattle.lvm_run.specs.Sourced.{source}
 use Rattle.lvm_run.proofs.AskedTasks.{refused_alone}
@@ -32,7 +32,7 @@ returns-in-Ok g c =
     let e = c.in-Ok.ensures in (
       e.0,
       runs_sourced c.args.names.now c.args.line c.in-Ok.line c.args.now from to s0 ran.outcome s1 (sym c.is_built.ensures ∙ c.if-not-is_built.false) e c.run_built.ensures.meets,
-      subst (λ (l : Line). KeepsPromise c.args.names.now c.args.now s0 (journal_by ran.begun ran.took s1.steps ran.outcome) (lines_by l ran.outcome) s1) e.2 c.run_built.ensures.promise,
+      subst (λ (l : Line). IsEntered c.args.names.now c.args.now s0 (journal_by ran.begun ran.took s1.steps ran.outcome) (lines_by l ran.outcome) s1) e.2 c.run_built.ensures.entered,
     )
 
 pub returns-in-Err : goal.returns-in-Err
