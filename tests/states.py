@@ -224,7 +224,7 @@ def lvcreate(group, name, kind, extents, disks, is_size=False, is_named=True):
 def lvextend(group, volume, extents, disks, is_size=False, is_named=True):
     name, more = volume.name, volume.longer(extents, disks)
     words = f"lvextend {said(extents, is_size)} {group}/{name} {' '.join(sorted(disks)) if is_named else ''}"
-    again = f"1: refused NotLonger {extents} {more.extents}\n"
+    again = f"1: refused NotLonger {more.extents} {more.extents}\n"
     return Command(words, lambda it: it.with_volume(name, more), lambda it: more in it.volumes, again)
 
 
