@@ -1,6 +1,6 @@
 //! The rows that the tables of the manual have to have.
 
-use lvm_script::{CommandName, OptionKey};
+use command_table::{CommandName, OptionKey};
 use std::alloc::{AllocError, Global};
 
 /// The rows of the table of commands, with its head.

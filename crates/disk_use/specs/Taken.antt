@@ -1,9 +1,9 @@
 -- The disks that a command takes: one to make a physical volume of (pvcreate(8)), some to make a group of (vgcreate(8)), or
 -- some to add to one (vgextend(8)).
 use Rattle.std.specs.Prelude.{ℕ, Bool, true, false, List, [], ◌∷◌, filter_map}
-use Rattle.lvm_script.specs.declared.command.Command.{Command}
-use Rattle.lvm_script.specs.declared.command.Command.TheVariants.{Pvcreate, Vgcreate, Vgextend}
-use Rattle.lvm_script.specs.Options.{Word, number_named}
+use Rattle.command_table.specs.declared.command.Command.{Command}
+use Rattle.command_table.specs.declared.command.Command.TheVariants.{Pvcreate, Vgcreate, Vgextend}
+use Rattle.command_table.specs.Options.{Word, number_named}
 
 -- the words of the command that name disks which it takes
 abbrev pub words_taken : Command → List Word

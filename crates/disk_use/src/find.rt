@@ -16,8 +16,9 @@ use crate::in_use::{InUse, Shown, Use};
 use crate::look::look;
 use crate::marked::first_left;
 use crate::taken::{disks_taken, is_new};
+use command_table::Command;
 use disk_model::Shelf;
-use lvm_script::{Command, DiskNames};
+use line_answers::DiskNames;
 use std::alloc::Global;
 
 /// The first disk in use of those that pvcreate, vgcreate or vgextend takes; of any other command none, and nothing is

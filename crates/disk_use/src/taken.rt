@@ -1,9 +1,10 @@
 //! The disks that a command takes.
 ghost use Rattle.std.specs.Prelude.{◌≡◌, ◌≤◌, ◌<◌, length, All, IfOk, filter_map};
-ghost use Rattle.lvm_script.specs.Options.{number_named};
+ghost use Rattle.command_table.specs.Options.{number_named};
 ghost use Rattle.disk_use.specs.Taken.{is_new, taken_by};
 
-use lvm_script::{Command, DiskNames};
+use command_table::Command;
+use line_answers::DiskNames;
 use sector_base::Text;
 use std::alloc::{AllocError, Global};
 use std::slice::from_ref;

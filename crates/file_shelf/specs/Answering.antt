@@ -1,8 +1,8 @@
 -- What a stream answers to the system's results.
 use Rattle.std.specs.Prelude.{ℕ, Result, Ok, Err}
 use Rattle.std.specs.declared.io.Error.{Error}
-use Rattle.lvm_script.specs.declared.failed.Failed.{Failed}
-use Rattle.lvm_script.specs.Streams.{counted_on}
+use Rattle.byte_streams.specs.declared.failed.Failed.{Failed}
+use Rattle.byte_streams.specs.Streams.{counted_on}
 
 -- the system's count of bytes, or a failure for its error
 abbrev pub answer_to : Result ℕ Error → Result ℕ Failed

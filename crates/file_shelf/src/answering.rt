@@ -4,7 +4,7 @@ ghost use Rattle.std.specs.IoError.{error_kind};
 ghost use Rattle.file_shelf.specs.Answering.{answer_to, faults_after};
 
 use crate::trying::unless_interrupted;
-use lvm_script::Failed;
+use byte_streams::Failed;
 use std::io;
 use std::io::{ErrorKind, Print, Read};
 

@@ -2,7 +2,7 @@
 ghost use Rattle.std.specs.Prelude.{◌≡◌, ◌<◌, ◌^◌, None, ℕ, List};
 
 use crate::answering::{answer, read_some, write_some};
-use lvm_script::{Failed, Sink, Source};
+use byte_streams::{Failed, Sink, Source};
 use std::io::{BufRead, Input, Print, Read};
 
 /// What comes from a reader, such as standard input. Each error of the reader is a fault, but for an interrupted read, which

@@ -9,8 +9,9 @@ use Rattle.std.proofs.lemmas.List.Elements.{All-from_recursion, recursion_from_A
 use Rattle.std.proofs.lemmas.Option.{get_or_from_slice_get, slice_get_within}
 use Rattle.lvm_id.specs.LvmId.{IsId}
 use Rattle.lvm_name.specs.Names.{group_name_refusal}
-use Rattle.lvm_script.specs.declared.op_refusal.OpRefusal.{OpRefusal}
-use Rattle.lvm_script.specs.declared.op_refusal.OpRefusal.TheVariants.{IdTaken, NoArea, SeqnoEnd}
+use Rattle.line_answers.specs.declared.op_refusal.OpRefusal.{OpRefusal}
+use Rattle.line_answers.specs.declared.op_refusal.OpRefusal.TheVariants.{IdTaken, NoArea, SeqnoEnd}
+use Rattle.pv_header.proofs.Overlaps.{All-from_find}
 use Rattle.mda_header.specs.declared.header.Locn.{Locn}
 use Rattle.mda_ring.specs.declared.area.Area.{Area}
 use Rattle.meta_model.specs.Standing.{HasTree}
@@ -19,21 +20,21 @@ use Rattle.meta_model.specs.declared.lv.Lv.{Lv}
 use Rattle.meta_model.specs.declared.pv.Pv.{Pv}
 use Rattle.meta_print.proofs.GroupFrom.{printable}
 use Rattle.meta_print.proofs.ReadAgain.{has_tree}
-use Rattle.pv_header.proofs.Overlaps.{All-from_find}
+use Rattle.volume_rules.specs.Rules.{IsAccepted, ids_of}
+use Rattle.volume_rules.specs.declared.rule.Rule.TheVariants.{Numbers, Volumes}
 use Rattle.scan_rules.specs.Decision.{same_bytes}
 use Rattle.scan_rules.proofs.Scanning.{same_bytes_to}
 use Rattle.vg_found.specs.Disks.{disk_with, disks_of, has_header_id, header_on}
-use Rattle.volume_rules.specs.Rules.{IsAccepted, ids_of}
-use Rattle.volume_rules.specs.declared.rule.Rule.TheVariants.{Numbers, Volumes}
+use Rattle.group_edits.proofs.Inserted.{none_at, none_passes}
+use Rattle.group_edits.proofs.PushedPrintable.{printable_version}
+use Rattle.group_edits.proofs.Whole.{IsWhole}
+use Rattle.group_edits.proofs.PushedRules.{accepted_base, base_accepted, base_version}
+use Rattle.group_edits.specs.NextVersion.{next_version}
 use Rattle.group_ops.proofs.AddedFacts.{IsFoundOn, all_found}
 use Rattle.group_ops.proofs.Disks.{disk_with_own, has_own, ids_apart}
 use Rattle.group_ops.proofs.EmptyGroup.{empty_base, empty_printable}
 use Rattle.group_ops.proofs.ExtendedGroup.{AreApart, Fits, IdApart, IsFresh, IsGood, count_added, good_added}
-use Rattle.group_edits.proofs.Inserted.{none_at, none_passes}
 use Rattle.group_ops.proofs.Passed.{DiskApart, DisksApart, IsUnused, absent, both_false, all_fit, few_enough, all_unused, five_none, no_map, six_none}
-use Rattle.group_edits.proofs.PushedPrintable.{printable_version}
-use Rattle.group_edits.proofs.Whole.{IsWhole}
-use Rattle.group_edits.proofs.PushedRules.{accepted_base, base_accepted, base_version}
 use Rattle.group_ops.proofs.StateFacts.{listed_are}
 use Rattle.group_ops.specs.Added.{added_of, data_end, data_start, disks_added}
 use Rattle.group_ops.specs.Ids.{has_lv_id, has_other_id}
@@ -41,7 +42,6 @@ use Rattle.group_ops.specs.Judging.{area_row, first_refusal, lies_on, many_row, 
 use Rattle.group_ops.specs.NewGroup.{extended}
 use Rattle.group_ops.specs.State.{IsState}
 use Rattle.group_ops.specs.Vgcreate.{IsEmptyGroup, create_rows, empty_group}
-use Rattle.group_edits.specs.NextVersion.{next_version}
 use Rattle.group_ops.specs.Vgextend.{extend_rows, other_id_row}
 use Rattle.group_ops.specs.declared.added.Added.{Added}
 use Rattle.group_ops.specs.declared.state.GroupState.{GroupState}

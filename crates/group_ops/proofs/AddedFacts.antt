@@ -6,12 +6,12 @@ use Rattle.std.specs.Str.{bytes_eq}
 use Rattle.std.specs.Cmp.Lexicographic.{same_text}
 use Rattle.std.proofs.lemmas.List.Elements.{All-head, All-tail, All-weaker}
 use Rattle.std.proofs.lemmas.Option.{same_Some, slice_get_within}
-use Rattle.conf_text.specs.Grammar.{IsContent}
 use Rattle.lvm_id.specs.LvmId.{IsId}
-use Rattle.lvm_script.specs.Options.{number_named}
-use Rattle.lvm_script.specs.Values.{is_disk_name}
+use Rattle.command_table.specs.Options.{number_named}
+use Rattle.command_table.specs.Values.{is_disk_name}
 use Rattle.pv_header.specs.Areas.{CanLie}
 use Rattle.pv_header.specs.declared.header.PvHeader.{PvHeader}
+use Rattle.conf_text.specs.Grammar.{IsContent}
 use Rattle.disk_contents.specs.declared.contents.PvFound.{PvFound}
 use Rattle.disk_contents.specs.declared.contents.PvFound.TheVariants.{NoLabel, NoHeader, Whole}
 use Rattle.vg_found.proofs.KeptLists.{all_kept}

@@ -3,7 +3,7 @@ use Rattle.std.proofs.Common.{◌≡◌, ◌<◌, ◌≤◌, ℕ, ◌+◌, ◌-�
 use Rattle.std.specs.Prelude.{option_map, slice_index_or, IfSome}
 use Rattle.std.specs.Str.{bytes_eq}
 use Rattle.std.proofs.lemmas.List.{drop_all, drop_more}
-use Rattle.lvm_script.specs.Options.{number_named}
+use Rattle.command_table.specs.Options.{number_named}
 
 -- the number of the first of these that has the name, where the first has this number
 abbrev pub number_from : ℕ → List (List ℕ) → List ℕ → Option ℕ

@@ -1,7 +1,7 @@
 -- Rows one after another: the first refusal is that of the first part that refuses.
 use Rattle.std.proofs.Common.{◌≡◌, List, [], ◌∷◌, ◌++◌, Option, Some, None, Result, Ok, Err, refl, ap, ◌∙◌}
 use Rattle.std.specs.Option.{option_or}
-use Rattle.lvm_script.specs.declared.op_refusal.OpRefusal.{OpRefusal}
+use Rattle.line_answers.specs.declared.op_refusal.OpRefusal.{OpRefusal}
 use Rattle.group_ops.specs.Judging.{IsRefusedBy, Judges, first_refusal}
 use Rattle.group_ops.specs.Planning.{Plans}
 use Rattle.group_ops.specs.declared.refusal.PlanRefusal.{PlanRefusal}

@@ -3,8 +3,8 @@ use Rattle.std.proofs.Common.{◌≡◌, ℕ, ◌≤◌, true, ◌&&◌, ◌==�
 use Rattle.std.specs.Prelude.{nat_le, not}
 use Rattle.std.proofs.lemmas.Bool.{and_parts, leb-true, ne_eqb}
 use Rattle.std.specs.List.{list_all}
+use Rattle.command_table.specs.Values.{is_disk_name, is_visible}
 use Rattle.conf_text.specs.Grammar.{IsContent}
-use Rattle.lvm_script.specs.Values.{is_disk_name, is_visible}
 use Rattle.group_edits.proofs.PrintedIds.{all_allowed, allows, byte_allowed}
 
 visible_allowed : (b : ℕ) → is_visible b ≡ true → allows b ≡ true

@@ -6,26 +6,26 @@ use Rattle.std.specs.Option.{option_and_then, option_map_or}
 use Rattle.std.specs.Ordering.{nat_cmp}
 use Rattle.std.proofs.lemmas.Bool.{eqb-true, ltb-false, ltb-true}
 use Rattle.std.proofs.lemmas.List.Elements.{All-from_recursion}
-use Rattle.extent_alloc.specs.Few.{AreFew}
-use Rattle.extent_alloc.specs.Giving.{IsGiven, IsRequest}
-use Rattle.extent_alloc.specs.declared.part.Part.{Part}
-use Rattle.extent_alloc.specs.declared.part.PartRun.{PartRun}
-use Rattle.extent_alloc.specs.declared.request.Request.{Request}
+use Rattle.sector_base.specs.declared.spans.Span.{Span}
 use Rattle.lvm_name.specs.Names.{is_among}
-use Rattle.lvm_script.specs.declared.command.NewVolume.{NewVolume}
-use Rattle.lvm_script.specs.declared.op_refusal.OpRefusal.{OpRefusal}
-use Rattle.lvm_script.specs.declared.op_refusal.OpRefusal.TheVariants.{BadStripe, IdTaken}
+use Rattle.command_table.specs.declared.command.NewVolume.{NewVolume}
+use Rattle.line_answers.specs.declared.op_refusal.OpRefusal.{OpRefusal}
+use Rattle.line_answers.specs.declared.op_refusal.OpRefusal.TheVariants.{BadStripe, IdTaken}
 use Rattle.meta_model.specs.Tables.{names_of}
 use Rattle.meta_model.specs.declared.group.Group.{Group}
 use Rattle.meta_model.specs.declared.lv.Lv.{Lv}
 use Rattle.meta_model.specs.declared.pv.Pv.{Pv}
 use Rattle.meta_model.specs.declared.segment.SegKind.{SegKind}
 use Rattle.meta_model.specs.declared.segment.SegKind.TheVariants.{Mirror, Striped}
-use Rattle.scan_rules.specs.Decision.{same_bytes}
-use Rattle.sector_base.specs.declared.spans.Span.{Span}
 use Rattle.volume_rules.specs.Rules.{FitsDevice, IsAccepted, ids_of}
 use Rattle.volume_rules.specs.declared.rule.Rule.TheVariants.{Extents, Numbers}
 use Rattle.volume_view.proofs.MetSegments.{all_at}
+use Rattle.extent_alloc.specs.Few.{AreFew}
+use Rattle.extent_alloc.specs.Giving.{IsGiven, IsRequest}
+use Rattle.extent_alloc.specs.declared.part.Part.{Part}
+use Rattle.extent_alloc.specs.declared.part.PartRun.{PartRun}
+use Rattle.extent_alloc.specs.declared.request.Request.{Request}
+use Rattle.scan_rules.specs.Decision.{same_bytes}
 use Rattle.group_edits.proofs.FirstSectors.{Beginning, beginning, start_within}
 use Rattle.group_edits.proofs.GivenRuns.{given_may, given_some}
 use Rattle.group_edits.proofs.Inserted.{none_passes}

@@ -2,18 +2,18 @@
 use Rattle.std.proofs.Common.{◌≡◌, ℕ, true, false, List, [], ◌∷◌, Some, None, Err, refl}
 use Rattle.std.specs.Fmt.{digits}
 use Rattle.std.specs.Prelude.{codes}
-use Rattle.lvm_script.specs.Options.{number_named}
-use Rattle.lvm_script.specs.declared.command.Command.{Command}
-use Rattle.lvm_script.specs.declared.command.Command.TheVariants.{Pvcreate, Vgcreate}
+use Rattle.command_table.specs.Options.{number_named}
+use Rattle.command_table.specs.declared.command.Command.{Command}
+use Rattle.command_table.specs.declared.command.Command.TheVariants.{Pvcreate, Vgcreate}
+use Rattle.line_answers.specs.declared.op_refusal.OpRefusal.TheVariants.{TooSmall}
 use Rattle.lvm_script.specs.declared.line.Line.{Line}
-use Rattle.lvm_script.specs.declared.op_refusal.OpRefusal.TheVariants.{TooSmall}
-use Rattle.mda_header.specs.declared.entry.Entry.TheVariants.{Nothing}
-use Rattle.mda_header.specs.declared.refusal.MdaRefusal.TheVariants.{BadMagic}
-use Rattle.meta_model.specs.declared.pv.Pv.{Pv}
+use Rattle.pv_label.specs.declared.refusal.LabelRefusal.TheVariants.{NoLabel as NoneFound}
 use Rattle.pv_header.specs.Areas.{next_start}
 use Rattle.pv_header.specs.declared.extent_list.Extent.{Extent}
 use Rattle.pv_header.specs.declared.header.PvHeader.{PvHeader}
-use Rattle.pv_label.specs.declared.refusal.LabelRefusal.TheVariants.{NoLabel as NoneFound}
+use Rattle.mda_header.specs.declared.entry.Entry.TheVariants.{Nothing}
+use Rattle.mda_header.specs.declared.refusal.MdaRefusal.TheVariants.{BadMagic}
+use Rattle.meta_model.specs.declared.pv.Pv.{Pv}
 use Rattle.disk_contents.specs.declared.contents.PvFound.TheVariants.{NoLabel, Whole}
 use Rattle.vg_found.specs.declared.disk.Disk.{Disk}
 use Rattle.vg_found.specs.Disks.{held_areas}

@@ -9,15 +9,11 @@ use Rattle.std.proofs.lemmas.Bool.Decides.{nat_tests}
 use Rattle.std.proofs.lemmas.Grind.{div_ceil_times}
 use Rattle.std.proofs.lemmas.List.Elements.{All-contains, All-head, All-tail}
 use Rattle.std.proofs.lemmas.Option.{same_Some, slice_get_cases}
-use Rattle.extent_alloc.specs.Few.{AreFew}
-use Rattle.extent_alloc.specs.Giving.{IsGiven, IsRequest}
-use Rattle.extent_alloc.specs.declared.part.Part.{Part}
-use Rattle.extent_alloc.specs.declared.request.Request.{Request}
-use Rattle.lvm_script.specs.declared.amount.Growth.{Growth}
-use Rattle.lvm_script.specs.declared.amount.Growth.TheVariants.{By, To}
-use Rattle.lvm_script.specs.declared.command.Path.{Path}
-use Rattle.lvm_script.specs.declared.op_refusal.OpRefusal.{OpRefusal}
-use Rattle.lvm_script.specs.declared.op_refusal.OpRefusal.TheVariants.{NotLonger, TooMany, UnknownVolume}
+use Rattle.command_table.specs.declared.amount.Growth.{Growth}
+use Rattle.command_table.specs.declared.amount.Growth.TheVariants.{By, To}
+use Rattle.command_table.specs.declared.command.Path.{Path}
+use Rattle.line_answers.specs.declared.op_refusal.OpRefusal.{OpRefusal}
+use Rattle.line_answers.specs.declared.op_refusal.OpRefusal.TheVariants.{NotLonger, TooMany, UnknownVolume}
 use Rattle.meta_model.specs.Standing.{HasTree}
 use Rattle.meta_model.specs.declared.group.Group.{Group}
 use Rattle.meta_model.specs.declared.lv.Lv.{Lv}
@@ -27,6 +23,10 @@ use Rattle.meta_model.specs.declared.segment.Segment.{Segment}
 use Rattle.volume_rules.specs.Extents.{extents_of}
 use Rattle.volume_rules.specs.Rules.{IsAccepted}
 use Rattle.volume_rules.specs.declared.rule.Rule.TheVariants.{Numbers, Segments}
+use Rattle.extent_alloc.specs.Few.{AreFew}
+use Rattle.extent_alloc.specs.Giving.{IsGiven, IsRequest}
+use Rattle.extent_alloc.specs.declared.part.Part.{Part}
+use Rattle.extent_alloc.specs.declared.request.Request.{Request}
 use Rattle.group_edits.proofs.GivenRuns.{given_may}
 use Rattle.group_edits.proofs.OnDisks.{lie_on_pvs, may_grow}
 use Rattle.group_edits.proofs.OneNamed.{IsVisibleAt, visible_at}

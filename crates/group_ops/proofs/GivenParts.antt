@@ -4,16 +4,16 @@ use Rattle.std.specs.Prelude.{All}
 use Rattle.std.proofs.lemmas.Bool.{cases_lt}
 use Rattle.std.proofs.lemmas.List.Elements.{All-head, All-tail}
 use Rattle.std.proofs.lemmas.List.Sums.{sum_by-cons}
-use Rattle.extent_alloc.specs.Few.{AreFew}
-use Rattle.extent_alloc.specs.Giving.{IsGiven, IsRequest}
-use Rattle.extent_alloc.specs.declared.part.Part.{Part}
-use Rattle.extent_alloc.specs.declared.request.Request.{Request}
-use Rattle.lvm_script.specs.declared.op_refusal.OpRefusal.{OpRefusal}
+use Rattle.line_answers.specs.declared.op_refusal.OpRefusal.{OpRefusal}
 use Rattle.meta_model.specs.declared.group.Group.{Group}
 use Rattle.meta_model.specs.declared.segment.SegKind.{SegKind}
 use Rattle.meta_model.specs.declared.segment.SegKind.TheVariants.{Mirror, Striped}
 use Rattle.meta_model.specs.declared.segment.Segment.{Segment}
 use Rattle.volume_rules.specs.Rules.{IsAccepted}
+use Rattle.extent_alloc.specs.Few.{AreFew}
+use Rattle.extent_alloc.specs.Giving.{IsGiven, IsRequest}
+use Rattle.extent_alloc.specs.declared.part.Part.{Part}
+use Rattle.extent_alloc.specs.declared.request.Request.{Request}
 use Rattle.group_edits.proofs.FewSectors.{LieOnDisks}
 use Rattle.group_edits.proofs.GivenRules.{extents_least}
 use Rattle.group_edits.proofs.GivenRuns.{given_may}

@@ -5,9 +5,12 @@ use Rattle.std.specs.Cmp.{nat_cmp_total}
 use Rattle.std.specs.FinSet as set
 use Rattle.std.specs.Ordering.{nat_cmp}
 use Rattle.lvm_id.specs.LvmId.{hyphen_form}
-use Rattle.lvm_script.specs.Options.{number_named}
-use Rattle.lvm_script.specs.declared.op_refusal.OpRefusal.{OpRefusal}
-use Rattle.lvm_script.specs.declared.op_refusal.OpRefusal.TheVariants.{BadRule, BadText, InUse, LastPv, MoveStands, NoArea, NotInGroup, NotResizeable, OtherGroup, SeqnoEnd, TooMany, UnknownPv}
+use Rattle.command_table.specs.Options.{number_named}
+use Rattle.line_answers.specs.declared.op_refusal.OpRefusal.{OpRefusal}
+use Rattle.line_answers.specs.declared.op_refusal.OpRefusal.TheVariants.{BadRule, BadText, InUse, LastPv, MoveStands, NoArea, NotInGroup, NotResizeable, OtherGroup, SeqnoEnd, TooMany, UnknownPv}
+use Rattle.pv_label.specs.declared.refusal.LabelRefusal.TheVariants.{NoLabel as NoneFound}
+use Rattle.pv_header.specs.declared.extent_list.Extent.{Extent}
+use Rattle.pv_header.specs.declared.header.PvHeader.{PvHeader}
 use Rattle.mda_header.specs.declared.entry.Entry.TheVariants.{Text}
 use Rattle.mda_header.specs.declared.refusal.MdaRefusal.TheVariants.{BadMagic}
 use Rattle.meta_model.specs.declared.group.Group.{Group}
@@ -16,9 +19,7 @@ use Rattle.meta_model.specs.declared.pv.Pv.{Pv}
 use Rattle.meta_model.specs.declared.segment.On.{On}
 use Rattle.meta_model.specs.declared.segment.On.TheVariants as on
 use Rattle.meta_model.specs.declared.segment.SegKind.TheVariants.{Striped}
-use Rattle.pv_header.specs.declared.extent_list.Extent.{Extent}
-use Rattle.pv_header.specs.declared.header.PvHeader.{PvHeader}
-use Rattle.pv_label.specs.declared.refusal.LabelRefusal.TheVariants.{NoLabel as NoneFound}
+use Rattle.volume_rules.specs.declared.rule.Rule.TheVariants.{Extents, Volumes}
 use Rattle.disk_contents.specs.declared.contents.PvFound.TheVariants.{NoLabel, Whole}
 use Rattle.vg_found.specs.declared.disk.Disk.{Disk}
 use Rattle.vg_found.specs.Disks.{disks_of, held_areas}
@@ -26,7 +27,6 @@ use Rattle.group_edits.specs.RestoredGroup.{restored_group}
 use Rattle.group_ops.specs.Added.{added_named}
 use Rattle.group_ops.specs.declared.backup.Backup.{Backup}
 use Rattle.group_ops.specs.declared.backup.Backup.TheVariants.{Broken, Sound, Unread}
-use Rattle.volume_rules.specs.declared.rule.Rule.TheVariants.{Extents, Volumes}
 use Rattle.group_ops.specs.Cleared.{unused}
 use Rattle.group_ops.specs.Judging.{area_row, first_refusal, set_of, unknown_row}
 use Rattle.group_ops.specs.Members.{pv_named}

@@ -6,14 +6,14 @@ use Rattle.std.specs.Option.{option_map_or}
 use Rattle.std.proofs.lemmas.Bool.{eq-eqb, true≢false}
 use Rattle.std.proofs.lemmas.List.{length-map}
 use Rattle.std.proofs.lemmas.List.Quantifiers.{position-Some}
-use Rattle.lvm_script.specs.Options.{number_named}
-use Rattle.lvm_script.specs.declared.op_refusal.OpRefusal.{OpRefusal}
-use Rattle.lvm_script.specs.declared.op_refusal.OpRefusal.TheVariants.{InUse, LastPv, NotInGroup, UnknownGroup}
+use Rattle.command_table.specs.Options.{number_named}
+use Rattle.line_answers.specs.declared.op_refusal.OpRefusal.{OpRefusal}
+use Rattle.line_answers.specs.declared.op_refusal.OpRefusal.TheVariants.{InUse, LastPv, NotInGroup, UnknownGroup}
 use Rattle.meta_model.specs.Standing.{HasTree}
 use Rattle.meta_model.specs.declared.group.Group.{Group}
 use Rattle.meta_model.specs.declared.pv.Pv.{Pv}
-use Rattle.vg_found.specs.Disks.{disk_with}
 use Rattle.volume_rules.specs.Rules.{IsAccepted}
+use Rattle.vg_found.specs.Disks.{disk_with}
 use Rattle.group_edits.proofs.ReducedGroup.{reduced_whole}
 use Rattle.group_edits.proofs.ReducedRules.{all_without}
 use Rattle.group_edits.proofs.Whole.{IsWhole}

@@ -4,19 +4,16 @@ use Rattle.std.specs.Cmp.{nat_cmp_total}
 use Rattle.std.specs.FinSet as set
 use Rattle.std.specs.Ordering.{nat_cmp}
 use Rattle.std.specs.Prelude.{Bool, codes, option_map}
-use Rattle.extent_alloc.specs.declared.part.Part.{Part}
-use Rattle.extent_alloc.specs.declared.part.PartRun.{PartRun}
-use Rattle.extent_alloc.specs.declared.refusal.AllocRefusal.TheVariants as alloc
-use Rattle.lvm_script.specs.declared.amount.Amount.{Amount}
-use Rattle.lvm_script.specs.declared.amount.Amount.TheVariants.{Extents, Sectors}
-use Rattle.lvm_script.specs.declared.amount.Growth.{Growth}
-use Rattle.lvm_script.specs.declared.amount.Growth.TheVariants.{By, To}
-use Rattle.lvm_script.specs.declared.command.Command.{Command}
-use Rattle.lvm_script.specs.declared.command.Command.TheVariants.{Lvcreate, Lvextend, Lvreduce}
-use Rattle.lvm_script.specs.declared.command.NewVolume.{NewVolume}
-use Rattle.lvm_script.specs.Options.{number_named}
+use Rattle.command_table.specs.declared.amount.Amount.{Amount}
+use Rattle.command_table.specs.declared.amount.Amount.TheVariants.{Extents, Sectors}
+use Rattle.command_table.specs.declared.amount.Growth.{Growth}
+use Rattle.command_table.specs.declared.amount.Growth.TheVariants.{By, To}
+use Rattle.command_table.specs.declared.command.Command.{Command}
+use Rattle.command_table.specs.declared.command.Command.TheVariants.{Lvcreate, Lvextend, Lvreduce}
+use Rattle.command_table.specs.declared.command.NewVolume.{NewVolume}
+use Rattle.command_table.specs.Options.{number_named}
+use Rattle.line_answers.specs.declared.op_refusal.OpRefusal.TheVariants.{BadStripe, IdTaken, Layered, Locked, NameTaken, NoRun, NoSpace, NotAllocatable, NotInGroup, NotLonger, NotShorter, TooFewPvs, TooMany, UnknownGroup, UnknownPv, UnknownVolume}
 use Rattle.lvm_script.specs.declared.line.Line.{Line}
-use Rattle.lvm_script.specs.declared.op_refusal.OpRefusal.TheVariants.{BadStripe, IdTaken, Layered, Locked, NameTaken, NoRun, NoSpace, NotAllocatable, NotInGroup, NotLonger, NotShorter, TooFewPvs, TooMany, UnknownGroup, UnknownPv, UnknownVolume}
 use Rattle.meta_model.specs.declared.group.Group.{Group}
 use Rattle.meta_model.specs.declared.lv.Lv.{Lv}
 use Rattle.meta_model.specs.declared.pv.Pv.{Pv}
@@ -25,6 +22,9 @@ use Rattle.meta_model.specs.declared.segment.On.TheVariants as on
 use Rattle.meta_model.specs.declared.segment.SegKind.{SegKind}
 use Rattle.meta_model.specs.declared.segment.SegKind.TheVariants.{Mirror, Striped}
 use Rattle.meta_model.specs.declared.segment.Segment.{Segment}
+use Rattle.extent_alloc.specs.declared.part.Part.{Part}
+use Rattle.extent_alloc.specs.declared.part.PartRun.{PartRun}
+use Rattle.extent_alloc.specs.declared.refusal.AllocRefusal.TheVariants as alloc
 use Rattle.group_edits.specs.ShortenedVolume.{kept_of, shortened, shortened_volume}
 use Rattle.group_edits.specs.Visible.{visible_named}
 use Rattle.group_ops.specs.Added.{added_named}

@@ -5,8 +5,8 @@ use Rattle.std.specs.FinSet as set
 use Rattle.std.specs.List.{cons_option}
 use Rattle.std.specs.Ordering.{nat_cmp}
 use Rattle.std.proofs.lemmas.List.{drop_more}
-use Rattle.lvm_script.specs.Options.{number_named}
-use Rattle.lvm_script.specs.declared.op_refusal.OpRefusal.TheVariants.{NotInGroup}
+use Rattle.command_table.specs.Options.{number_named}
+use Rattle.line_answers.specs.declared.op_refusal.OpRefusal.TheVariants.{NotInGroup}
 use Rattle.group_ops.specs.Judging.{with_all}
 use Rattle.group_ops.specs.Members.{is_outside, number_on, outside_row, pv_named}
 use Rattle.group_ops.specs.declared.state.GroupState.{GroupState}

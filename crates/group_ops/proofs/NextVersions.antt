@@ -4,23 +4,23 @@ use Rattle.std.specs.Prelude.{is_some, option_and_then, option_map, unwrap_or, I
 use Rattle.std.specs.Option.{option_map_or}
 use Rattle.std.specs.FinSet as set
 use Rattle.std.proofs.lemmas.Bool.{true≢false}
-use Rattle.extent_alloc.specs.declared.part.Part.{Part}
+use Rattle.sector_base.specs.declared.spans.Span.{Span}
 use Rattle.lvm_id.specs.LvmId.{IsId}
 use Rattle.lvm_name.specs.Names.{group_name_refusal, volume_name_refusal}
-use Rattle.lvm_script.specs.declared.amount.Amount.{Amount}
-use Rattle.lvm_script.specs.declared.amount.Growth.{Growth}
-use Rattle.lvm_script.specs.declared.command.Command.{Command}
-use Rattle.lvm_script.specs.declared.command.Command.TheVariants.{Lvcreate, Lvextend, Lvreduce, Lvremove, Lvrename, Vgrename}
-use Rattle.lvm_script.specs.declared.command.NewVolume.{NewVolume}
-use Rattle.lvm_script.specs.declared.command.Path.{Path}
-use Rattle.lvm_script.specs.declared.op_refusal.OpRefusal.{OpRefusal}
-use Rattle.lvm_script.specs.declared.op_refusal.OpRefusal.TheVariants.{UnknownGroup, UnknownVolume}
+use Rattle.command_table.specs.declared.amount.Amount.{Amount}
+use Rattle.command_table.specs.declared.amount.Growth.{Growth}
+use Rattle.command_table.specs.declared.command.Command.{Command}
+use Rattle.command_table.specs.declared.command.Command.TheVariants.{Lvcreate, Lvextend, Lvreduce, Lvremove, Lvrename, Vgrename}
+use Rattle.command_table.specs.declared.command.NewVolume.{NewVolume}
+use Rattle.command_table.specs.declared.command.Path.{Path}
+use Rattle.line_answers.specs.declared.op_refusal.OpRefusal.{OpRefusal}
+use Rattle.line_answers.specs.declared.op_refusal.OpRefusal.TheVariants.{UnknownGroup, UnknownVolume}
 use Rattle.meta_model.specs.Standing.{HasTree}
 use Rattle.meta_model.specs.declared.group.Group.{Group}
 use Rattle.meta_model.specs.declared.lv.Lv.{Lv}
-use Rattle.sector_base.specs.declared.spans.Span.{Span}
 use Rattle.volume_rules.specs.Rules.{IsAccepted}
 use Rattle.volume_rules.specs.declared.rule.Rule.TheVariants.{Numbers}
+use Rattle.extent_alloc.specs.declared.part.Part.{Part}
 use Rattle.group_edits.proofs.Longer.{longer_whole}
 use Rattle.group_edits.proofs.Removed.{removed_whole}
 use Rattle.group_edits.proofs.Renamed.{renamed_whole as volume_whole}

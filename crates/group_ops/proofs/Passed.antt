@@ -8,11 +8,11 @@ use Rattle.std.specs.Cmp.{nat_cmp_total, unsigned_tied}
 use Rattle.std.specs.Ordering.{nat_cmp}
 use Rattle.std.proofs.lemmas.Bool.{eq-eqb, eqb-true, ltb-false, true≢false}
 use Rattle.std.proofs.lemmas.List.Elements.{recursion_from_All}
+use Rattle.line_answers.specs.declared.op_refusal.OpRefusal.{OpRefusal}
 use Rattle.pv_header.proofs.Overlaps.{All-from_find}
 use Rattle.group_ops.specs.Added.{data_end, data_start}
 use Rattle.group_ops.specs.Judging.{first_used, is_small, many_row, small_row, used_row, set_of, with_all}
 use Rattle.group_ops.specs.declared.added.Added.{Added}
-use Rattle.lvm_script.specs.declared.op_refusal.OpRefusal.{OpRefusal}
 
 -- ---- rows
 

@@ -2,6 +2,7 @@
 use Rattle.std.proofs.Common.{◌≡◌, ℕ, Bool, false, ◌||◌, List, [], ◌∷◌, map, Option, Some, None, refl, ap, ◌∙◌}
 use Rattle.std.specs.Prelude.{option_map, unwrap_or}
 use Rattle.std.specs.List.{AllByRecursion as Each, list_any}
+use Rattle.line_answers.specs.declared.op_refusal.OpRefusal.TheVariants.{BadRule}
 use Rattle.meta_model.specs.declared.group.Group.{Group}
 use Rattle.meta_model.specs.declared.pv.Pv.{Pv}
 use Rattle.scan_rules.specs.Decision.{Found as PvOf, Reading, first_misplaced}
@@ -12,7 +13,6 @@ use Rattle.group_edits.proofs.Inserted.{none_passes}
 use Rattle.group_edits.proofs.ReducedRuns.{none_without}
 use Rattle.group_edits.specs.ReducedGroup.{reduced_group}
 use Rattle.group_edits.specs.RestoredGroup.{found_pv, restored_group}
-use Rattle.lvm_script.specs.declared.op_refusal.OpRefusal.TheVariants.{BadRule}
 use Rattle.group_ops.proofs.PlacedVolumes.{IsPlacedOn, each_placed, none_misplaced}
 use Rattle.group_ops.proofs.Rows.{test_fails}
 use Rattle.group_ops.specs.Vgcfgrestore.{is_misshapen, shape_row}

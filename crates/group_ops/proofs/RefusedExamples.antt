@@ -6,22 +6,22 @@ use Rattle.std.specs.Fmt.{digits}
 use Rattle.std.specs.Ordering.{nat_cmp}
 use Rattle.std.specs.Prelude.{codes}
 use Rattle.lvm_id.specs.LvmId.{hyphen_form}
-use Rattle.conf_text.specs.Bytes.{kind}
-use Rattle.lvm_script.specs.Options.{number_named}
-use Rattle.lvm_script.specs.declared.command.Command.{Command}
-use Rattle.lvm_script.specs.declared.command.Command.TheVariants.{Pvcreate}
+use Rattle.command_table.specs.Options.{number_named}
+use Rattle.command_table.specs.declared.command.Command.{Command}
+use Rattle.command_table.specs.declared.command.Command.TheVariants.{Pvcreate}
+use Rattle.line_answers.specs.declared.op_refusal.OpRefusal.{OpRefusal}
+use Rattle.line_answers.specs.declared.op_refusal.OpRefusal.TheVariants.{IdTaken, NoArea, PvUsed, TooSmall, UnknownPv}
 use Rattle.lvm_script.specs.declared.line.Line.{Line}
-use Rattle.lvm_script.specs.declared.op_refusal.OpRefusal.{OpRefusal}
-use Rattle.lvm_script.specs.declared.op_refusal.OpRefusal.TheVariants.{IdTaken, NoArea, PvUsed, TooSmall, UnknownPv}
-use Rattle.mda_header.specs.declared.entry.Entry.{Entry}
-use Rattle.mda_header.specs.declared.entry.Entry.TheVariants.{Ignored, Nothing}
-use Rattle.mda_header.specs.declared.refusal.MdaRefusal.TheVariants.{BadMagic}
-use Rattle.mda_ring.specs.Ring.{need, room}
-use Rattle.meta_model.specs.declared.group.Group.{Group}
 use Rattle.pv_header.specs.Areas.{next_start}
 use Rattle.pv_header.specs.declared.extent_list.Extent.{Extent}
 use Rattle.pv_header.specs.declared.header.PvHeader.{PvHeader}
 use Rattle.pv_header.specs.declared.refusal.PvRefusal.TheVariants.{ListUnended}
+use Rattle.mda_header.specs.declared.entry.Entry.{Entry}
+use Rattle.mda_header.specs.declared.entry.Entry.TheVariants.{Ignored, Nothing}
+use Rattle.mda_header.specs.declared.refusal.MdaRefusal.TheVariants.{BadMagic}
+use Rattle.mda_ring.specs.Ring.{need, room}
+use Rattle.conf_text.specs.Bytes.{kind}
+use Rattle.meta_model.specs.declared.group.Group.{Group}
 use Rattle.disk_contents.specs.declared.contents.AreaFound.{AreaFound}
 use Rattle.disk_contents.specs.declared.contents.PvFound.TheVariants.{NoHeader, Whole}
 use Rattle.vg_found.specs.declared.disk.Disk.{Disk}

@@ -2,13 +2,13 @@
 use Rattle.std.proofs.Common.{inl, inr, ◌≡◌, ◌<◌, ℕ, true, List, [], ◌∷◌, length, Option, Some, None, refl, subst}
 use Rattle.std.specs.Prelude.{All, is_some}
 use Rattle.std.specs.Option.{option_map_or}
-use Rattle.lvm_script.specs.declared.op_refusal.OpRefusal.TheVariants.{UnknownGroup}
+use Rattle.line_answers.specs.declared.op_refusal.OpRefusal.TheVariants.{UnknownGroup}
 use Rattle.meta_model.specs.Standing.{HasTree}
 use Rattle.meta_model.specs.declared.group.Group.{Group}
+use Rattle.volume_rules.specs.Rules.{IsAccepted}
 use Rattle.scan_rules.proofs.Scanning.{same_bytes_tells}
 use Rattle.scan_rules.specs.Decision.{first_misplaced, same_bytes}
 use Rattle.vg_found.specs.Disks.{disks_of, shapes}
-use Rattle.volume_rules.specs.Rules.{IsAccepted}
 use Rattle.group_edits.proofs.RestoredGroup.{restored_whole}
 use Rattle.group_edits.proofs.Whole.{IsWhole}
 use Rattle.group_edits.specs.RestoredGroup.{restored_group}

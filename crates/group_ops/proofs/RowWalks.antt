@@ -3,9 +3,9 @@ use Rattle.std.proofs.Common.{◌≡◌, ◌≤◌, ℕ, ◌+◌, List, drop, le
 use Rattle.std.specs.Option.{option_or}
 use Rattle.std.specs.Prelude.{slice_get}
 use Rattle.std.proofs.lemmas.List.{drop_all}
-use Rattle.lvm_script.specs.declared.op_refusal.OpRefusal.{OpRefusal}
-use Rattle.group_ops.specs.Judging.{first_refusal}
 use Rattle.sector_base.proofs.Walks.{next_got}
+use Rattle.line_answers.specs.declared.op_refusal.OpRefusal.{OpRefusal}
+use Rattle.group_ops.specs.Judging.{first_refusal}
 
 module _ {X : Type 0} (row : X → Option OpRefusal) (xs : List X) (i : ℕ) (whole : Option OpRefusal) (so_far : first_refusal (map row (drop i xs)) ≡ whole) where
   -- the row of the element here, and those behind it

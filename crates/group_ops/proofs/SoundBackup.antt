@@ -10,12 +10,12 @@ use Rattle.std.proofs.lemmas.Bool.{eq-eqb, ltb-true, true≢false}
 use Rattle.std.proofs.lemmas.Bool.Decides.{nat_tests}
 use Rattle.std.proofs.lemmas.Cmp.{same_from_slice_cmp_tested}
 use Rattle.std.proofs.lemmas.List.Elements.{All-from_recursion, recursion_from_All}
-use Rattle.lvm_script.specs.declared.op_refusal.OpRefusal.TheVariants.{SeqnoEnd}
+use Rattle.sector_base.proofs.Walks.{next_got}
+use Rattle.line_answers.specs.declared.op_refusal.OpRefusal.TheVariants.{SeqnoEnd}
 use Rattle.meta_model.specs.declared.group.Group.{Group}
 use Rattle.meta_model.specs.declared.pv.Pv.{Pv}
 use Rattle.scan_rules.specs.Decision.{same_bytes}
 use Rattle.scan_rules.proofs.Scanning.{same_bytes_tells}
-use Rattle.sector_base.proofs.Walks.{next_got}
 use Rattle.vg_found.specs.declared.disk.Disk.{Disk}
 use Rattle.vg_found.specs.Disks.{disk_with, disks_of}
 use Rattle.group_ops.proofs.Passed.{both_false}

@@ -2,10 +2,10 @@
 use Rattle.std.specs.Prelude.{ℕ, ◌-◌, ◌/◌, ◌^◌, ◌<◌, ◌≤◌, List, filter_map, map, Option, None, Some, option_map, slice_get, true, false}
 use Rattle.std.specs.Option.{option_and_then}
 use Rattle.std.specs.Prelude.{bit_or}
-use Rattle.lvm_script.specs.Options.{number_named}
-use Rattle.meta_model.specs.declared.pv.Pv.{Pv}
+use Rattle.command_table.specs.Options.{number_named}
 use Rattle.pv_header.specs.declared.header.PvHeader.{PvHeader}
 use Rattle.pv_header.specs.DataSectors.{data_end_of, data_start_of}
+use Rattle.meta_model.specs.declared.pv.Pv.{Pv}
 use Rattle.disk_contents.specs.declared.contents.PvFound.{PvFound}
 use Rattle.disk_contents.specs.declared.contents.PvFound.TheVariants.{NoLabel, NoHeader, Whole}
 use Rattle.vg_found.specs.declared.disk.Disk.{Disk}

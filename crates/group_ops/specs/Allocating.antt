@@ -2,6 +2,9 @@
 --
 -- Any free extents may be given that meet what the allocator promises. So rows and changes are functions of what was given.
 use Rattle.std.specs.Prelude.{◌≡◌, ℕ, ◌+◌, nat_lt, List, [], slice_index, Option, None, Some, option_and_then}
+use Rattle.line_answers.specs.declared.op_refusal.OpRefusal.{OpRefusal}
+use Rattle.line_answers.specs.declared.op_refusal.OpRefusal.TheVariants.{NoRun, NoSpace, NotAllocatable, TooFewPvs, TooMany}
+use Rattle.meta_model.specs.declared.group.Group.{Group}
 use Rattle.extent_alloc.specs.Few.{AreFew}
 use Rattle.extent_alloc.specs.Giving.{IsGiven}
 use Rattle.extent_alloc.specs.Refusals.{refusal_of}
@@ -9,9 +12,6 @@ use Rattle.extent_alloc.specs.declared.part.Part.{Part}
 use Rattle.extent_alloc.specs.declared.refusal.AllocRefusal.{AllocRefusal}
 use Rattle.extent_alloc.specs.declared.refusal.AllocRefusal.TheVariants as alloc
 use Rattle.extent_alloc.specs.declared.request.Request.{Request}
-use Rattle.lvm_script.specs.declared.op_refusal.OpRefusal.{OpRefusal}
-use Rattle.lvm_script.specs.declared.op_refusal.OpRefusal.TheVariants.{NoRun, NoSpace, NotAllocatable, TooFewPvs, TooMany}
-use Rattle.meta_model.specs.declared.group.Group.{Group}
 use Rattle.group_edits.specs.GivenSegments.{segments_in}
 use Rattle.group_ops.specs.Judging.{first_refusal, refused_if}
 use Rattle.group_ops.specs.declared.state.GroupState.{GroupState}

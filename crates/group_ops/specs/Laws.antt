@@ -1,9 +1,9 @@
 -- Laws of what lines are judged against, and of what they give.
 use Rattle.std.specs.Prelude.{◌≡◌, ℕ, true, List, length, Option, None, All, IfSome}
-use Rattle.extent_alloc.specs.declared.part.Part.{Part}
-use Rattle.lvm_script.specs.Values.{is_disk_name}
+use Rattle.command_table.specs.Values.{is_disk_name}
 use Rattle.lvm_script.specs.declared.line.Line.{Line}
 use Rattle.meta_model.specs.declared.group.Group.{Group}
+use Rattle.extent_alloc.specs.declared.part.Part.{Part}
 use Rattle.scan_rules.specs.Decision.{first_misplaced}
 use Rattle.vg_found.specs.declared.disk.Disk.{Disk}
 use Rattle.vg_found.specs.Disks.{shapes}

@@ -3,19 +3,19 @@ use Rattle.std.specs.Prelude.{◌≡◌, ◌≤◌, ◌<◌, ℕ, ◌+◌, ◌*�
 use Rattle.std.specs.FinSet as set
 use Rattle.std.specs.Option.{option_and_then, option_map_or}
 use Rattle.std.specs.Ordering.{nat_cmp}
-use Rattle.extent_alloc.specs.declared.part.Part.{Part}
-use Rattle.extent_alloc.specs.declared.part.PartRun.{PartRun}
-use Rattle.extent_alloc.specs.declared.request.Request.{Request}
+use Rattle.sector_base.specs.declared.spans.Span.{Span}
 use Rattle.lvm_name.specs.Names.{volume_name_refusal}
-use Rattle.lvm_script.specs.declared.command.NewVolume.{NewVolume}
-use Rattle.lvm_script.specs.declared.op_refusal.OpRefusal.{OpRefusal}
-use Rattle.lvm_script.specs.declared.op_refusal.OpRefusal.TheVariants.{IdTaken}
+use Rattle.command_table.specs.declared.command.NewVolume.{NewVolume}
+use Rattle.line_answers.specs.declared.op_refusal.OpRefusal.{OpRefusal}
+use Rattle.line_answers.specs.declared.op_refusal.OpRefusal.TheVariants.{IdTaken}
 use Rattle.meta_model.specs.declared.group.Group.{Group}
 use Rattle.meta_model.specs.declared.pv.Pv.{Pv}
 use Rattle.meta_model.specs.declared.segment.SegKind.{SegKind}
 use Rattle.meta_model.specs.declared.segment.SegKind.TheVariants.{Mirror, Striped}
-use Rattle.sector_base.specs.declared.spans.Span.{Span}
 use Rattle.volume_rules.specs.Rules.{IsPowerOfTwo}
+use Rattle.extent_alloc.specs.declared.part.Part.{Part}
+use Rattle.extent_alloc.specs.declared.part.PartRun.{PartRun}
+use Rattle.extent_alloc.specs.declared.request.Request.{Request}
 use Rattle.group_edits.specs.NewVolume.{new_lv, with_volume}
 use Rattle.group_edits.specs.ShortenedVolume.{parts_of}
 use Rattle.group_ops.specs.Allocating.{Asking, segments_row, space_row}

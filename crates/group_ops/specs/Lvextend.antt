@@ -2,19 +2,19 @@
 use Rattle.std.specs.Prelude.{ℕ, false, nat_le, List, [], ◌∷◌, ◌++◌, length, Option, None, option_map, option_and_then}
 use Rattle.std.specs.FinSet as set
 use Rattle.std.specs.Ordering.{nat_cmp}
-use Rattle.extent_alloc.specs.declared.part.Part.{Part}
-use Rattle.extent_alloc.specs.declared.request.Request.{Request}
-use Rattle.lvm_script.specs.declared.amount.Growth.{Growth}
-use Rattle.lvm_script.specs.declared.amount.Growth.TheVariants.{By, To}
-use Rattle.lvm_script.specs.declared.command.Path.{Path}
-use Rattle.lvm_script.specs.declared.op_refusal.OpRefusal.{OpRefusal}
-use Rattle.lvm_script.specs.declared.op_refusal.OpRefusal.TheVariants.{NotLonger}
+use Rattle.command_table.specs.declared.amount.Growth.{Growth}
+use Rattle.command_table.specs.declared.amount.Growth.TheVariants.{By, To}
+use Rattle.command_table.specs.declared.command.Path.{Path}
+use Rattle.line_answers.specs.declared.op_refusal.OpRefusal.{OpRefusal}
+use Rattle.line_answers.specs.declared.op_refusal.OpRefusal.TheVariants.{NotLonger}
 use Rattle.meta_model.specs.Runs.{legs_of}
 use Rattle.meta_model.specs.declared.group.Group.{Group}
 use Rattle.meta_model.specs.declared.lv.Lv.{Lv}
 use Rattle.meta_model.specs.declared.segment.SegKind.{SegKind}
 use Rattle.meta_model.specs.declared.segment.SegKind.TheVariants.{Mirror, Striped}
 use Rattle.volume_rules.specs.Extents.{extents_of}
+use Rattle.extent_alloc.specs.declared.part.Part.{Part}
+use Rattle.extent_alloc.specs.declared.request.Request.{Request}
 use Rattle.group_edits.specs.LongerVolume.{last_kind, longer_volume}
 use Rattle.group_edits.specs.ShortenedVolume.{parts_of}
 use Rattle.group_edits.specs.Visible.{visible_named}

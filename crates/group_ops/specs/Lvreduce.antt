@@ -1,10 +1,10 @@
 -- lvreduce(8): the rows of its refusals, and its change.
 use Rattle.std.specs.Prelude.{ℕ, nat_le, List, [], ◌∷◌, ◌++◌, Option}
 use Rattle.std.specs.Option.{option_map_or}
-use Rattle.lvm_script.specs.declared.amount.Amount.{Amount}
-use Rattle.lvm_script.specs.declared.command.Path.{Path}
-use Rattle.lvm_script.specs.declared.op_refusal.OpRefusal.{OpRefusal}
-use Rattle.lvm_script.specs.declared.op_refusal.OpRefusal.TheVariants.{NotShorter}
+use Rattle.command_table.specs.declared.amount.Amount.{Amount}
+use Rattle.command_table.specs.declared.command.Path.{Path}
+use Rattle.line_answers.specs.declared.op_refusal.OpRefusal.{OpRefusal}
+use Rattle.line_answers.specs.declared.op_refusal.OpRefusal.TheVariants.{NotShorter}
 use Rattle.meta_model.specs.declared.group.Group.{Group}
 use Rattle.meta_model.specs.declared.lv.Lv.{Lv}
 use Rattle.volume_rules.specs.Extents.{extents_of}

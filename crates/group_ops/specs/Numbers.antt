@@ -4,7 +4,7 @@ use Rattle.std.specs.Borrow.{Bor}
 use Rattle.std.specs.BTreeMap.{BTreeMap, get, get_by}
 use Rattle.std.specs.Cmp.Lexicographic.{slice_cmp}
 use Rattle.std.specs.Ordering.{nat_cmp}
-use Rattle.lvm_script.specs.Options.{number_named}
+use Rattle.command_table.specs.Options.{number_named}
 use Rattle.group_ops.specs.Members.{number_on}
 
 -- at each name stands the number of the first disk that has it

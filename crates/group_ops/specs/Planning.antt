@@ -1,13 +1,13 @@
 -- How a line is answered: by its first refusal, or by its change.
 use Rattle.std.specs.Prelude.{◌≡◌, ◌≤◌, ◌%◌, ◌^◌, ℕ, List, [], Option, None, Some, unwrap_or, Result, Err, MatchResult, IsSomeAnd}
-use Rattle.extent_alloc.specs.declared.part.Part.{Part}
 use Rattle.lvm_id.specs.LvmId.{IsId}
 use Rattle.lvm_name.specs.Names.{group_name_refusal, volume_name_refusal}
-use Rattle.lvm_script.specs.declared.command.Command.{Command}
-use Rattle.lvm_script.specs.declared.command.Command.TheVariants.{Lvcreate, Lvextend, Lvreduce, Lvremove, Lvrename, Pvcreate, Vgcfgrestore, Vgcreate, Vgextend, Vgrename, Vgreduce, Vgremove}
+use Rattle.command_table.specs.declared.command.Command.{Command}
+use Rattle.command_table.specs.declared.command.Command.TheVariants.{Lvcreate, Lvextend, Lvreduce, Lvremove, Lvrename, Pvcreate, Vgcfgrestore, Vgcreate, Vgextend, Vgrename, Vgreduce, Vgremove}
+use Rattle.line_answers.specs.declared.op_refusal.OpRefusal.{OpRefusal}
 use Rattle.lvm_script.specs.declared.line.Line.{Line}
-use Rattle.lvm_script.specs.declared.op_refusal.OpRefusal.{OpRefusal}
 use Rattle.meta_model.specs.declared.group.Group.{Group}
+use Rattle.extent_alloc.specs.declared.part.Part.{Part}
 use Rattle.group_ops.specs.Allocating.{Asking, Takes}
 use Rattle.group_ops.specs.Backup.{IsBackup}
 use Rattle.group_ops.specs.Committing.{no_change}

@@ -2,14 +2,14 @@
 use Rattle.std.specs.Prelude.{ℕ, ◌*◌, ◌||◌, ◌==◌, Bool, false, nat_lt, if◌then◌else◌, List, [], ◌∷◌, Option, None, Some, unwrap_or, slice_get}
 use Rattle.std.specs.Option.{option_and_then, option_map_or}
 use Rattle.std.specs.FinSet as set
-use Rattle.lvm_script.specs.Options.{number_named}
-use Rattle.lvm_script.specs.declared.op_refusal.OpRefusal.{OpRefusal}
-use Rattle.lvm_script.specs.declared.op_refusal.OpRefusal.TheVariants.{IdTaken, PvUsed, TooSmall, UnknownPv}
+use Rattle.command_table.specs.Options.{number_named}
+use Rattle.line_answers.specs.declared.op_refusal.OpRefusal.{OpRefusal}
+use Rattle.line_answers.specs.declared.op_refusal.OpRefusal.TheVariants.{IdTaken, PvUsed, TooSmall, UnknownPv}
 use Rattle.pv_header.specs.declared.extent_list.Extent.{Extent}
 use Rattle.pv_header.specs.declared.header.PvHeader.{PvHeader}
+use Rattle.meta_model.specs.declared.group.Group.{Group}
 use Rattle.disk_contents.specs.declared.contents.PvFound.{PvFound}
 use Rattle.disk_contents.specs.declared.contents.PvFound.TheVariants.{NoLabel, NoHeader, Whole}
-use Rattle.meta_model.specs.declared.group.Group.{Group}
 use Rattle.vg_found.specs.declared.disk.Disk.{Disk}
 use Rattle.group_ops.specs.Ids.{has_any_id}
 use Rattle.group_ops.specs.Judging.{refused_if, set_of, stands_on_disk}

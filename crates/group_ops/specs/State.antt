@@ -1,6 +1,6 @@
 -- What a line may be judged against.
 use Rattle.std.specs.Prelude.{◌≡◌, ◌≤◌, ◌<◌, ℕ, true, None, Some, length, slice_get, All, IfSome}
-use Rattle.lvm_script.specs.Values.{is_disk_name}
+use Rattle.command_table.specs.Values.{is_disk_name}
 use Rattle.scan_rules.specs.Decision.{first_duplicate, first_misplaced, ids_from}
 use Rattle.vg_found.specs.declared.disk.Disk.{Disk}
 use Rattle.vg_found.specs.Disks.{disks_of, held_areas, shapes}

@@ -5,16 +5,16 @@ use Rattle.std.specs.Option.{option_map_or}
 use Rattle.std.specs.Ordering.{is_le, nat_cmp}
 use Rattle.std.specs.Cmp.Lexicographic.{slice_cmp}
 use Rattle.lvm_id.specs.LvmId.{hyphen_form}
-use Rattle.lvm_script.specs.declared.op_refusal.OpRefusal.{OpRefusal}
-use Rattle.lvm_script.specs.declared.op_refusal.OpRefusal.TheVariants.{BadRule, BadText, MoveStands, OtherGroup, SeqnoEnd}
+use Rattle.line_answers.specs.declared.op_refusal.OpRefusal.{OpRefusal}
+use Rattle.line_answers.specs.declared.op_refusal.OpRefusal.TheVariants.{BadRule, BadText, MoveStands, OtherGroup, SeqnoEnd}
 use Rattle.meta_model.specs.declared.group.Group.{Group}
 use Rattle.meta_model.specs.declared.pv.Pv.{Pv}
-use Rattle.scan_rules.specs.Decision.{has_misplaced, same_bytes}
-use Rattle.vg_found.specs.Disks.{disk_shape, disks_of}
-use Rattle.vg_found.specs.declared.disk.Disk.{Disk}
 use Rattle.volume_rules.specs.Moving.{has_move}
 use Rattle.volume_rules.specs.Rules.{number_of}
 use Rattle.volume_rules.specs.declared.rule.Rule.{Rule}
+use Rattle.scan_rules.specs.Decision.{has_misplaced, same_bytes}
+use Rattle.vg_found.specs.Disks.{disk_shape, disks_of}
+use Rattle.vg_found.specs.declared.disk.Disk.{Disk}
 use Rattle.group_edits.specs.RestoredGroup.{restored_group}
 use Rattle.group_ops.specs.Committing.{change_where_found, length_row_on, named_rows, no_change, rows_where_found, seqno_row, version_change_on}
 use Rattle.group_ops.specs.Ids.{has_pv_id}

@@ -3,8 +3,8 @@ use Rattle.std.specs.Prelude.{◌≡◌, ◌≤◌, ◌%◌, ◌^◌, ℕ, true,
 use Rattle.std.specs.Option.{option_map_or}
 use Rattle.lvm_id.specs.LvmId.{IsId}
 use Rattle.lvm_name.specs.Names.{group_name_refusal}
-use Rattle.lvm_script.specs.declared.op_refusal.OpRefusal.{OpRefusal}
-use Rattle.lvm_script.specs.declared.op_refusal.OpRefusal.TheVariants.{GroupStands, IdTaken}
+use Rattle.line_answers.specs.declared.op_refusal.OpRefusal.{OpRefusal}
+use Rattle.line_answers.specs.declared.op_refusal.OpRefusal.TheVariants.{GroupStands, IdTaken}
 use Rattle.meta_model.specs.declared.group.Group.{Group}
 use Rattle.group_ops.specs.Added.{added_of, disks_added}
 use Rattle.group_ops.specs.Judging.{area_row, many_row, refused_if, small_row, stands_on_disk, unknown_row, used_row}

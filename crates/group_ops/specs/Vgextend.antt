@@ -1,13 +1,13 @@
 -- vgextend(8): the rows of its refusals, and its change.
 use Rattle.std.specs.Prelude.{ℕ, ◌+◌, not, List, [], ◌∷◌, ◌++◌, length, find, Option, option_map}
-use Rattle.lvm_script.specs.declared.op_refusal.OpRefusal.{OpRefusal}
-use Rattle.lvm_script.specs.declared.op_refusal.OpRefusal.TheVariants.{IdTaken, NotResizeable}
+use Rattle.line_answers.specs.declared.op_refusal.OpRefusal.{OpRefusal}
+use Rattle.line_answers.specs.declared.op_refusal.OpRefusal.TheVariants.{IdTaken, NotResizeable}
 use Rattle.meta_model.specs.declared.group.Group.{Group}
+use Rattle.group_edits.specs.NextVersion.{next_version}
 use Rattle.group_ops.specs.Added.{added_of, disks_added}
 use Rattle.group_ops.specs.Ids.{has_other_id}
 use Rattle.group_ops.specs.Judging.{area_row, many_row, refused_if, small_row, unknown_row, used_row}
 use Rattle.group_ops.specs.NewGroup.{change_with, text_row}
-use Rattle.group_edits.specs.NextVersion.{next_version}
 use Rattle.group_ops.specs.Committing.{named_rows, rows_where_found, seqno_row}
 use Rattle.group_ops.specs.declared.added.Added.{Added}
 use Rattle.group_ops.specs.declared.state.Change.{Change}

@@ -2,8 +2,8 @@
 use Rattle.std.specs.Prelude.{ℕ, ◌==◌, List, [], ◌∷◌, ◌++◌, length, slice_index, Option, Some}
 use Rattle.std.specs.Option.{option_map_or}
 use Rattle.std.specs.List.{remove}
-use Rattle.lvm_script.specs.declared.op_refusal.OpRefusal.{OpRefusal}
-use Rattle.lvm_script.specs.declared.op_refusal.OpRefusal.TheVariants.{InUse, LastPv, NotInGroup}
+use Rattle.line_answers.specs.declared.op_refusal.OpRefusal.{OpRefusal}
+use Rattle.line_answers.specs.declared.op_refusal.OpRefusal.TheVariants.{InUse, LastPv, NotInGroup}
 use Rattle.meta_model.specs.declared.group.Group.{Group}
 use Rattle.group_edits.specs.ReducedGroup.{has_leg_on_pv, reduced_group}
 use Rattle.group_ops.specs.Committing.{change_where_found, length_row_on, no_change, rows_where_found, seqno_row, version_change_on}

@@ -1,7 +1,7 @@
 -- vgrename(8): the rows of its refusals, and its change.
 use Rattle.std.specs.Prelude.{ℕ, List, [], ◌∷◌, ◌++◌, Option}
-use Rattle.lvm_script.specs.declared.op_refusal.OpRefusal.{OpRefusal}
-use Rattle.lvm_script.specs.declared.op_refusal.OpRefusal.TheVariants.{NameTaken}
+use Rattle.line_answers.specs.declared.op_refusal.OpRefusal.{OpRefusal}
+use Rattle.line_answers.specs.declared.op_refusal.OpRefusal.TheVariants.{NameTaken}
 use Rattle.meta_model.specs.declared.group.Group.{Group}
 use Rattle.scan_rules.specs.Decision.{same_bytes}
 use Rattle.group_edits.specs.RenamedGroup.{renamed_group}

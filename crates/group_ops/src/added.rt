@@ -1,6 +1,6 @@
 //! The physical volumes that a line adds to a group.
 ghost use Rattle.std.specs.Prelude.{◌≡◌, ◌≤◌, ◌<◌, ◌^◌, [], ◌∷◌, length, IfOk, IfSome, MatchResult, None};
-ghost use Rattle.lvm_script.specs.Options.{number_named};
+ghost use Rattle.command_table.specs.Options.{number_named};
 ghost use Rattle.group_ops.specs.Added.{IsAdded, added_named, added_of, added_on, data_end, data_start, pv_of};
 ghost use Rattle.group_ops.specs.Judging.{IsRefusedBy, Judges, is_small, need_of, unknown_row};
 ghost use Rattle.group_ops.specs.State.{IsState};
@@ -9,7 +9,7 @@ use crate::copied::copied_text;
 use crate::disks_by_name::DisksByName;
 use crate::{GroupState, PlanRefusal};
 use disk_contents::PvFound;
-use lvm_script::OpRefusal;
+use line_answers::OpRefusal;
 use meta_model::Pv;
 use pv_header::{Extents, PvHeader};
 use sector_base::{ItemList, Text};

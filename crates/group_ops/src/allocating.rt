@@ -8,7 +8,7 @@ ghost use Rattle.group_ops.specs.Judging.{IsRefusedBy, Judges};
 
 use crate::{GroupState, PlanRefusal};
 use extent_alloc::{AllocRefusal, Given, Request, alloc as give};
-use lvm_script::OpRefusal;
+use line_answers::OpRefusal;
 use meta_model::Group;
 use std::alloc::Global;
 use vg_check::Checked;

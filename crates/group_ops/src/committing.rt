@@ -1,6 +1,6 @@
 //! The next version of the group that was found: the rows that commands which make one share, and its change.
 ghost use Rattle.std.specs.Prelude.{◌≡◌, ◌<◌, [], ◌∷◌, Some, not, All};
-ghost use Rattle.lvm_script.specs.declared.op_refusal.OpRefusal.TheVariants.{NotResizeable, ReadOnly, UnknownGroup};
+ghost use Rattle.line_answers.specs.declared.op_refusal.OpRefusal.TheVariants.{NotResizeable, ReadOnly, UnknownGroup};
 ghost use Rattle.mda_ring.specs.Areas.{CanTake};
 ghost use Rattle.scan_rules.specs.Decision.{same_bytes};
 ghost use Rattle.group_ops.specs.Judging.{IsRefusedBy, Judges, first_refusal, refused_if};
@@ -11,7 +11,7 @@ use crate::copied::{copied_disks, copied_text};
 use crate::judging::judge_text;
 use crate::new_group::text_size;
 use crate::{Change, GroupState, Labels, PlanRefusal, Spans};
-use lvm_script::OpRefusal;
+use line_answers::OpRefusal;
 use meta_model::Group;
 use sector_base::{PvDisks, PvSet, Text};
 use std::alloc::Global;

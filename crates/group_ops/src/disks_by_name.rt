@@ -1,9 +1,9 @@
 //! Disks are found by their names without looking along these.
 ghost use Rattle.std.specs.Prelude.{◌≡◌, ◌≤◌, ◌<◌, IfOk, IfSome, length};
-ghost use Rattle.lvm_script.specs.Options.{number_named};
+ghost use Rattle.command_table.specs.Options.{number_named};
 ghost use Rattle.group_ops.specs.Numbers.{AreByName};
 
-use lvm_script::DiskNames;
+use line_answers::DiskNames;
 use std::alloc::{AllocError, Global};
 use std::collections::BTreeMap;
 use std::marker::Model;

@@ -4,7 +4,7 @@ ghost use Rattle.group_ops.specs.Judging.{Judges};
 ghost use Rattle.group_ops.specs.Limits.{above_row, limit_row, limits_row, segment_count};
 
 use crate::PlanRefusal;
-use lvm_script::OpRefusal;
+use line_answers::OpRefusal;
 use meta_model::{Group, LvTable};
 
 /// The group exceeds no greatest number.

@@ -15,7 +15,7 @@ use crate::judging::judge_areas;
 use crate::volumes::{judge_lock, judge_name};
 use crate::{Change, GroupState, PlanRefusal};
 use group_edits::{find_visible, renamed_volume};
-use lvm_script::OpRefusal;
+use line_answers::OpRefusal;
 use sector_base::Text;
 use std::alloc::Global;
 use vg_check::Checked;

@@ -1,6 +1,6 @@
 //! The physical volumes of the group that the words of a line name.
 ghost use Rattle.std.specs.Prelude.{◌≡◌, ◌≤◌, ◌<◌, IfOk, IfSome, length, option_and_then};
-ghost use Rattle.lvm_script.specs.Options.{number_named};
+ghost use Rattle.command_table.specs.Options.{number_named};
 ghost use Rattle.group_ops.specs.Judging.{Judges};
 ghost use Rattle.group_ops.specs.Members as specs;
 ghost use Rattle.group_ops.specs.State.{IsState};
@@ -9,7 +9,7 @@ use crate::copied::copied_text;
 use crate::disks_by_name::DisksByName;
 use crate::pvs_by_disk::PvsByDisk;
 use crate::{GroupState, PlanRefusal};
-use lvm_script::OpRefusal;
+use line_answers::OpRefusal;
 use sector_base::{PvSet, Text};
 use std::alloc::{AllocError, Global};
 

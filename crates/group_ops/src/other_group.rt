@@ -3,7 +3,7 @@ ghost use Rattle.std.specs.Prelude.{◌≡◌, if◌then◌else◌, not, IfOk, S
 ghost use Rattle.std.specs.Cmp.Lexicographic.{slice_cmp};
 ghost use Rattle.std.specs.Ordering.{is_le, nat_cmp};
 ghost use Rattle.lvm_id.specs.LvmId.{hyphen_form};
-ghost use Rattle.lvm_script.specs.declared.op_refusal.OpRefusal.TheVariants.{OtherGroup};
+ghost use Rattle.line_answers.specs.declared.op_refusal.OpRefusal.TheVariants.{OtherGroup};
 ghost use Rattle.scan_rules.specs.Decision.{same_bytes};
 ghost use Rattle.group_ops.specs.Ids.{has_pv_id};
 ghost use Rattle.group_ops.specs.Judging.{Judges, first_refusal, refused_if};
@@ -13,8 +13,8 @@ use crate::PlanRefusal;
 use crate::copied::copied_bytes;
 use crate::ids::same_id;
 use id_index::Members;
+use line_answers::OpRefusal;
 use lvm_id::LvmId;
-use lvm_script::OpRefusal;
 use meta_model::Group;
 use sector_base::Text;
 use std::alloc::{AllocError, Global};

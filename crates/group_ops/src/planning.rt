@@ -18,8 +18,9 @@ use crate::vgreduce::plan_vgreduce;
 use crate::vgremove::plan_vgremove;
 use crate::vgrename::plan_vgrename;
 use crate::{Change, GroupState, PlanRefusal};
+use command_table::Command;
 use lvm_id::LvmId;
-use lvm_script::{Command, Line};
+use lvm_script::Line;
 use std::alloc::Global;
 
 /// What the line changes at this time, in seconds since 1970, by lvm2's rules for its command. Sizes and extents are counted

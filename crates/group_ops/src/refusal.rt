@@ -2,7 +2,7 @@
 ghost use Rattle.std.specs.Prelude.{◌≡◌};
 ghost use Rattle.group_ops.specs.declared.refusal.PlanRefusal.TheVariants.{NoMemory};
 
-use lvm_script::OpRefusal;
+use line_answers::OpRefusal;
 use std::alloc::{AllocError, AllocFailed};
 
 /// Why a line changes nothing.

@@ -11,7 +11,7 @@ ghost use Rattle.group_ops.specs.Vgcfgrestore.{is_misshapen, shape_row};
 use crate::PlanRefusal;
 use disk_contents::PvFound;
 use id_index::Members;
-use lvm_script::OpRefusal;
+use line_answers::OpRefusal;
 use meta_model::Pv;
 use pv_header::{Extent, PvHeader};
 use vg_found::Disk;

@@ -2,7 +2,7 @@
 ghost use Rattle.std.specs.Prelude.{◌≡◌, ◌≤◌};
 ghost use Rattle.group_ops.specs.Sizes as specs;
 
-use lvm_script::{Amount, Growth};
+use command_table::{Amount, Growth};
 
 /// The amount in extents of so many sectors, a size rounded up to whole ones.
 pub(crate) fn extents_for(extent_size: u64, amount: Amount) -> u64

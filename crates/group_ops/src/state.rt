@@ -1,6 +1,6 @@
 //! What a line is judged against, and what it changes.
 use crate::Backup;
-use lvm_script::DiskNames;
+use line_answers::DiskNames;
 use mda_ring::Areas;
 use pv_header::PvHeader;
 use sector_base::{ItemList, PvDisks, PvSet, Span};

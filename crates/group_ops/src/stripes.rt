@@ -4,7 +4,7 @@ ghost use Rattle.group_ops.specs.Judging.{Judges};
 ghost use Rattle.group_ops.specs.Stripes.{kind_row, segments_row, stripe_row, stripes_row};
 
 use crate::PlanRefusal;
-use lvm_script::OpRefusal;
+use line_answers::OpRefusal;
 use meta_model::{Group, SegKind, Segment};
 
 /// The pieces of so many stripes divide an extent, where there are several: else `BadStripe`.

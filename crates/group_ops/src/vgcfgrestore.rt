@@ -1,8 +1,8 @@
 //! vgcfgrestore(8): its refusals, in their order, and its change, by what the text gives.
 ghost use Rattle.std.specs.Prelude.{◌≡◌, ◌≤◌, ◌||◌, ◌==◌, Some, IfOk, IsTrue, is_some, length};
-ghost use Rattle.lvm_script.specs.declared.op_refusal.OpRefusal.TheVariants.{MoveStands, SeqnoEnd};
-ghost use Rattle.vg_found.specs.Disks.{disks_of};
+ghost use Rattle.line_answers.specs.declared.op_refusal.OpRefusal.TheVariants.{MoveStands, SeqnoEnd};
 ghost use Rattle.volume_rules.specs.Moving.{has_move};
+ghost use Rattle.vg_found.specs.Disks.{disks_of};
 ghost use Rattle.group_edits.specs.RestoredGroup.{restored_group};
 ghost use Rattle.group_ops.specs.Committing.{change_where_found, rows_where_found, version_change_on};
 ghost use Rattle.group_ops.specs.Judging.{IsRefusedBy, Judges, first_refusal, refused_if};
@@ -20,7 +20,7 @@ use crate::stripes::judge_stripes;
 use crate::{Backup, Change, GroupState, PlanRefusal};
 use group_edits::restored_group;
 use id_index::Members;
-use lvm_script::OpRefusal;
+use line_answers::OpRefusal;
 use meta_model::Group;
 use sector_base::{PvDisks, Text};
 use seg_place::has_move;

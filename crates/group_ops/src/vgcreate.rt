@@ -2,7 +2,7 @@
 ghost use Rattle.std.specs.Prelude.{◌≡◌, ◌≤◌, ◌<◌, ◌%◌, ◌^◌, None, All, IfOk};
 ghost use Rattle.lvm_id.specs.LvmId.{IsId};
 ghost use Rattle.lvm_name.specs.Names.{group_name_refusal};
-ghost use Rattle.lvm_script.specs.declared.op_refusal.OpRefusal.TheVariants.{IdTaken};
+ghost use Rattle.line_answers.specs.declared.op_refusal.OpRefusal.TheVariants.{IdTaken};
 ghost use Rattle.group_ops.specs.Added.{IsAdded, disks_added};
 ghost use Rattle.group_ops.specs.Judging.{Judges, first_refusal, refused_if, stands_on_disk};
 ghost use Rattle.group_ops.specs.Planning.{Plans};
@@ -14,8 +14,8 @@ use crate::copied::{copied_bytes, group_name};
 use crate::judging::{MOST_PVS, judge_areas, judge_count, judge_sizes, judge_used, stands_on_disk};
 use crate::new_group::{commit, disks_with};
 use crate::{Added, Change, GroupState, PlanRefusal};
+use line_answers::OpRefusal;
 use lvm_id::LvmId;
-use lvm_script::OpRefusal;
 use meta_model::{Group, LvTable, PvTable, VgStatus};
 use sector_base::Text;
 use std::alloc::{AllocError, Global};

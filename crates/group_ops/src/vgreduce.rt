@@ -1,7 +1,7 @@
 //! vgreduce(8): its refusals, in their order, and its change.
 ghost use Rattle.std.specs.Prelude.{◌≡◌, ◌≤◌, ◌<◌, ◌==◌, Some, All, IfOk, length};
 ghost use Rattle.std.specs.List.{remove};
-ghost use Rattle.lvm_script.specs.declared.op_refusal.OpRefusal.TheVariants.{InUse, LastPv};
+ghost use Rattle.line_answers.specs.declared.op_refusal.OpRefusal.TheVariants.{InUse, LastPv};
 ghost use Rattle.group_edits.specs.ReducedGroup.{has_leg_on_pv};
 ghost use Rattle.group_ops.specs.Judging.{Judges, first_refusal, refused_if};
 ghost use Rattle.group_ops.specs.Planning.{Plans};
@@ -16,7 +16,7 @@ use crate::members::pv_named;
 use crate::vgextend::judge_group;
 use crate::{Change, GroupState, PlanRefusal};
 use group_edits::{has_leg_on_pv, reduced_group};
-use lvm_script::OpRefusal;
+use line_answers::OpRefusal;
 use meta_model::Group;
 use sector_base::{PvDisks, Text};
 use std::alloc::{AllocError, Global};

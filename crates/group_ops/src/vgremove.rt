@@ -9,7 +9,7 @@ use crate::committing::{judge_name, judge_write, unknown_group};
 use crate::copied::copied_bytes;
 use crate::judging::set_of;
 use crate::{Change, GroupState, Labels, PlanRefusal, Spans};
-use lvm_script::OpRefusal;
+use line_answers::OpRefusal;
 use meta_model::Group;
 use sector_base::{PvDisks, PvSet, Text};
 use std::alloc::Global;

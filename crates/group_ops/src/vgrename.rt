@@ -1,7 +1,7 @@
 //! vgrename(8): its refusals, in their order, and its change.
 ghost use Rattle.std.specs.Prelude.{◌≡◌, ◌<◌, None, Some, All};
 ghost use Rattle.lvm_name.specs.Names.{group_name_refusal};
-ghost use Rattle.lvm_script.specs.declared.op_refusal.OpRefusal.TheVariants.{NameTaken};
+ghost use Rattle.line_answers.specs.declared.op_refusal.OpRefusal.TheVariants.{NameTaken};
 ghost use Rattle.scan_rules.specs.Decision.{same_bytes};
 ghost use Rattle.group_edits.specs.RenamedGroup.{renamed_group};
 ghost use Rattle.group_ops.specs.Committing.{version_change};
@@ -17,7 +17,7 @@ use crate::copied::{copied_text, group_name};
 use crate::judging::judge_areas;
 use crate::{Change, GroupState, PlanRefusal};
 use group_edits::renamed_group;
-use lvm_script::OpRefusal;
+use line_answers::OpRefusal;
 use meta_model::Group;
 use sector_base::Text;
 use std::alloc::Global;

@@ -3,10 +3,12 @@ ghost use Rattle.std.specs.Prelude.{◌≡◌, [], ◌∷◌, codes, IfOk};
 ghost use Rattle.lvm_id.specs.LvmId.{IsId};
 ghost use Rattle.group_ops.specs.State.{IsState};
 
+use command_table::Command;
 use disk_contents::PvFound;
 use group_ops::{Backup, Change, GroupState, PlanRefusal, copied_header, plan, read_backup};
+use line_answers::DiskNames;
 use lvm_id::{LvmId, parse_plain};
-use lvm_script::{Command, DiskNames, Line};
+use lvm_script::Line;
 use pv_header::{Extent, Extents, PvHeader, PvRefusal};
 use sector_base::{PvDisks, Text};
 use std::alloc::{AllocError, Global};

@@ -8,18 +8,18 @@ use Rattle.std.proofs.lemmas.Bool.{cases_Bool, false≢true, or_cases, true≢fa
 use Rattle.std.proofs.lemmas.List.{length-map}
 use Rattle.std.proofs.lemmas.List.Elements.{All-cons, All-nil, recursion_from_All}
 use Rattle.std.proofs.lemmas.Option.{same_Some}
-use Rattle.extent_alloc.specs.declared.part.Part.{Part}
-use Rattle.lvm_script.specs.declared.command.Command.{Command}
-use Rattle.lvm_script.specs.declared.command.Command.TheVariants.{Lvcreate, Lvextend, Lvreduce, Lvremove, Lvrename, Pvcreate, Vgcfgrestore, Vgcreate, Vgextend, Vgreduce, Vgremove, Vgrename}
+use Rattle.command_table.specs.declared.command.Command.{Command}
+use Rattle.command_table.specs.declared.command.Command.TheVariants.{Lvcreate, Lvextend, Lvreduce, Lvremove, Lvrename, Pvcreate, Vgcfgrestore, Vgcreate, Vgextend, Vgreduce, Vgremove, Vgrename}
+use Rattle.pv_header.specs.declared.header.PvHeader.{PvHeader}
 use Rattle.meta_model.specs.declared.group.Group.{Group}
 use Rattle.meta_model.specs.declared.lv.Lv.{Lv}
 use Rattle.meta_model.specs.declared.pv.Pv.{Pv}
-use Rattle.pv_header.specs.declared.header.PvHeader.{PvHeader}
+use Rattle.volume_rules.specs.Rules.{IdsDiffer}
+use Rattle.volume_rules.specs.declared.rule.Rule.TheVariants.{Ids}
+use Rattle.extent_alloc.specs.declared.part.Part.{Part}
 use Rattle.scan_rules.specs.Decision.{Reading, has_id, lists, same_bytes}
 use Rattle.scan_rules.specs.Found.{is_missing}
 use Rattle.scan_rules.proofs.Scanning.{same_bytes_tells}
-use Rattle.volume_rules.specs.Rules.{IdsDiffer}
-use Rattle.volume_rules.specs.declared.rule.Rule.TheVariants.{Ids}
 use Rattle.vg_found.specs.declared.disk.Disk.{Disk}
 use Rattle.vg_found.specs.declared.found.Found.{Found}
 use Rattle.vg_found.specs.Disks.{disk_with, disks_of, header_on, shapes}
@@ -34,13 +34,13 @@ use Rattle.group_ops.specs.Planning.{IsPlanned, change_of, refusal_of}
 use Rattle.group_ops.specs.Vgreduce.{vgreduce_change}
 use Rattle.group_ops.specs.declared.state.Change.{Change}
 use Rattle.group_ops.specs.declared.state.GroupState.{GroupState}
+use Rattle.group_ops.specs.declared.backup.Backup.{Backup}
 use Rattle.vg_change.proofs.DiskSets.{of_set}
 use Rattle.image_scans.proofs.Again.{all_there}
 use Rattle.image_scans.proofs.CommitCommands.{none_missing_of, old_whole}
 use Rattle.image_scans.proofs.MadeGroup.{IsListedOn, MakesGroup}
 use Rattle.image_scans.proofs.Makes.{HasDisk, disk_found, not_missing}
 use Rattle.image_scans.proofs.SettledBase.{IsSettledScan}
-use Rattle.group_ops.specs.declared.backup.Backup.{Backup}
 
 abbrev Row : Type 0
 Row = List ℕ × Pv

@@ -7,46 +7,46 @@ use Rattle.std.specs.List.{AllByRecursion as Each, remove}
 use Rattle.std.proofs.lemmas.List.Elements.{All-from_recursion, recursion_from_All}
 use Rattle.std.specs.Option.{option_map_or, option_or}
 use Rattle.std.proofs.lemmas.Option.{same_Some}
+use Rattle.sector_base.specs.declared.spans.Span.{Span}
 use Rattle.lvm_id.specs.LvmId.{IsId}
 use Rattle.lvm_name.specs.Names.{group_name_refusal}
-use Rattle.lvm_script.specs.declared.op_refusal.OpRefusal.{OpRefusal}
-use Rattle.lvm_script.specs.declared.op_refusal.OpRefusal.TheVariants.{GroupStands, UnknownGroup}
+use Rattle.line_answers.specs.declared.op_refusal.OpRefusal.{OpRefusal}
+use Rattle.line_answers.specs.declared.op_refusal.OpRefusal.TheVariants.{GroupStands, UnknownGroup}
 use Rattle.meta_model.specs.Standing.{HasTree}
 use Rattle.meta_model.specs.declared.group.Group.{Group}
 use Rattle.meta_model.specs.declared.pv.Pv.{Pv}
+use Rattle.volume_rules.specs.Rules.{IsAccepted}
 use Rattle.scan_rules.specs.Decision.{Reading}
 use Rattle.scan_rules.specs.Found.{is_missing, missing_of}
-use Rattle.volume_rules.specs.Rules.{IsAccepted}
 use Rattle.vg_found.specs.declared.found.Found.{Found}
 use Rattle.vg_found.specs.Disks.{disk_with, disks_of, shapes}
 use Rattle.vg_found.specs.Shape.{HasShape}
 use Rattle.vg_found.specs.Whole.{IsWhole as FoundIsWhole}
 use Rattle.group_edits.proofs.Whole.{IsWhole}
+use Rattle.group_edits.proofs.ReducedRules.{all_without, map-remove}
+use Rattle.group_edits.specs.ReducedGroup.{reduced_group}
+use Rattle.group_edits.specs.NextVersion.{next_version}
 use Rattle.group_ops.proofs.Accepted.{created, next_is_whole}
 use Rattle.group_ops.proofs.NextVersions.{CommitsNext, version_is}
 use Rattle.group_ops.specs.Added.{added_of}
-use Rattle.group_edits.proofs.ReducedRules.{all_without, map-remove}
-use Rattle.group_edits.specs.ReducedGroup.{reduced_group}
 use Rattle.group_ops.proofs.Leaving.{LeavesNext}
 use Rattle.group_ops.specs.Committing.{version_change_on}
 use Rattle.group_ops.specs.Judging.{first_refusal, set_of}
-use Rattle.vg_change.proofs.Sound.{version_on}
 use Rattle.group_ops.specs.Laws.{state_in}
 use Rattle.group_ops.specs.NewGroup.{change_with, extended, text_row}
 use Rattle.group_ops.specs.State.{IsState}
 use Rattle.group_ops.specs.Vgcreate.{create_rows, empty_group, new_rows}
-use Rattle.group_edits.specs.NextVersion.{next_version}
 use Rattle.group_ops.specs.Vgextend.{extend_rows, found_rows}
 use Rattle.group_ops.specs.declared.state.Change.{Change}
 use Rattle.group_ops.specs.declared.state.GroupState.{GroupState}
 use Rattle.group_ops.proofs.Rows.{none_holds}
+use Rattle.group_ops.specs.declared.backup.Backup.{Backup}
+use Rattle.vg_change.proofs.Sound.{version_on}
 use Rattle.image_scans.proofs.Again.{all_there}
 use Rattle.image_scans.proofs.CommitScans.{IsNext}
-use Rattle.sector_base.specs.declared.spans.Span.{Span}
 use Rattle.image_scans.proofs.MadeGroup.{MakesGroup}
 use Rattle.image_scans.proofs.Makes.{makes_group}
 use Rattle.image_scans.proofs.SettledBase.{IsSettledScan, copy_tree, settled_none, settled_some}
-use Rattle.group_ops.specs.declared.backup.Backup.{Backup}
 
 -- the change commits this group, which is the next version or the first
 pub record Commits (found : Found) (state : GroupState) (change : Change) : Type 0 where

@@ -4,15 +4,15 @@ use Rattle.std.specs.Prelude.{IsSomeAnd, is_some, slice_get, unwrap_or}
 use Rattle.std.specs.Option.{option_map_or}
 use Rattle.std.proofs.lemmas.Bool.{ltb-false}
 use Rattle.std.proofs.lemmas.Option.{same_Some}
-use Rattle.disk_model.specs.Steps.{Image}
-use Rattle.extent_alloc.specs.declared.part.Part.{Part}
-use Rattle.lvm_script.specs.Options.{number_named}
-use Rattle.lvm_script.specs.declared.command.Command.{Command}
-use Rattle.lvm_script.specs.declared.command.Command.TheVariants.{Lvcreate, Lvextend, Lvreduce, Lvremove, Lvrename, Pvcreate, Vgcfgrestore, Vgcreate, Vgextend, Vgreduce, Vgremove, Vgrename}
+use Rattle.command_table.specs.Options.{number_named}
+use Rattle.command_table.specs.declared.command.Command.{Command}
+use Rattle.command_table.specs.declared.command.Command.TheVariants.{Lvcreate, Lvextend, Lvreduce, Lvremove, Lvrename, Pvcreate, Vgcfgrestore, Vgcreate, Vgextend, Vgreduce, Vgremove, Vgrename}
+use Rattle.line_answers.specs.declared.op_refusal.OpRefusal.{OpRefusal}
+use Rattle.line_answers.specs.declared.op_refusal.OpRefusal.TheVariants.{IdTaken, PvUsed, TooSmall, UnknownGroup, UnknownPv}
 use Rattle.lvm_script.specs.declared.line.Line.{Line}
-use Rattle.lvm_script.specs.declared.op_refusal.OpRefusal.{OpRefusal}
-use Rattle.lvm_script.specs.declared.op_refusal.OpRefusal.TheVariants.{IdTaken, PvUsed, TooSmall, UnknownGroup, UnknownPv}
+use Rattle.disk_model.specs.Steps.{Image}
 use Rattle.meta_model.specs.declared.group.Group.{Group}
+use Rattle.extent_alloc.specs.declared.part.Part.{Part}
 use Rattle.scan_rules.specs.Decision.{Reading}
 use Rattle.vg_found.specs.declared.disk.Disk.{Disk}
 use Rattle.vg_found.specs.declared.found.Found.{Found}
@@ -32,15 +32,15 @@ use Rattle.group_ops.specs.Vgreduce.{vgreduce_change}
 use Rattle.group_ops.specs.declared.state.Change.{Change}
 use Rattle.group_ops.specs.declared.state.GroupState.{GroupState}
 use Rattle.group_ops.proofs.Rows.{none_holds, test_fails}
-use Rattle.image_scans.specs.Laws.{CanCarryOut}
-use Rattle.image_scans.proofs.CommitCommands.{Commits, leaves_commits, next_commits, vgcreate_commits, vgextend_commits}
-use Rattle.image_scans.proofs.CommitLine.{is_state, settled}
-use Rattle.image_scans.proofs.SettledBase.{IsSettledScan}
 use Rattle.group_ops.specs.declared.backup.Backup.{Backup}
 use Rattle.group_ops.specs.declared.backup.Backup.TheVariants.{Sound}
 use Rattle.group_ops.proofs.Restoring.{Restores, restores, sound_tree}
 use Rattle.group_ops.specs.Backup.{IsBackup}
 use Rattle.group_ops.specs.Vgcfgrestore.{vgcfgrestore_change, vgcfgrestore_rows}
+use Rattle.image_scans.specs.Laws.{CanCarryOut}
+use Rattle.image_scans.proofs.CommitCommands.{Commits, leaves_commits, next_commits, vgcreate_commits, vgextend_commits}
+use Rattle.image_scans.proofs.CommitLine.{is_state, settled}
+use Rattle.image_scans.proofs.SettledBase.{IsSettledScan}
 use Rattle.image_scans.proofs.RestoredCommit.{restores_commits}
 
 -- a new physical volume on a disk that the group doesn't list, with an id that stands nowhere

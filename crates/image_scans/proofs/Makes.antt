@@ -6,16 +6,16 @@ use Rattle.std.specs.Option.{option_and_then}
 use Rattle.std.proofs.lemmas.Bool.{false≢true, true≢false, or_cases, or_left, or_right}
 use Rattle.std.proofs.lemmas.List.Elements.{All-append, All-from_recursion, All-map, recursion_from_All}
 use Rattle.std.proofs.lemmas.Option.{same_Some}
-use Rattle.lvm_script.specs.Options.{number_named}
+use Rattle.command_table.specs.Options.{number_named}
+use Rattle.pv_header.specs.declared.header.PvHeader.{PvHeader}
 use Rattle.meta_model.specs.declared.group.Group.{Group}
 use Rattle.meta_model.specs.declared.lv.Lv.{Lv}
 use Rattle.meta_model.specs.declared.pv.Pv.{Pv}
-use Rattle.pv_header.specs.declared.header.PvHeader.{PvHeader}
-use Rattle.disk_contents.specs.declared.contents.PvFound.{PvFound}
-use Rattle.disk_contents.specs.declared.contents.PvFound.TheVariants.{NoLabel, NoHeader, Whole}
 use Rattle.scan_rules.specs.Decision.{Found as PvOf, has_id, same_bytes}
 use Rattle.scan_rules.specs.Found.{is_missing}
 use Rattle.scan_rules.proofs.Scanning.{same_bytes_tells, same_bytes_to}
+use Rattle.disk_contents.specs.declared.contents.PvFound.{PvFound}
+use Rattle.disk_contents.specs.declared.contents.PvFound.TheVariants.{NoLabel, NoHeader, Whole}
 use Rattle.vg_found.specs.declared.disk.Disk.{Disk}
 use Rattle.vg_found.specs.Disks.{disk_shape, disk_with, disks_of, has_header_id, header_on, pv_shape, shapes}
 use Rattle.vg_found.proofs.KeptLists.{all_kept}

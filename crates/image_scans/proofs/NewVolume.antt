@@ -2,14 +2,14 @@
 use Rattle.std.proofs.Common.{◌≡◌, ◌<◌, ℕ, ◌^◌, refl, Option, List, [], ◌∷◌, Some, None, sym, ap, subst, ◌∙◌}
 use Rattle.std.specs.Prelude.{option_map, slice_index}
 use Rattle.std.specs.Option.{option_map_or}
-use Rattle.extent_alloc.specs.declared.part.Part.{Part}
+use Rattle.sector_base.specs.declared.spans.Span.{Span}
 use Rattle.lvm_id.specs.LvmId.{IsId}
-use Rattle.lvm_script.specs.declared.command.NewVolume.{NewVolume}
-use Rattle.lvm_script.specs.declared.op_refusal.OpRefusal.TheVariants.{UnknownGroup}
+use Rattle.command_table.specs.declared.command.NewVolume.{NewVolume}
+use Rattle.line_answers.specs.declared.op_refusal.OpRefusal.TheVariants.{UnknownGroup}
 use Rattle.meta_model.specs.Standing.{HasTree}
 use Rattle.meta_model.specs.declared.group.Group.{Group}
-use Rattle.sector_base.specs.declared.spans.Span.{Span}
 use Rattle.volume_rules.specs.Rules.{IsAccepted}
+use Rattle.extent_alloc.specs.declared.part.Part.{Part}
 use Rattle.vg_found.specs.Disks.{disks_of}
 use Rattle.vg_found.specs.Shape.{HasShape}
 use Rattle.vg_found.specs.Whole.{IsWhole}
@@ -25,10 +25,10 @@ use Rattle.group_ops.specs.Lvcreate.{IsNewVolume, create_asks, create_in_rows, e
 use Rattle.group_ops.specs.State.{IsState}
 use Rattle.group_ops.specs.declared.state.Change.{Change}
 use Rattle.group_ops.specs.declared.state.GroupState.{GroupState}
+use Rattle.group_ops.specs.declared.backup.Backup.{Backup}
 use Rattle.image_scans.specs.Laws.{IsFree, ZeroesLie, in_spans}
 use Rattle.image_scans.proofs.NewPlaces.{first_free}
 use Rattle.image_scans.proofs.NoWrites.{found_listed, found_placed, found_there}
-use Rattle.group_ops.specs.declared.backup.Backup.{Backup}
 
 pub new_lie : (found : Found) (names : List (List ℕ)) (backup : Option Backup) (id : List ℕ) (new : NewVolume) (now : ℕ) (given : List Part) → HasShape found → IsWhole found → IsState (state_in found names backup)
     → ((group : Group) → found.group ≡ Some group → IsAccepted group × HasTree group) → IsNewVolume new → now < 2 ^ 48 → IsId id → Takes (option_map (create_asks (state_in found names backup) id new) found.group) given

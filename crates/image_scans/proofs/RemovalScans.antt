@@ -6,14 +6,20 @@ use Rattle.std.specs.Ordering.{nat_cmp}
 use Rattle.std.specs.FinSet as set
 use Rattle.std.proofs.lemmas.Bool.{cases_Bool, or_left, true≢false}
 use Rattle.std.proofs.lemmas.Option.{same_Some}
+use Rattle.command_table.specs.declared.command.Command.{Command}
+use Rattle.command_table.specs.declared.command.Command.TheVariants.{Vgremove}
+use Rattle.line_answers.specs.declared.op_refusal.OpRefusal.{OpRefusal}
+use Rattle.line_answers.specs.declared.op_refusal.OpRefusal.TheVariants.{UnknownGroup}
+use Rattle.lvm_script.specs.declared.line.Line.{Line}
 use Rattle.disk_model.specs.Steps.{Image}
-use Rattle.disk_batch.specs.InTurn.{HasFirstBatches, with_batches}
 use Rattle.mda_header.specs.declared.header.Locn.{Locn}
 use Rattle.mda_ring.specs.declared.area.Area.{Area}
 use Rattle.meta_model.specs.declared.group.Group.{Group}
+use Rattle.extent_alloc.specs.declared.part.Part.{Part}
 use Rattle.scan_rules.specs.Decision.{Area as AreaOf, AreaReading, Copy, Found as PvOf, GivesNoLater, HasShape as IsShaped, Held, HoldsNone, NoGroup, Reading, Refused, SameHeaders, ScanAnswer, decide_scan, gives, holds, is_held, is_listed, is_something, lists}
 use Rattle.scan_rules.specs.Found.{missing_of}
 use Rattle.scan_rules.proofs.SameShape.{same_shape}
+use Rattle.disk_batch.specs.InTurn.{HasFirstBatches, with_batches}
 use Rattle.vg_found.specs.declared.disk.Disk.{Disk}
 use Rattle.vg_found.specs.declared.found.Found.{Found}
 use Rattle.vg_found.specs.Disks.{disk_with, disks_of, held_areas, shapes}
@@ -27,17 +33,13 @@ use Rattle.group_ops.specs.Laws.{state_in}
 use Rattle.group_ops.specs.Planning.{change_of, refusal_of as line_refusal}
 use Rattle.group_ops.specs.Vgremove.{remove_rows}
 use Rattle.group_ops.specs.declared.state.GroupState.{GroupState}
-use Rattle.extent_alloc.specs.declared.part.Part.{Part}
-use Rattle.lvm_script.specs.declared.command.Command.{Command}
-use Rattle.lvm_script.specs.declared.command.Command.TheVariants.{Vgremove}
-use Rattle.lvm_script.specs.declared.line.Line.{Line}
-use Rattle.lvm_script.specs.declared.op_refusal.OpRefusal.{OpRefusal}
-use Rattle.lvm_script.specs.declared.op_refusal.OpRefusal.TheVariants.{UnknownGroup}
+use Rattle.group_ops.proofs.Disks.{disk_with_own}
+use Rattle.group_ops.specs.declared.backup.Backup.{Backup}
 use Rattle.vg_change.proofs.ClearedAreas.{state_scanned}
-use Rattle.image_scans.proofs.CommitLine.{all_written, is_state, settled}
 use Rattle.vg_change.specs.Batches.{clear_batches, clears_of}
 use Rattle.vg_change.specs.Building.{AreScanned}
 use Rattle.vg_change.specs.Laws.{ClearsImages, ShowsEntries}
+use Rattle.image_scans.proofs.CommitLine.{all_written, is_state, settled}
 use Rattle.image_scans.specs.Laws.{CanCarryOut, none_out}
 use Rattle.image_scans.specs.Versions.{FindsVersion, Version, version_in}
 use Rattle.image_scans.proofs.Again.{AreasAgain, DisksAgain, Finds, GivesAgain, PvAgain, again_give, again_headers, finds_newest, missing_same}
@@ -49,9 +51,7 @@ use Rattle.image_scans.proofs.DiskAgain.{AllAgain, IsThereAt, PvMayBeRefused, al
 use Rattle.image_scans.proofs.Given.{AreasGive, DisksGive, GivenHas, IsNone, IsSettled, PvGives, copies_none, disks_weaker, refusals_none}
 use Rattle.image_scans.proofs.ReadingShapes.{readings_shaped}
 use Rattle.image_scans.proofs.SettledBase.{IsNoneOr, IsSettledScan, settled_none, settled_some}
-use Rattle.group_ops.proofs.Disks.{disk_with_own}
 use Rattle.image_scans.proofs.RemovalEnds.{disk_among, disk_emptied, disk_read, listed_header, none_held, pv_emptied, read_before}
-use Rattle.group_ops.specs.declared.backup.Backup.{Backup}
 
 -- ---- what was found is all that an area may give
 

@@ -8,13 +8,10 @@ use Rattle.std.proofs.lemmas.Option.{same_Some}
 use Rattle.sector_base.specs.Spans.{covers}
 use Rattle.sector_base.specs.declared.places.At.{At}
 use Rattle.sector_base.specs.declared.spans.Span.{Span}
-use Rattle.disk_batch.specs.InTurn.{HasFirstBatches, with_batches, with_writes, written_on}
-use Rattle.disk_batch.proofs.FrontBatches.{KeepsSector, front_kept}
-use Rattle.disk_model.specs.Steps.{Image, value_at}
-use Rattle.extent_alloc.specs.declared.part.Part.{Part}
-use Rattle.lvm_script.specs.declared.command.Command.{Command}
-use Rattle.lvm_script.specs.declared.command.Command.TheVariants.{Lvcreate, Lvextend, Lvreduce, Lvremove, Lvrename, Pvcreate, Vgcfgrestore, Vgcreate, Vgextend, Vgreduce, Vgremove, Vgrename}
+use Rattle.command_table.specs.declared.command.Command.{Command}
+use Rattle.command_table.specs.declared.command.Command.TheVariants.{Lvcreate, Lvextend, Lvreduce, Lvremove, Lvrename, Pvcreate, Vgcfgrestore, Vgcreate, Vgextend, Vgreduce, Vgremove, Vgrename}
 use Rattle.lvm_script.specs.declared.line.Line.{Line}
+use Rattle.disk_model.specs.Steps.{Image, value_at}
 use Rattle.mda_header.specs.declared.header.Locn.{Locn}
 use Rattle.mda_ring.specs.declared.area.Area.{Area}
 use Rattle.mda_ring.proofs.SpanLaws.{covers_tells}
@@ -23,11 +20,15 @@ use Rattle.meta_model.specs.declared.group.Group.{Group}
 use Rattle.volume_rules.specs.Rules.{IsAccepted}
 use Rattle.volume_view.specs.Places.{primary}
 use Rattle.volume_view.specs.View.{at_place}
+use Rattle.extent_alloc.specs.declared.part.Part.{Part}
+use Rattle.disk_batch.specs.InTurn.{HasFirstBatches, with_batches, with_writes, written_on}
+use Rattle.disk_batch.proofs.FrontBatches.{KeepsSector, front_kept}
 use Rattle.vg_found.specs.declared.found.Found.{Found}
 use Rattle.vg_found.specs.Disks.{disks_of}
 use Rattle.vg_found.specs.Shape.{HasShape}
 use Rattle.vg_found.specs.Whole.{IsWhole}
 use Rattle.vg_scan.specs.Scans.{IsScanOf}
+use Rattle.vg_commit.specs.Showing.{Names}
 use Rattle.group_ops.proofs.NextVersions.{drawn_is, zeroes}
 use Rattle.group_ops.proofs.NoZeros.{none_zeroed}
 use Rattle.group_ops.specs.Laws.{state_in}
@@ -35,9 +36,9 @@ use Rattle.group_ops.specs.Allocating.{Takes}
 use Rattle.group_ops.specs.Planning.{IsPlanned, asks_of, change_of, refusal_of}
 use Rattle.group_ops.specs.State.{IsState}
 use Rattle.group_ops.specs.declared.state.Change.{Change}
+use Rattle.group_ops.specs.declared.backup.Backup.{Backup}
 use Rattle.vg_change.specs.Batches.{batch_if, batches_of, zero_put, zeros_of}
 use Rattle.vg_change.specs.Laws.{ShowsEntries}
-use Rattle.vg_commit.specs.Showing.{Names}
 use Rattle.image_scans.specs.Laws.{CanCarryOut, LiesInExtents, ZeroesLie, in_spans}
 use Rattle.image_scans.proofs.BesideAreas.{beside_areas}
 use Rattle.image_scans.proofs.BesideScan.{scan_kept}
@@ -48,7 +49,6 @@ use Rattle.image_scans.proofs.Front.{any_if, front_or, written_of}
 use Rattle.image_scans.proofs.NewVolume.{new_lie}
 use Rattle.image_scans.proofs.NoWrites.{extent_outside, found_listed, found_placed, found_there}
 use Rattle.image_scans.proofs.Placed.{IsPlaceOn, extent_beside}
-use Rattle.group_ops.specs.declared.backup.Backup.{Backup}
 
 -- ---- writes of zeros
 

@@ -5,20 +5,20 @@ use Rattle.std.specs.List.{enumerate_from, list_any, range_with_len}
 use Rattle.sector_base.specs.Spans.{covers}
 use Rattle.sector_base.specs.declared.places.At.{At}
 use Rattle.sector_base.specs.declared.spans.Span.{Span}
-use Rattle.disk_batch.specs.InTurn.{HasFirstBatches, Put, with_batches}
-use Rattle.disk_batch.specs.Writes.{write_work}
+use Rattle.command_table.specs.Values.{is_disk_name}
+use Rattle.command_table.specs.declared.command.Command.TheVariants.{Vgremove}
+use Rattle.lvm_script.specs.declared.line.Line.{Line}
 use Rattle.disk_model.specs.Steps.{Image}
 use Rattle.disk_model.specs.Submitting.{writes_at}
-use Rattle.extent_alloc.specs.declared.part.Part.{Part}
-use Rattle.lvm_script.specs.Values.{is_disk_name}
-use Rattle.lvm_script.specs.declared.command.Command.TheVariants.{Vgremove}
-use Rattle.lvm_script.specs.declared.line.Line.{Line}
 use Rattle.meta_model.specs.declared.group.Group.{Group}
 use Rattle.meta_model.specs.declared.lv.Lv.{Lv}
 use Rattle.meta_model.specs.declared.pv.Pv.{Pv}
 use Rattle.volume_rules.specs.Extents.{extents_of}
 use Rattle.volume_view.specs.Places.{primary}
 use Rattle.volume_view.specs.View.{at_place, view}
+use Rattle.extent_alloc.specs.declared.part.Part.{Part}
+use Rattle.disk_batch.specs.InTurn.{HasFirstBatches, Put, with_batches}
+use Rattle.disk_batch.specs.Writes.{write_work}
 use Rattle.vg_found.specs.Shape.{HasShape}
 use Rattle.vg_found.specs.Whole.{IsWhole}
 use Rattle.vg_found.specs.declared.found.Found.{Found}
@@ -28,10 +28,10 @@ use Rattle.group_ops.specs.Laws.{state_in}
 use Rattle.group_ops.specs.Planning.{IsBackupOf, IsPlanned, asks_of, change_of, refusal_of}
 use Rattle.group_ops.specs.declared.state.Change.{Change}
 use Rattle.group_ops.specs.declared.state.NewLabel.{NewLabel}
+use Rattle.group_ops.specs.declared.backup.Backup.{Backup}
 use Rattle.vg_change.specs.Batches.{batches_of, clears_of, zeros_of}
 use Rattle.vg_change.specs.CarryingOut.{KeepsImages}
 use Rattle.image_scans.specs.Versions.{FindsVersion, Version, version_in}
-use Rattle.group_ops.specs.declared.backup.Backup.{Backup}
 
 -- what was found of this image is whole, and nothing is stale or stray on its disks, which have these names; the backup is what
 -- the line's text gives, if it restores a group; the line takes these parts, no row refuses it with them at this time, and it

@@ -3,24 +3,26 @@ use Rattle.std.proofs.Common.{◌≡◌, ℕ, zero, suc, ◌+◌, ◌*◌, List,
 use Rattle.std.specs.Prelude.{IfSome, IsSomeAnd, option_map, slice_get, slice_index, unwrap_or}
 use Rattle.std.specs.Option.{option_map_or}
 use Rattle.std.proofs.lemmas.Option.{same_Some}
-use Rattle.disk_model.specs.Steps.{Image}
-use Rattle.extent_alloc.specs.declared.part.Part.{Part}
-use Rattle.lvm_script.specs.declared.amount.Amount.{Amount}
-use Rattle.lvm_script.specs.declared.amount.Growth.{Growth}
-use Rattle.lvm_script.specs.declared.command.Command.{Command}
-use Rattle.lvm_script.specs.declared.command.Command.TheVariants.{Lvcreate, Lvextend, Lvreduce, Lvremove, Lvrename, Pvcreate, Vgcfgrestore, Vgcreate, Vgextend, Vgreduce, Vgremove, Vgrename}
-use Rattle.lvm_script.specs.declared.command.NewVolume.{NewVolume}
-use Rattle.lvm_script.specs.declared.command.Path.{Path}
+use Rattle.std.specs.List.{remove}
+use Rattle.std.proofs.lemmas.Option.{slice_get-map}
+use Rattle.command_table.specs.declared.amount.Amount.{Amount}
+use Rattle.command_table.specs.declared.amount.Growth.{Growth}
+use Rattle.command_table.specs.declared.command.Command.{Command}
+use Rattle.command_table.specs.declared.command.Command.TheVariants.{Lvcreate, Lvextend, Lvreduce, Lvremove, Lvrename, Pvcreate, Vgcfgrestore, Vgcreate, Vgextend, Vgreduce, Vgremove, Vgrename}
+use Rattle.command_table.specs.declared.command.NewVolume.{NewVolume}
+use Rattle.command_table.specs.declared.command.Path.{Path}
+use Rattle.line_answers.specs.declared.op_refusal.OpRefusal.{OpRefusal}
+use Rattle.line_answers.specs.declared.op_refusal.OpRefusal.TheVariants.{GroupStands, UnknownGroup, UnknownVolume}
 use Rattle.lvm_script.specs.declared.line.Line.{Line}
-use Rattle.lvm_script.specs.declared.op_refusal.OpRefusal.{OpRefusal}
-use Rattle.lvm_script.specs.declared.op_refusal.OpRefusal.TheVariants.{GroupStands, UnknownGroup, UnknownVolume}
+use Rattle.disk_model.specs.Steps.{Image}
 use Rattle.meta_model.specs.Standing.{HasTree}
 use Rattle.meta_model.specs.declared.group.Group.{Group}
 use Rattle.meta_model.specs.declared.lv.Lv.{Lv}
 use Rattle.meta_model.specs.declared.pv.Pv.{Pv}
-use Rattle.scan_rules.specs.Decision.{Reading}
 use Rattle.volume_rules.specs.Extents.{extents_of}
 use Rattle.volume_rules.specs.Rules.{IsAccepted}
+use Rattle.extent_alloc.specs.declared.part.Part.{Part}
+use Rattle.scan_rules.specs.Decision.{Reading}
 use Rattle.vg_found.specs.declared.found.Found.{Found}
 use Rattle.vg_found.specs.Disks.{disk_with, disks_of}
 use Rattle.vg_found.specs.Shape.{HasShape}
@@ -36,6 +38,8 @@ use Rattle.group_edits.specs.RenamedGroup.{renamed_group}
 use Rattle.group_edits.specs.RenamedVolume.{renamed_volume}
 use Rattle.group_edits.specs.ShortenedVolume.{shortened, shortened_volume}
 use Rattle.group_edits.specs.Visible.{visible_named}
+use Rattle.group_edits.specs.ReducedGroup.{has_leg_on_pv, reduced_group as without_pv}
+use Rattle.group_edits.specs.RestoredGroup.{restored_group}
 use Rattle.group_ops.specs.Added.{added_of, disks_added, pv_of}
 use Rattle.group_ops.specs.Allocating.{Takes}
 use Rattle.group_ops.specs.Committing.{named_rows, no_change, version_change}
@@ -56,6 +60,11 @@ use Rattle.group_ops.specs.Volumes.{rows_on}
 use Rattle.group_ops.specs.declared.added.Added.{Added}
 use Rattle.group_ops.specs.declared.state.Change.{Change}
 use Rattle.group_ops.specs.declared.state.GroupState.{GroupState}
+use Rattle.group_ops.proofs.Leaving.{LeavesNext, leaves_next}
+use Rattle.group_ops.specs.Vgreduce.{vgreduce_change}
+use Rattle.group_ops.specs.declared.backup.Backup.{Backup}
+use Rattle.group_ops.proofs.Restoring.{Restores, restores, sound_tree}
+use Rattle.group_ops.specs.Vgcfgrestore.{vgcfgrestore_change}
 use Rattle.image_scans.specs.Laws.{CanCarryOut, version_of}
 use Rattle.image_scans.specs.Versions.{Version, version_in}
 use Rattle.image_scans.proofs.CommitLine.{settled}
@@ -68,16 +77,7 @@ use Rattle.line_history.proofs.LongerVolumes.{create_changes, extend_changes}
 use Rattle.line_history.proofs.RemovedVolumes.{volumes_removed}
 use Rattle.line_history.proofs.RenamedVolumes.{named_in, volumes_renamed}
 use Rattle.line_history.proofs.ShortenedVolumes.{volumes_shortened}
-use Rattle.std.specs.List.{remove}
-use Rattle.std.proofs.lemmas.Option.{slice_get-map}
-use Rattle.group_edits.specs.ReducedGroup.{has_leg_on_pv, reduced_group as without_pv}
-use Rattle.group_ops.proofs.Leaving.{LeavesNext, leaves_next}
-use Rattle.group_ops.specs.Vgreduce.{vgreduce_change}
 use Rattle.line_history.proofs.LeftVolumes.{volumes_left}
-use Rattle.group_ops.specs.declared.backup.Backup.{Backup}
-use Rattle.group_edits.specs.RestoredGroup.{restored_group}
-use Rattle.group_ops.proofs.Restoring.{Restores, restores, sound_tree}
-use Rattle.group_ops.specs.Vgcfgrestore.{vgcfgrestore_change}
 use Rattle.line_history.proofs.ReadBackups.{some_backup}
 use Rattle.line_history.proofs.RestoredVolumes.{restore_changes}
 

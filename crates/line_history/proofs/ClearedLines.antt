@@ -1,18 +1,18 @@
 -- A line that commits a group, and then clears the disks that the group lets go: its commit was made once its batches were written.
 use Rattle.std.proofs.Common.{◌≡◌, ◌≤◌, ◌⊎◌, ℕ, Bool, false, List, length, Option, Some, None, inl, inr, ⊎_elim, refl, sym, subst, ◌∙◌, arith}
+use Rattle.command_table.specs.declared.command.Command.{Command}
+use Rattle.command_table.specs.declared.command.Command.TheVariants.{Vgreduce, Vgremove}
 use Rattle.disk_model.specs.CrashValues.{IsImage}
 use Rattle.disk_model.specs.Moments.{at_moment}
 use Rattle.disk_model.specs.Steps.{Image, Told}
+use Rattle.meta_model.specs.declared.group.Group.{Group}
 use Rattle.group_ops.proofs.NextVersions.{zeroes}
 use Rattle.group_ops.proofs.NoClears.{clears}
+use Rattle.vg_repair.specs.Repaired.{repaired_of}
 use Rattle.image_scans.proofs.ClearScans.{clears_scan}
 use Rattle.image_scans.specs.Laws.{none_out, version_of}
 use Rattle.image_scans.specs.Versions.{FindsVersion, Version, version_in}
-use Rattle.lvm_script.specs.declared.command.Command.{Command}
-use Rattle.lvm_script.specs.declared.command.Command.TheVariants.{Vgreduce, Vgremove}
-use Rattle.meta_model.specs.declared.group.Group.{Group}
 use Rattle.repair_scans.specs.Laws.{RepairedScans}
-use Rattle.vg_repair.specs.Repaired.{repaired_of}
 use Rattle.volume_history.proofs.Reshaped.{zeroes_stand}
 use Rattle.volume_history.specs.Changing.{ChangesVolumes}
 use Rattle.volume_history.specs.Chronicles.{now_at, origin_at}

@@ -3,28 +3,28 @@ use Rattle.std.proofs.Common.{◌≡◌, ℕ, ◌-◌, Bool, true, List, [], len
 use Rattle.std.proofs.lemmas.Bool.{true≢false}
 use Rattle.std.specs.Prelude.{is_some, option_map}
 use Rattle.std.proofs.lemmas.Option.{same_Some}
-use Rattle.disk_batch.specs.InTurn.{HasFirstBatches, Put, with_batches}
+use Rattle.command_table.specs.Options.{Word}
+use Rattle.command_table.specs.declared.command.Command.{Command}
+use Rattle.command_table.specs.declared.command.Command.TheVariants.{Vgremove}
 use Rattle.disk_model.specs.Moments.{at_moment}
 use Rattle.disk_model.specs.CrashValues.{IsImage}
 use Rattle.disk_model.specs.Durability.{IsBase}
 use Rattle.disk_model.specs.Steps.{Image, Told}
+use Rattle.meta_model.specs.declared.group.Group.{Group}
+use Rattle.disk_batch.specs.InTurn.{HasFirstBatches, Put, with_batches}
+use Rattle.vg_scan.specs.Scans.{IsScanOf}
 use Rattle.group_ops.specs.Laws.{state_in}
 use Rattle.group_ops.specs.Planning.{change_of}
 use Rattle.group_ops.specs.declared.state.Change.{Change}
 use Rattle.group_ops.specs.declared.state.GroupState.{GroupState}
+use Rattle.vg_change.specs.Batches.{batches_of}
+use Rattle.vg_repair.proofs.RepairedSizes.{repaired_count}
+use Rattle.vg_repair.specs.Repaired.{repaired_of}
 use Rattle.image_scans.proofs.ClearScans.{clears_scan}
 use Rattle.image_scans.proofs.CommitLine.{all_written}
 use Rattle.image_scans.specs.Laws.{CanCarryOut, none_out, version_of}
 use Rattle.image_scans.specs.Versions.{FindsVersion, Version}
-use Rattle.lvm_script.specs.Options.{Word}
-use Rattle.lvm_script.specs.declared.command.Command.{Command}
-use Rattle.lvm_script.specs.declared.command.Command.TheVariants.{Vgremove}
-use Rattle.meta_model.specs.declared.group.Group.{Group}
 use Rattle.repair_scans.specs.Laws.{RepairedScans}
-use Rattle.vg_change.specs.Batches.{batches_of}
-use Rattle.vg_repair.proofs.RepairedSizes.{repaired_count}
-use Rattle.vg_repair.specs.Repaired.{repaired_of}
-use Rattle.vg_scan.specs.Scans.{IsScanOf}
 use Rattle.volume_history.proofs.CommandKinds.{created_quiet}
 use Rattle.volume_history.specs.Commands.{commits}
 use Rattle.volume_history.specs.Laws.{ScansAreOne}

@@ -7,18 +7,18 @@ use Rattle.std.specs.Option.{option_map_or}
 use Rattle.std.proofs.lemmas.Bool.{false_from_ne_true, true≢false}
 use Rattle.std.proofs.lemmas.List.Elements.{All-from_recursion}
 use Rattle.std.proofs.lemmas.Option.{same_Some}
+use Rattle.command_table.specs.declared.command.Command.{Command}
+use Rattle.command_table.specs.declared.command.Command.TheVariants.{Lvcreate, Lvextend, Lvreduce, Lvremove, Lvrename, Pvcreate, Vgcfgrestore, Vgcreate, Vgextend, Vgreduce, Vgremove, Vgrename}
+use Rattle.line_answers.specs.declared.op_refusal.OpRefusal.{OpRefusal}
+use Rattle.line_answers.specs.declared.op_refusal.OpRefusal.TheVariants.{GroupStands}
+use Rattle.lvm_script.specs.declared.line.Line.{Line}
 use Rattle.disk_model.specs.Steps.{Image}
+use Rattle.pv_header.specs.declared.header.PvHeader.{PvHeader}
+use Rattle.meta_model.specs.declared.group.Group.{Group}
+use Rattle.extent_alloc.specs.declared.part.Part.{Part}
+use Rattle.scan_rules.specs.Decision.{AreaReading, Copy, Found as PvOf, HoldsNone, Reading, Refused, is_listed, is_something, lists}
 use Rattle.disk_contents.specs.declared.contents.PvFound.{PvFound}
 use Rattle.disk_contents.specs.declared.contents.PvFound.TheVariants.{NoLabel, NoHeader, Whole}
-use Rattle.extent_alloc.specs.declared.part.Part.{Part}
-use Rattle.lvm_script.specs.declared.command.Command.{Command}
-use Rattle.lvm_script.specs.declared.command.Command.TheVariants.{Lvcreate, Lvextend, Lvreduce, Lvremove, Lvrename, Pvcreate, Vgcfgrestore, Vgcreate, Vgextend, Vgreduce, Vgremove, Vgrename}
-use Rattle.lvm_script.specs.declared.line.Line.{Line}
-use Rattle.lvm_script.specs.declared.op_refusal.OpRefusal.{OpRefusal}
-use Rattle.lvm_script.specs.declared.op_refusal.OpRefusal.TheVariants.{GroupStands}
-use Rattle.meta_model.specs.declared.group.Group.{Group}
-use Rattle.pv_header.specs.declared.header.PvHeader.{PvHeader}
-use Rattle.scan_rules.specs.Decision.{AreaReading, Copy, Found as PvOf, HoldsNone, Reading, Refused, is_listed, is_something, lists}
 use Rattle.vg_found.specs.Disks.{disk_with, disks_of, header_on}
 use Rattle.vg_found.specs.Shape.{HasShape}
 use Rattle.vg_found.specs.declared.disk.Disk.{Disk}

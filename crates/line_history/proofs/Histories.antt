@@ -3,32 +3,32 @@ use Rattle.std.proofs.Common.{◌≡◌, ℕ, zero, ◌+◌, ◌-◌, Bool, true
 use Rattle.std.specs.Prelude.{flat_map, is_some}
 use Rattle.std.proofs.lemmas.Bool.{cases_lt, true≢false}
 use Rattle.sector_base.specs.declared.spans.Span.{Span}
-use Rattle.disk_batch.specs.InTurn.{Put, WritesInTurn}
+use Rattle.command_table.specs.Options.{Word}
+use Rattle.command_table.specs.declared.command.Command.{Command}
+use Rattle.command_table.specs.declared.command.Command.TheVariants.{Lvcreate, Lvextend, Lvreduce, Lvremove, Lvrename, Pvcreate, Vgcfgrestore, Vgcreate, Vgextend, Vgreduce, Vgremove, Vgrename}
+use Rattle.line_answers.specs.declared.answer.Answer.{Answer}
+use Rattle.line_answers.specs.declared.answer.Answer.TheVariants as answer
+use Rattle.line_answers.specs.declared.op_refusal.OpRefusal.{OpRefusal}
+use Rattle.lvm_script.specs.declared.line.Line.{Line}
 use Rattle.disk_model.proofs.StepsSince.{steps_joined}
 use Rattle.disk_model.specs.Order.{WritesNothing}
 use Rattle.disk_model.specs.Since.{writes_submitted}
 use Rattle.disk_model.specs.Steps.{Told, steps_on}
+use Rattle.meta_model.specs.declared.group.Group.{Group}
 use Rattle.extent_alloc.specs.declared.part.Part.{Part}
+use Rattle.disk_batch.specs.InTurn.{Put, WritesInTurn}
 use Rattle.group_ops.proofs.NoClears.{clears}
 use Rattle.group_ops.specs.Laws.{state_in}
 use Rattle.group_ops.specs.Planning.{IsPlanned, change_of}
 use Rattle.group_ops.specs.declared.state.GroupState.{GroupState}
-use Rattle.lvm_script.specs.Options.{Word}
-use Rattle.lvm_script.specs.declared.answer.Answer.{Answer}
-use Rattle.lvm_script.specs.declared.answer.Answer.TheVariants as answer
-use Rattle.lvm_script.specs.declared.command.Command.{Command}
-use Rattle.lvm_script.specs.declared.command.Command.TheVariants.{Lvcreate, Lvextend, Lvreduce, Lvremove, Lvrename, Pvcreate, Vgcfgrestore, Vgcreate, Vgextend, Vgreduce, Vgremove, Vgrename}
-use Rattle.lvm_script.specs.declared.line.Line.{Line}
-use Rattle.lvm_script.specs.declared.op_refusal.OpRefusal.{OpRefusal}
-use Rattle.image_scans.specs.Versions.{version_in}
-use Rattle.meta_model.specs.declared.group.Group.{Group}
-use Rattle.repair_scans.specs.Laws.{RepairedScans}
+use Rattle.vg_change.specs.Batches.{batch_if, zero_put}
 use Rattle.vg_repair.proofs.RepairedSizes.{repaired_count}
 use Rattle.vg_repair.specs.Repaired.{repaired_of}
+use Rattle.image_scans.specs.Versions.{version_in}
+use Rattle.repair_scans.specs.Laws.{RepairedScans}
 use Rattle.volume_history.proofs.SingleLines.{done_commit, done_create, failed_create, fenced_commit, made_commit, no_line, undone_line}
 use Rattle.volume_history.specs.Chronicles.{Entry, Origin, pending}
 use Rattle.volume_history.specs.Laws.{Tells}
-use Rattle.vg_change.specs.Batches.{batch_if, zero_put}
 use Rattle.volume_history.specs.Commands.{created_disk, is_created_at, is_data, is_good, is_wait, may_say, removes}
 use Rattle.volume_history.specs.Runs.{journal_of, lines_of}
 use Rattle.volume_history.specs.Single.{LeavesAll, LeavesDisk, MayEnd as MayFollow, answered_entries, done_entries, made_entries, taken_entries}

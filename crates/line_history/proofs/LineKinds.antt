@@ -5,22 +5,23 @@ use Rattle.std.specs.List.{list_any, AllByRecursion as Each}
 use Rattle.std.specs.Option.{option_and_then, option_map_or}
 use Rattle.std.specs.Str.{bytes_eq}
 use Rattle.std.proofs.lemmas.Option.{same_Some}
-use Rattle.extent_alloc.specs.declared.part.Part.{Part}
-use Rattle.lvm_script.specs.Options.{Word, number_named}
-use Rattle.lvm_script.specs.declared.command.Command.{Command}
-use Rattle.lvm_script.specs.declared.command.Command.TheVariants.{Lvcreate, Lvextend, Lvreduce, Lvremove, Lvrename, Pvcreate, Vgcfgrestore, Vgcreate, Vgextend, Vgreduce, Vgremove, Vgrename}
+use Rattle.command_table.specs.Options.{Word, number_named}
+use Rattle.command_table.specs.declared.command.Command.{Command}
+use Rattle.command_table.specs.declared.command.Command.TheVariants.{Lvcreate, Lvextend, Lvreduce, Lvremove, Lvrename, Pvcreate, Vgcfgrestore, Vgcreate, Vgextend, Vgreduce, Vgremove, Vgrename}
+use Rattle.line_answers.specs.declared.op_refusal.OpRefusal.{OpRefusal}
+use Rattle.line_answers.specs.declared.op_refusal.OpRefusal.TheVariants.{UnknownGroup, UnknownPv}
 use Rattle.lvm_script.specs.declared.line.Line.{Line}
-use Rattle.lvm_script.specs.declared.op_refusal.OpRefusal.{OpRefusal}
-use Rattle.lvm_script.specs.declared.op_refusal.OpRefusal.TheVariants.{UnknownGroup, UnknownPv}
-use Rattle.meta_model.specs.declared.group.Group.{Group}
-use Rattle.disk_contents.specs.declared.contents.PvFound.{PvFound}
-use Rattle.disk_contents.specs.declared.contents.PvFound.TheVariants.{NoHeader, NoLabel, Whole}
 use Rattle.disk_model.specs.Puts.{one_sector}
 use Rattle.pv_header.specs.declared.extent_list.Extent.{Extent}
+use Rattle.meta_model.specs.declared.group.Group.{Group}
+use Rattle.extent_alloc.specs.declared.part.Part.{Part}
+use Rattle.disk_contents.specs.declared.contents.PvFound.{PvFound}
+use Rattle.disk_contents.specs.declared.contents.PvFound.TheVariants.{NoHeader, NoLabel, Whole}
 use Rattle.vg_found.specs.Shape.{ContentsCanStand, IsDisk}
 use Rattle.vg_found.specs.declared.disk.Disk.{Disk}
 use Rattle.group_edits.specs.ReducedGroup.{reduced_group as without_pv}
 use Rattle.group_edits.specs.RestoredGroup.{restored_group}
+use Rattle.group_edits.specs.NextVersion.{next_version}
 use Rattle.group_ops.proofs.Leaving.{leaves_next}
 use Rattle.group_ops.proofs.NextVersions.{commits_next, is_next}
 use Rattle.group_ops.proofs.Restoring.{restores}
@@ -31,14 +32,13 @@ use Rattle.group_ops.specs.NewGroup.{extended}
 use Rattle.group_ops.specs.Planning.{IsBackupOf, IsPlanned, asks_of, change_of, extend_by, refusal_of}
 use Rattle.group_ops.specs.Pvcreate.{disk_rows, label_in, label_sector, new_areas, new_label, pvcreate_change}
 use Rattle.group_ops.specs.Vgcreate.{empty_group}
-use Rattle.group_edits.specs.NextVersion.{next_version}
 use Rattle.group_ops.specs.Vgextend.{found_rows}
 use Rattle.group_ops.specs.declared.state.Change.{Change}
 use Rattle.group_ops.specs.declared.state.GroupState.{GroupState}
 use Rattle.group_ops.specs.declared.state.NewLabel.{NewLabel}
-use Rattle.line_history.proofs.ReadBackups.{some_backup}
 use Rattle.volume_history.proofs.Bits.{and_both, eq_to, lt_true}
 use Rattle.volume_history.specs.Commands.{created_disk, is_created_at, is_created_sector}
+use Rattle.line_history.proofs.ReadBackups.{some_backup}
 
 -- the label, and the headers of the areas behind it, stand where the command may create a physical volume on the disk
 abbrev pub IsCreated : Command → ℕ → NewLabel → Type 0

@@ -1,6 +1,7 @@
 -- What the parts of a run of one line give for its history, by how far it came.
 use Rattle.std.proofs.Common.{◌≡◌, ◌≤◌, ◌<◌, ℕ, ◌-◌, ◌&&◌, Bool, true, false, if◌then◌else◌, List, [], ◌∷◌, ◌++◌, length, Option, Some, None, inl, inr, ⊎_elim, refl, sym, ap, subst, ◌∙◌, arith}
-use Rattle.disk_batch.specs.InTurn.{WritesInTurn, with_batches}
+use Rattle.command_table.specs.declared.command.Command.{Command}
+use Rattle.command_table.specs.declared.command.Command.TheVariants.{Lvcreate}
 use Rattle.disk_model.proofs.EveryMoment.{since_weaken}
 use Rattle.disk_model.proofs.NowStands.{now_base}
 use Rattle.disk_model.proofs.SectorImages.{leaves_by_images}
@@ -9,26 +10,26 @@ use Rattle.disk_model.specs.CrashValues.{IsImage}
 use Rattle.disk_model.specs.Durability.{IsBase}
 use Rattle.disk_model.specs.Moments.{EveryImageSince, at_moment}
 use Rattle.disk_model.specs.Steps.{Image, Step, Told, now_after, steps_on}
+use Rattle.meta_model.specs.declared.group.Group.{Group}
+use Rattle.disk_batch.specs.InTurn.{WritesInTurn, with_batches}
+use Rattle.vg_scan.specs.Scans.{IsScanOf}
 use Rattle.group_ops.specs.Laws.{state_in}
 use Rattle.group_ops.specs.Planning.{change_of}
 use Rattle.group_ops.specs.declared.state.Change.{Change}
+use Rattle.vg_repair.specs.Repaired.{repaired_of}
 use Rattle.image_scans.proofs.CommitScans.{none_unread}
 use Rattle.image_scans.proofs.LineScans.{images_scan, last_scans, unpublished_scans}
 use Rattle.image_scans.proofs.Zeroes.{zeroes_kept}
 use Rattle.image_scans.specs.Laws.{CanCarryOut, FindsAtEnd, FindsOnTheWay, in_spans, none_out, version_of}
 use Rattle.image_scans.specs.Versions.{FindsVersion, Version, version_in}
-use Rattle.meta_model.specs.declared.group.Group.{Group}
+use Rattle.image_scans.proofs.CommitLine.{is_state}
 use Rattle.repair_scans.specs.Laws.{RepairedScans}
-use Rattle.vg_repair.specs.Repaired.{repaired_of}
-use Rattle.vg_scan.specs.Scans.{IsScanOf}
+use Rattle.repair_scans.proofs.FoundGroup.{found_accepted}
 use Rattle.volume_history.proofs.CommandKinds.{commit_kind}
 use Rattle.volume_history.proofs.MadeVersions.{changes_commit, changes_make}
 use Rattle.volume_history.proofs.Reshaped.{zeroes_stand}
 use Rattle.volume_history.proofs.ZeroedVolume.{new_zeroes_stand}
 use Rattle.volume_history.specs.Candidates.{place_at}
-use Rattle.image_scans.proofs.CommitLine.{is_state}
-use Rattle.repair_scans.proofs.FoundGroup.{found_accepted}
-use Rattle.line_history.proofs.NewZeroes.{line_zeroed, zero_cases}
 use Rattle.volume_history.proofs.Past.{now_before}
 use Rattle.volume_history.proofs.Phases.{finds_with}
 use Rattle.volume_history.specs.Chronicles.{Origin, is_number, left_out, now_at, origin_at, wrote_disk}
@@ -40,9 +41,8 @@ use Rattle.volume_history.specs.Placed.{Place, volumes_of}
 use Rattle.volume_history.specs.Quiet.{AllUntouched}
 use Rattle.volume_history.specs.Reshaping.{MakesVersion}
 use Rattle.volume_history.specs.Single.{CommitLaw, DoneLaw, IsStill, StaysLaw, begun_entries, end_of, ZeroesStand}
+use Rattle.line_history.proofs.NewZeroes.{line_zeroed, zero_cases}
 use Rattle.line_history.proofs.Stays.{all_stay}
-use Rattle.lvm_script.specs.declared.command.Command.{Command}
-use Rattle.lvm_script.specs.declared.command.Command.TheVariants.{Lvcreate}
 use Rattle.line_history.proofs.Finding.{KeepsPlaces, can_carry_out, can_start, finds_before, finds_start, finds_zeroing, found_before, image_of_base, kept_after, kept_before, kept_zeroing, one_image, repaired_base, same_version, scan_zeroed, zeroed_base}
 use Rattle.line_history.proofs.Images.{IsAfter, IsBefore, after_zeros, before_start, begun_zeros, during, from_start, joined, line as line_of, none_zeroed, since_start, start_base, submitted_after, until_end, zeroed_base_is, zeroed_last, zeros_last}
 use Rattle.line_history.proofs.ChangedVolumes.{commit_changes_volumes}

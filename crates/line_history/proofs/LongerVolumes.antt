@@ -5,23 +5,23 @@ use Rattle.std.specs.Cmp.Lexicographic.{pointwise}
 use Rattle.std.specs.List.{AllByRecursion as Each, range_with_len}
 use Rattle.std.proofs.lemmas.Bool.{true≢false}
 use Rattle.std.proofs.lemmas.Option.{same_Some}
-use Rattle.extent_alloc.specs.declared.part.Part.{Part}
 use Rattle.lvm_name.specs.Names.{is_among}
-use Rattle.lvm_script.specs.declared.amount.Growth.{Growth}
-use Rattle.lvm_script.specs.declared.command.Command.TheVariants.{Lvcreate, Lvextend}
-use Rattle.lvm_script.specs.declared.command.NewVolume.{NewVolume}
-use Rattle.lvm_script.specs.declared.command.Path.{Path}
+use Rattle.command_table.specs.declared.amount.Growth.{Growth}
+use Rattle.command_table.specs.declared.command.Command.TheVariants.{Lvcreate, Lvextend}
+use Rattle.command_table.specs.declared.command.NewVolume.{NewVolume}
+use Rattle.command_table.specs.declared.command.Path.{Path}
 use Rattle.meta_model.specs.Standing.{HasTree}
 use Rattle.meta_model.specs.Tables.{names_of}
 use Rattle.meta_model.specs.declared.lv.Lv.{Lv}
 use Rattle.meta_print.proofs.GroupFrom.{printable}
 use Rattle.meta_print.proofs.NamesOfText.{pointwise_same}
 use Rattle.meta_print.proofs.Printable.{AreNames}
+use Rattle.volume_rules.specs.Extents.{extents_of}
+use Rattle.volume_rules.specs.Rules.{IsAccepted}
+use Rattle.extent_alloc.specs.declared.part.Part.{Part}
 use Rattle.scan_rules.proofs.SameLists.{pointwise-same_bytes}
 use Rattle.scan_rules.proofs.Scanning.{same_bytes_tells}
 use Rattle.scan_rules.specs.Decision.{same_bytes}
-use Rattle.volume_rules.specs.Extents.{extents_of}
-use Rattle.volume_rules.specs.Rules.{IsAccepted}
 use Rattle.group_edits.proofs.GivenRules.{extents_both}
 use Rattle.group_edits.proofs.LongerPlaces.{primary_longer, primary_more}
 use Rattle.group_edits.specs.GivenSegments.{extents_in, segments_of}

@@ -1,6 +1,10 @@
 -- A run that only looks at its disks has its history.
 use Rattle.std.specs.Prelude.{is_some}
 use Rattle.std.proofs.Common.{◌≡◌, ◌≤◌, ℕ, ◌-◌, true, false, List, [], ◌∷◌, ◌++◌, length, take, Some, None, refl, sym, subst, arith}
+use Rattle.command_table.specs.Options.{Word}
+use Rattle.line_answers.specs.declared.answer.Answer.{Answer}
+use Rattle.line_answers.specs.declared.answer.Answer.TheVariants as answer
+use Rattle.lvm_script.specs.declared.line.Line.{Line}
 use Rattle.disk_model.proofs.StepsSince.{steps_joined}
 use Rattle.disk_model.specs.CrashValues.{IsImage}
 use Rattle.disk_model.specs.Durability.{IsBase}
@@ -9,10 +13,6 @@ use Rattle.disk_model.specs.Order.{WritesNothing}
 use Rattle.disk_model.specs.Steps.{Image, Step, Told, steps_on}
 use Rattle.image_scans.specs.Laws.{none_out}
 use Rattle.image_scans.specs.Versions.{FindsVersion}
-use Rattle.lvm_script.specs.Options.{Word}
-use Rattle.lvm_script.specs.declared.answer.Answer.{Answer}
-use Rattle.lvm_script.specs.declared.answer.Answer.TheVariants as answer
-use Rattle.lvm_script.specs.declared.line.Line.{Line}
 use Rattle.volume_history.proofs.SingleLines.{done_line, no_line, undone_line}
 use Rattle.volume_history.specs.Chronicles.{Entry, Origin, pending}
 use Rattle.volume_history.proofs.CommandKinds.{quiet_command}

@@ -3,19 +3,19 @@ use Rattle.std.proofs.Common.{◌≡◌, ◌<◌, ◌⊎◌, ℕ, zero, suc, ◌
 use Rattle.std.specs.Prelude.{IfSome, option_map, slice_index, unwrap_or}
 use Rattle.std.specs.List.{range_with_len}
 use Rattle.std.proofs.lemmas.Option.{same_Some}
-use Rattle.extent_alloc.specs.declared.part.Part.{Part}
-use Rattle.lvm_script.specs.declared.command.Command.{Command}
-use Rattle.lvm_script.specs.declared.command.Command.TheVariants.{Lvcreate}
-use Rattle.lvm_script.specs.declared.command.NewVolume.{NewVolume}
+use Rattle.sector_base.specs.declared.places.At.{At}
+use Rattle.sector_base.specs.declared.spans.Span.{Span}
+use Rattle.command_table.specs.declared.command.Command.{Command}
+use Rattle.command_table.specs.declared.command.Command.TheVariants.{Lvcreate}
+use Rattle.command_table.specs.declared.command.NewVolume.{NewVolume}
 use Rattle.lvm_script.specs.declared.line.Line.{Line}
 use Rattle.mda_ring.proofs.SpanLaws.{covers_from}
 use Rattle.meta_model.specs.declared.group.Group.{Group}
 use Rattle.meta_model.specs.declared.lv.Lv.{Lv}
 use Rattle.volume_rules.specs.Extents.{extents_of}
-use Rattle.sector_base.specs.declared.places.At.{At}
-use Rattle.sector_base.specs.declared.spans.Span.{Span}
 use Rattle.volume_rules.specs.Rules.{IsAccepted}
 use Rattle.volume_view.specs.Places.{primary}
+use Rattle.extent_alloc.specs.declared.part.Part.{Part}
 use Rattle.vg_found.specs.Disks.{disks_of}
 use Rattle.vg_found.specs.Shape.{HasShape}
 use Rattle.vg_found.specs.declared.found.Found.{Found}
@@ -31,13 +31,13 @@ use Rattle.group_ops.specs.Planning.{IsPlanned, asks_of, change_of, refusal_of}
 use Rattle.group_ops.specs.State.{IsState}
 use Rattle.group_ops.specs.declared.state.Change.{Change}
 use Rattle.group_ops.specs.declared.state.GroupState.{GroupState}
+use Rattle.group_ops.specs.declared.backup.Backup.{Backup}
 use Rattle.image_scans.specs.Laws.{in_spans, version_of}
 use Rattle.image_scans.specs.Versions.{Version, version_in}
 use Rattle.volume_history.specs.Candidates.{place_at}
 use Rattle.volume_history.specs.Placed.{Place, PlacedVolume, no_place, on_disk, place_of, volumes_of}
 use Rattle.line_history.proofs.KeptVolumes.{KeepsDisks}
 use Rattle.line_history.proofs.LongerVolumes.{new_placed, volumes_more}
-use Rattle.group_ops.specs.declared.backup.Backup.{Backup}
 
 -- ---- lists
 

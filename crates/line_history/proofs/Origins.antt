@@ -1,12 +1,12 @@
 -- The origin of the history of a run of one line, and what stands at its moments where no volume is touched.
 use Rattle.std.proofs.Common.{◌≡◌, ◌≤◌, ℕ, List, [], ◌++◌, length, Option, refl, sym, subst, ◌∙◌, arith}
+use Rattle.command_table.specs.Options.{Word}
 use Rattle.disk_model.proofs.NowStands.{now_base}
 use Rattle.disk_model.proofs.StepsSince.{steps_joined}
 use Rattle.disk_model.specs.Durability.{IsBase}
 use Rattle.disk_model.specs.Moments.{at_moment}
 use Rattle.disk_model.specs.Record.{IsRecord}
 use Rattle.disk_model.specs.Steps.{Image, Step, Told, now_after, steps_on}
-use Rattle.lvm_script.specs.Options.{Word}
 use Rattle.image_scans.specs.Laws.{none_out}
 use Rattle.image_scans.specs.Versions.{FindsVersion, Version}
 use Rattle.volume_history.proofs.Past.{now_before}

@@ -1,7 +1,7 @@
 -- What a restore reads: the line has a backup of its text.
 use Rattle.std.proofs.Common.{◌≡◌, ℕ, true, List, Option, Some, None, refl}
 use Rattle.std.specs.Prelude.{is_some}
-use Rattle.lvm_script.specs.declared.command.Command.TheVariants.{Vgcfgrestore}
+use Rattle.command_table.specs.declared.command.Command.TheVariants.{Vgcfgrestore}
 use Rattle.group_ops.specs.Planning.{IsBackupOf}
 use Rattle.group_ops.specs.declared.backup.Backup.{Backup}
 

@@ -1,9 +1,11 @@
 -- A vgremove: it commits no group, and what clears the disks of the group is its commit.
 use Rattle.std.proofs.Common.{◌≡◌, ◌≤◌, ◌⊎◌, ℕ, ◌-◌, Bool, true, List, [], ◌∷◌, ◌++◌, length, map, take, Option, Some, None, inl, inr, ⊎_elim, refl, sym, ap, subst, ◌∙◌, arith}
 use Rattle.std.specs.Prelude.{flat_map, option_map, slice_get}
-use Rattle.disk_batch.proofs.FrontBatches.{none_front}
 use Rattle.sector_base.specs.declared.spans.Span.{Span}
-use Rattle.disk_batch.specs.InTurn.{HasFirstBatches, Put, WritesInTurn, with_batches}
+use Rattle.command_table.specs.Options.{Word}
+use Rattle.command_table.specs.declared.command.Command.{Command}
+use Rattle.command_table.specs.declared.command.Command.TheVariants.{Vgremove}
+use Rattle.line_answers.specs.declared.op_refusal.OpRefusal.TheVariants.{InUse}
 use Rattle.disk_model.proofs.NowStands.{now_base}
 use Rattle.disk_model.proofs.Ordered.{writes_nothing_append}
 use Rattle.disk_model.proofs.StepsSince.{steps_joined}
@@ -12,6 +14,12 @@ use Rattle.disk_model.specs.Durability.{IsBase}
 use Rattle.disk_model.specs.Moments.{at_moment}
 use Rattle.disk_model.specs.Order.{WritesNothing}
 use Rattle.disk_model.specs.Steps.{Image, Step, Told, now_after, steps_on}
+use Rattle.meta_model.specs.declared.group.Group.{Group}
+use Rattle.meta_model.specs.declared.lv.Lv.{Lv}
+use Rattle.disk_batch.proofs.FrontBatches.{none_front}
+use Rattle.disk_batch.specs.InTurn.{HasFirstBatches, Put, WritesInTurn, with_batches}
+use Rattle.vg_found.specs.Disks.{disks_of}
+use Rattle.vg_found.specs.declared.disk.Disk.{Disk}
 use Rattle.group_ops.proofs.Chained.{front_passes}
 use Rattle.group_ops.proofs.NextVersions.{zeroes}
 use Rattle.group_ops.specs.Committing.{named_rows, rows_where_found}
@@ -19,20 +27,12 @@ use Rattle.group_ops.specs.Judging.{first_refusal}
 use Rattle.group_ops.specs.Laws.{state_in}
 use Rattle.group_ops.specs.Planning.{change_of, refusal_of}
 use Rattle.group_ops.specs.Vgremove.{remove_rows, volume_row}
+use Rattle.vg_change.specs.Batches.{batch_if, batches_of, zero_put}
+use Rattle.vg_repair.specs.Repaired.{repaired_of}
 use Rattle.image_scans.proofs.RemovalScans.{removal_ends, removal_scans}
 use Rattle.image_scans.specs.Laws.{CanCarryOut, none_out}
 use Rattle.image_scans.specs.Versions.{FindsVersion, Version, version_in}
-use Rattle.lvm_script.specs.Options.{Word}
-use Rattle.lvm_script.specs.declared.command.Command.{Command}
-use Rattle.lvm_script.specs.declared.command.Command.TheVariants.{Vgremove}
-use Rattle.lvm_script.specs.declared.op_refusal.OpRefusal.TheVariants.{InUse}
-use Rattle.meta_model.specs.declared.group.Group.{Group}
-use Rattle.meta_model.specs.declared.lv.Lv.{Lv}
 use Rattle.repair_scans.specs.Laws.{RepairedScans}
-use Rattle.vg_change.specs.Batches.{batch_if, batches_of, zero_put}
-use Rattle.vg_found.specs.Disks.{disks_of}
-use Rattle.vg_found.specs.declared.disk.Disk.{Disk}
-use Rattle.vg_repair.specs.Repaired.{repaired_of}
 use Rattle.volume_history.proofs.MadeVersions.{changes_make}
 use Rattle.volume_history.proofs.Past.{now_before}
 use Rattle.volume_history.proofs.Phases.{finds_with}

@@ -3,8 +3,7 @@ use Rattle.std.proofs.Common.{◌≡◌, ◌≢◌, ℕ, ◌+◌, Bool, true, fa
 use Rattle.std.specs.Str.{bytes_eq}
 use Rattle.std.specs.List.{AllByRecursion as Each}
 use Rattle.lvm_name.specs.Names.{is_among}
-use Rattle.lvm_script.specs.declared.command.Command.TheVariants.{Vgcfgrestore}
-use Rattle.extent_alloc.proofs.Pairs.{Pairs, pairs_from}
+use Rattle.command_table.specs.declared.command.Command.TheVariants.{Vgcfgrestore}
 use Rattle.meta_model.specs.Standing.{HasTree}
 use Rattle.meta_model.specs.declared.group.Group.{Group}
 use Rattle.meta_model.specs.declared.lv.Lv.{Lv}
@@ -12,10 +11,11 @@ use Rattle.meta_model.specs.declared.pv.Pv.{Pv}
 use Rattle.meta_print.proofs.GroupFrom.{printable}
 use Rattle.meta_print.proofs.NamesOfText.{pointwise_same}
 use Rattle.meta_print.proofs.Printable.{AreNames}
-use Rattle.scan_rules.proofs.SameLists.{pointwise-same_bytes}
-use Rattle.scan_rules.specs.Decision.{same_bytes}
 use Rattle.volume_rules.specs.Rules.{IsAccepted, ids_of}
 use Rattle.volume_rules.specs.declared.rule.Rule.TheVariants.{Ids}
+use Rattle.extent_alloc.proofs.Pairs.{Pairs, pairs_from}
+use Rattle.scan_rules.proofs.SameLists.{pointwise-same_bytes}
+use Rattle.scan_rules.specs.Decision.{same_bytes}
 use Rattle.group_edits.specs.RestoredGroup.{restored_group}
 use Rattle.image_scans.specs.Versions.{Version}
 use Rattle.volume_history.proofs.Bits.{same_text}

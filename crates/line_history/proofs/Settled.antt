@@ -2,9 +2,9 @@
 use Rattle.std.proofs.Common.{◌≡◌, ℕ, false, List, Option, sym, ap, ◌∙◌}
 use Rattle.std.proofs.lemmas.Bool.{true≢false}
 use Rattle.std.specs.Prelude.{is_some}
+use Rattle.command_table.specs.Options.{Word}
 use Rattle.disk_model.specs.Steps.{Image, Told}
 use Rattle.image_scans.specs.Versions.{Version}
-use Rattle.lvm_script.specs.Options.{Word}
 use Rattle.volume_history.specs.Chronicles.{Entry, pending}
 use Rattle.volume_history.specs.Laws.{Tells}
 use Rattle.volume_history.specs.Runs.{journal_of, lines_of}

@@ -1,24 +1,24 @@
 -- No set of disks finds an older version of the group once a commit is done.
 use Rattle.std.specs.Prelude.{◌≡◌, ◌<◌, ℕ, Bool, true, false, List, length, Contains, Option, None, Some, option_map}
 use Rattle.std.specs.FinSet as set
-use Rattle.disk_batch.specs.InTurn.{HasFirstBatches, with_batches}
+use Rattle.command_table.specs.declared.command.Command.TheVariants.{Vgremove}
+use Rattle.lvm_script.specs.declared.line.Line.{Line}
 use Rattle.disk_model.specs.CrashValues.{IsImage}
 use Rattle.disk_model.specs.Steps.{Image, Told}
-use Rattle.extent_alloc.specs.declared.part.Part.{Part}
-use Rattle.lvm_script.specs.declared.command.Command.TheVariants.{Vgremove}
-use Rattle.lvm_script.specs.declared.line.Line.{Line}
 use Rattle.meta_model.specs.declared.group.Group.{Group}
+use Rattle.extent_alloc.specs.declared.part.Part.{Part}
+use Rattle.disk_batch.specs.InTurn.{HasFirstBatches, with_batches}
 use Rattle.vg_found.specs.declared.found.Found.{Found}
 use Rattle.vg_scan.specs.Scans.{IsScanOf}
 use Rattle.group_ops.specs.Laws.{state_in}
 use Rattle.group_ops.specs.Planning.{change_of}
+use Rattle.group_ops.specs.declared.backup.Backup.{Backup}
 use Rattle.vg_change.specs.Batches.{batches_of, clears_of}
 use Rattle.image_scans.specs.Laws.{CanCarryOut, none_out}
 use Rattle.image_scans.specs.Versions.{FindsVersion, Version}
 use Rattle.volume_history.specs.Commands.{commits}
 use Rattle.line_history.specs.Histories.{commits_in}
 use Rattle.line_history.specs.LineRun.{ClearsLine, Given}
-use Rattle.group_ops.specs.declared.backup.Backup.{Backup}
 
 -- once all of a line's batches are written, and disks are cleared behind them, a scan of any of the disks, the others taken as
 -- empty, finds no group or the one that was committed

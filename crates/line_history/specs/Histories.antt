@@ -1,30 +1,30 @@
 -- The history of a run of one line: its journal and its answers, by what the line came to.
 use Rattle.std.specs.Prelude.{◌≡◌, ◌≤◌, ℕ, Bool, true, false, List, [], ◌∷◌, ◌++◌, flat_map, is_some, length, take, Option, Some, None}
-use Rattle.disk_batch.specs.InTurn.{Put}
+use Rattle.command_table.specs.Options.{Word}
+use Rattle.line_answers.specs.declared.answer.Answer.{Answer}
+use Rattle.line_answers.specs.declared.answer.Answer.TheVariants as answer
+use Rattle.lvm_script.specs.declared.line.Line.{Line}
 use Rattle.disk_model.specs.Durability.{IsBase}
 use Rattle.disk_model.specs.Order.{WritesNothing}
 use Rattle.disk_model.specs.Record.{IsRecord}
 use Rattle.disk_model.specs.Since.{writes_submitted}
 use Rattle.disk_model.specs.Steps.{Image, Step, Told, steps_on}
 use Rattle.extent_alloc.specs.declared.part.Part.{Part}
+use Rattle.line_table.specs.declared.journal.EntryKind.{EntryKind}
+use Rattle.line_table.specs.declared.journal.EntryKind.TheVariants as kind
+use Rattle.line_table.specs.declared.journal.JournalEntry.{JournalEntry}
+use Rattle.disk_batch.specs.InTurn.{Put}
+use Rattle.vg_found.specs.declared.found.Found.{Found}
+use Rattle.vg_scan.specs.Scans.{IsScanOf}
 use Rattle.group_ops.specs.Allocating.{Takes}
 use Rattle.group_ops.specs.Laws.{state_in}
 use Rattle.group_ops.specs.declared.backup.Backup.{Backup}
 use Rattle.group_ops.specs.Planning.{IsBackupOf, asks_of, change_of}
-use Rattle.image_scans.specs.Laws.{none_out}
-use Rattle.image_scans.specs.Versions.{FindsVersion, Version}
-use Rattle.line_table.specs.declared.journal.EntryKind.{EntryKind}
-use Rattle.line_table.specs.declared.journal.EntryKind.TheVariants as kind
-use Rattle.line_table.specs.declared.journal.JournalEntry.{JournalEntry}
-use Rattle.lvm_script.specs.Options.{Word}
-use Rattle.lvm_script.specs.declared.answer.Answer.{Answer}
-use Rattle.lvm_script.specs.declared.answer.Answer.TheVariants as answer
-use Rattle.lvm_script.specs.declared.line.Line.{Line}
 use Rattle.vg_change.specs.Batches.{batches_of, clears_of, zeros_of}
-use Rattle.vg_found.specs.declared.found.Found.{Found}
 use Rattle.vg_repair.specs.Batches.{repair_batches}
 use Rattle.vg_repair.specs.Repaired.{repaired_of}
-use Rattle.vg_scan.specs.Scans.{IsScanOf}
+use Rattle.image_scans.specs.Laws.{none_out}
+use Rattle.image_scans.specs.Versions.{FindsVersion, Version}
 use Rattle.volume_history.specs.Chronicles.{pending}
 use Rattle.volume_history.specs.Commands.{commits, is_good, may_say}
 use Rattle.volume_history.specs.Quiet.{is_quiet}

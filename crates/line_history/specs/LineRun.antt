@@ -1,29 +1,29 @@
 -- A run of one line that changes something: the disks are opened, what was found is repaired, and the line is carried out, its
 -- zeros first, and disks are cleared last, each part as far as it came.
 use Rattle.std.specs.Prelude.{◌≡◌, ◌<◌, ℕ, ◌^◌, Bool, true, false, IsTrue, if◌then◌else◌, List, [], length, All, None, Option}
-use Rattle.disk_batch.specs.InTurn.{Put, WritesInTurn}
+use Rattle.command_table.specs.Options.{Word}
+use Rattle.command_table.specs.Values.{is_disk_name}
+use Rattle.lvm_script.specs.declared.line.Line.{Line}
 use Rattle.disk_model.specs.Durability.{IsBase}
 use Rattle.disk_model.specs.Order.{WritesNothing}
 use Rattle.disk_model.specs.Record.{IsRecord}
 use Rattle.disk_model.specs.Steps.{Image, Step, Told, steps_on}
 use Rattle.extent_alloc.specs.declared.part.Part.{Part}
-use Rattle.lvm_script.specs.Options.{Word}
-use Rattle.lvm_script.specs.Values.{is_disk_name}
-use Rattle.lvm_script.specs.declared.line.Line.{Line}
+use Rattle.disk_batch.specs.InTurn.{Put, WritesInTurn}
+use Rattle.vg_found.specs.Shape.{HasShape}
+use Rattle.vg_found.specs.Whole.{IsWhole}
+use Rattle.vg_found.specs.declared.found.Found.{Found}
+use Rattle.vg_scan.specs.Scans.{IsScanOf}
 use Rattle.group_ops.specs.Allocating.{Takes}
 use Rattle.group_ops.specs.Laws.{state_in}
 use Rattle.group_ops.specs.declared.backup.Backup.{Backup}
 use Rattle.group_ops.specs.Planning.{IsBackupOf, IsPlanned, asks_of, refusal_of}
 use Rattle.vg_change.specs.Batches.{batches_of, clears_of, zeros_of}
 use Rattle.vg_change.specs.CarryingOut.{KeepsImages}
-use Rattle.vg_found.specs.Shape.{HasShape}
-use Rattle.vg_found.specs.Whole.{IsWhole}
-use Rattle.vg_found.specs.declared.found.Found.{Found}
 use Rattle.vg_repair.specs.Batches.{repair_batches}
 use Rattle.vg_repair.specs.Laws.{KeepsImages as RepairKeepsImages}
 use Rattle.vg_repair.specs.Repaired.{repaired_of}
 use Rattle.vg_repair.specs.Stale.{too_large}
-use Rattle.vg_scan.specs.Scans.{IsScanOf}
 
 -- how far a run came
 pub data Stage : Type 0 where

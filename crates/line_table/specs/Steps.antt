@@ -2,7 +2,7 @@
 use Rattle.std.specs.Prelude.{ℕ, ◌-◌, Bool, false, not, List, [], ◌∷◌, ◌++◌, length, is_some, Option, None, Some, slice_get, slice_index_or, slice_set}
 use Rattle.std.specs.Option.{option_map_or}
 use Rattle.sector_base.specs.declared.places.Piece.{Piece}
-use Rattle.lvm_script.specs.declared.answer.Answer.{Answer}
+use Rattle.line_answers.specs.declared.answer.Answer.{Answer}
 use Rattle.lvm_script.specs.declared.line.Line.{Line}
 use Rattle.line_table.specs.declared.journal.EntryKind.{EntryKind}
 use Rattle.line_table.specs.declared.journal.EntryKind.TheVariants as kind

@@ -1,5 +1,5 @@
 //! The journal of a run, and the answers of its lines.
-use lvm_script::Answer;
+use line_answers::Answer;
 use sector_base::Piece;
 
 /// What an entry of the journal says of its line.

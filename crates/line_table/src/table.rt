@@ -4,7 +4,8 @@ ghost use Rattle.std.specs.List.{list_any};
 ghost use Rattle.line_table.specs.Steps.{after_answer, after_begin, after_failed, after_took, is_open, last_moment, may_enter, no_line, no_lines, with_entry};
 
 use crate::{Answers, EntryKind, Journal, JournalEntry};
-use lvm_script::{Answer, Line};
+use line_answers::Answer;
+use lvm_script::Line;
 use sector_base::Piece;
 use std::alloc::{AllocError, Global};
 use std::marker::Model;

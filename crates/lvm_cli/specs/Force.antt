@@ -1,7 +1,7 @@
 -- The word that lets a run take disks that are in use.
 use Rattle.std.specs.Prelude.{Bool, false, List, [], ◌∷◌, codes, if◌then◌else◌}
 use Rattle.std.specs.Str.{bytes_eq}
-use Rattle.lvm_script.specs.Options.{Word}
+use Rattle.command_table.specs.Options.{Word}
 
 -- whether it is the first word
 abbrev pub is_forced : List Word → Bool

@@ -1,11 +1,11 @@
 -- How the disks of a run are opened, and how it ends where they can't be.
 use Rattle.std.specs.Prelude.{ℕ, Bool, false, ◌&&◌, Option, Some, None}
+use Rattle.command_table.specs.declared.request.Request.{Request}
+use Rattle.command_table.specs.declared.request.Request.TheVariants.{One}
+use Rattle.command_table.specs.Commands.{changes}
+use Rattle.lvm_words.specs.declared.command_line.CommandLine.{CommandLine}
 use Rattle.file_shelf.specs.declared.opening.OpenFault.{OpenFault}
 use Rattle.file_shelf.specs.declared.opening.OpenFault.TheVariants.{NoMemory, File}
-use Rattle.lvm_script.specs.declared.request.Request.{Request}
-use Rattle.lvm_script.specs.declared.request.Request.TheVariants.{One}
-use Rattle.lvm_script.specs.Lines.{changes}
-use Rattle.lvm_words.specs.declared.command_line.CommandLine.{CommandLine}
 use Rattle.lvm_run.specs.Commands.{is_built}
 
 -- what is asked for runs, and changes something

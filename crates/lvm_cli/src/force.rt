@@ -1,6 +1,6 @@
 //! The word that lets a run take disks that are in use.
 ghost use Rattle.std.specs.Prelude.{◌≡◌, ◌↔◌, IsTrue};
-ghost use Rattle.lvm_script.specs.Options.{words_of};
+ghost use Rattle.command_table.specs.Options.{words_of};
 ghost use Rattle.lvm_cli.specs.Force.{behind_force, is_forced};
 
 /// It stands before all other words.

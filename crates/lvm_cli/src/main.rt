@@ -4,7 +4,7 @@
 #![tactic(auto)]
 
 ghost use Rattle.std.specs.Prelude.{◌≡◌, List, Some, IfOk};
-ghost use Rattle.lvm_script.specs.Options.{Word, words_of};
+ghost use Rattle.command_table.specs.Options.{Word, words_of};
 ghost use Rattle.lvm_words.specs.Disks.{disks_named};
 
 mod arguments;
@@ -17,8 +17,8 @@ mod usage;
 use arguments::arguments;
 use file_shelf::{StdSink, StdSource};
 use force::take_force;
+use line_answers::DiskNames;
 use lvm_run::guarded_run;
-use lvm_script::DiskNames;
 use lvm_words::{WordsRefusal, disk_names};
 use not_run::say_not_run;
 use seed::{ids_of_system, seconds, since_1970};

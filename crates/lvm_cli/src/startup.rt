@@ -1,14 +1,14 @@
 //! The disks of a run, opened as its words want them.
 ghost use Rattle.std.specs.Prelude.{◌≡◌, IfOk, IfErr, Some, vec_len};
+ghost use Rattle.command_table.specs.Options.{words_of};
+ghost use Rattle.lvm_words.specs.CommandLines.{command_line_of};
 ghost use Rattle.file_shelf.specs.Opened.{IsOpened, NamesFile};
 ghost use Rattle.lvm_cli.specs.Startup.{changes_disks, opening_status};
-ghost use Rattle.lvm_script.specs.Options.{words_of};
-ghost use Rattle.lvm_words.specs.CommandLines.{command_line_of};
 
+use command_table::Request;
 use disk_model::Shelf;
 use file_shelf::{FileShelf, ImageFile, OpenFault};
 use lvm_run::is_built;
-use lvm_script::Request;
 use lvm_words::{CommandLine, WordsRefusal, read_command_line};
 use std::alloc::{AllocError, Global};
 use std::fs::Files;

@@ -1,6 +1,6 @@
 //! What is told on standard error about words that were refused.
+use command_table::{CommandName, Fault, LineFault};
 use lvm_run::BUILT;
-use lvm_script::{CommandName, Fault, LineFault};
 use lvm_words::{WordsFault, disk_names, fault_of_command_line};
 use std::alloc::{AllocError, Global};
 

@@ -1,8 +1,8 @@
 -- The lines that the answers of a run are printed as.
 use Rattle.std.specs.Prelude.{ℕ, List, [], ◌++◌, codes, decimal, flat_map, Option, None, Some}
-use Rattle.lvm_script.specs.Answers.{answer_text}
-use Rattle.lvm_script.specs.Options.{Word}
-use Rattle.lvm_script.specs.declared.answer.Answer.{Answer}
+use Rattle.command_table.specs.Options.{Word}
+use Rattle.line_answers.specs.Answers.{answer_text}
+use Rattle.line_answers.specs.declared.answer.Answer.{Answer}
 
 -- the line of an answered line, by its number and its answer; none where it has no answer
 abbrev pub answer_line : List Word → ℕ × Option Answer → List ℕ

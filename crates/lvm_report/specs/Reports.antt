@@ -3,16 +3,16 @@ use Rattle.std.specs.Prelude.{ℕ, ◌*◌, Bool, ◌==◌, if◌then◌else◌,
 use Rattle.std.specs.FinSet as set
 use Rattle.std.specs.List.{enumerate_from, flat_map, list_any, range_with_len}
 use Rattle.lvm_id.specs.LvmId.{hyphen_form}
-use Rattle.lvm_script.specs.Options.{Word}
+use Rattle.command_table.specs.Options.{Word}
+use Rattle.pv_header.specs.declared.header.PvHeader.{PvHeader}
 use Rattle.meta_model.specs.declared.group.Group.{Group}
 use Rattle.meta_model.specs.declared.lv.Lv.{Lv}
-use Rattle.pv_header.specs.declared.header.PvHeader.{PvHeader}
+use Rattle.volume_rules.specs.Extents.{extents_of}
+use Rattle.extent_map.specs.FreeCount.{all_extents, free_extents}
 use Rattle.disk_contents.specs.declared.contents.PvFound.{PvFound}
 use Rattle.vg_found.specs.declared.disk.Disk.{Disk}
 use Rattle.vg_found.specs.declared.found.Found.{Found}
 use Rattle.vg_found.specs.Disks.{header_in}
-use Rattle.volume_rules.specs.Extents.{extents_of}
-use Rattle.extent_map.specs.FreeCount.{all_extents, free_extents}
 use Rattle.lvm_report.specs.Columns.{left, right}
 use Rattle.lvm_report.specs.Volumes.{extents_of_group, free_of_group, kind_of, number_with, visible_volumes}
 

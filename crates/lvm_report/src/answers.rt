@@ -1,11 +1,12 @@
 //! The answers of a run's lines, as text.
 ghost use Rattle.std.specs.Prelude.{◌≡◌, ◌++◌, IfOk, codes, decimal, is_ok};
-ghost use Rattle.lvm_script.specs.Answers.{answer_text};
-ghost use Rattle.lvm_script.specs.Streams.{WritesText};
+ghost use Rattle.byte_streams.specs.Streams.{WritesText};
+ghost use Rattle.line_answers.specs.Answers.{answer_text};
 ghost use Rattle.lvm_report.specs.AnswerLines.{answer_line, answers_text};
 
+use byte_streams::{Failed, Sink, TextSink, write_bytes, write_number};
+use line_answers::{Answer, DiskNames};
 use line_table::Answers;
-use lvm_script::{Answer, DiskNames, Failed, Sink, TextSink, write_bytes, write_number};
 use sector_base::Text;
 use std::alloc::{AllocError, Global};
 

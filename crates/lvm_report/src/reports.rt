@@ -7,7 +7,7 @@ use crate::group_line::put_group;
 use crate::pv_lines::put_disks;
 use crate::vgck_lines::put_faults;
 use crate::volume_lines::put_volumes;
-use lvm_script::DiskNames;
+use line_answers::DiskNames;
 use sector_base::Text;
 use std::alloc::{AllocError, Global};
 use vg_found::Found;

@@ -5,8 +5,8 @@ ghost use Rattle.lvm_id.specs.LvmId.{hyphen_form};
 ghost use Rattle.vg_found.specs.Shape.{HasShape};
 ghost use Rattle.lvm_report.specs.Reports.{disk_lines, faults_text, name_in};
 
+use line_answers::DiskNames;
 use lvm_id::LvmId;
-use lvm_script::DiskNames;
 use meta_read::Unknown;
 use sector_base::{PvSet, Text};
 use std::alloc::AllocError;

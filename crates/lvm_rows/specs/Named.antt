@@ -1,6 +1,6 @@
 -- The disks that the words of a run name.
 use Rattle.std.specs.Prelude.{◌≡◌, ◌≤◌, ℕ, ◌^◌, List, length, All, Some}
-use Rattle.lvm_script.specs.Options.{Word}
+use Rattle.command_table.specs.Options.{Word}
 use Rattle.lvm_words.specs.Disks.{disks_named}
 
 -- a disk that a run takes: it has 8 to 2^40 sectors

@@ -2,9 +2,9 @@
 use crate::images::{left, opened};
 use crate::run::Ran;
 use crate::shown::{first_difference, shown};
+use byte_streams::read_all;
 use dev_shelf::{Images, Shelf};
 use line_table::{EntryKind, Journal};
-use lvm_script::read_all;
 use row_text::{DiskExpectation, DiskFact, Expectation, Failure, Run, Sites, What};
 use sector_base::{Bytes512, Sectors};
 use std::alloc::{AllocError, Global};

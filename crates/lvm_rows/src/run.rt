@@ -1,13 +1,13 @@
 //! One run of the program's words.
 ghost use Rattle.std.specs.Prelude.{All, IfOk, IfSome, IsTrue};
-ghost use Rattle.lvm_script.specs.Options.{words_of};
+ghost use Rattle.command_table.specs.Options.{words_of};
 ghost use Rattle.lvm_run.specs.Disks.{HasDisks};
 ghost use Rattle.lvm_rows.specs.Named.{AreNamed, IsSized};
 
+use byte_streams::{MemSink, MemSource};
 use dev_shelf::{Fail, Images, MemShelf, Shelf, ShelfPlan};
 use lvm_id::MemWords;
 use lvm_run::{Ended, lvm_run};
-use lvm_script::{MemSink, MemSource};
 use lvm_words::{WordsRefusal, disk_names};
 use row_text::{Run, Stop, failed};
 use std::alloc::{AllocError, Global};

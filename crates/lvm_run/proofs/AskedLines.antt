@@ -3,21 +3,21 @@ use Rattle.std.proofs.Common.{◌≡◌, ◌⊎◌, ℕ, Bool, true, false, List
 use Rattle.std.proofs.lemmas.List.{append-nil}
 use Rattle.std.specs.Prelude.{codes, decimal}
 use Rattle.std.specs.Bool.{MatchBool}
-use Rattle.disk_model.specs.State.{State}
 use Rattle.std.specs.Option.{option_map_or}
-use Rattle.lvm_report.specs.AnswerLines.{answers_text}
-use Rattle.lvm_script.specs.Answers.{answer_text}
-use Rattle.lvm_script.specs.Options.{Word}
-use Rattle.lvm_script.specs.declared.answer.Answer.{Answer}
-use Rattle.lvm_script.specs.declared.answer.Answer.TheVariants as answer
-use Rattle.lvm_script.specs.declared.request.Request.{Request}
-use Rattle.lvm_script.specs.declared.request.Request.TheVariants.{One, Session, Demo}
+use Rattle.command_table.specs.Options.{Word}
+use Rattle.command_table.specs.declared.request.Request.{Request}
+use Rattle.command_table.specs.declared.request.Request.TheVariants.{One, Session, Demo}
+use Rattle.line_answers.specs.Answers.{answer_text}
+use Rattle.line_answers.specs.declared.answer.Answer.{Answer}
+use Rattle.line_answers.specs.declared.answer.Answer.TheVariants as answer
 use Rattle.lvm_script.specs.Lines.{line_of, with_text}
 use Rattle.lvm_script.specs.declared.line.Line.{Line}
-use Rattle.line_table.specs.declared.journal.JournalEntry.{JournalEntry}
 use Rattle.lvm_words.specs.CommandLines.{command_line_of, request_in, task_of}
 use Rattle.lvm_words.specs.declared.asked.Task.{Task}
 use Rattle.lvm_words.specs.declared.command_line.CommandLine.{CommandLine}
+use Rattle.disk_model.specs.State.{State}
+use Rattle.line_table.specs.declared.journal.JournalEntry.{JournalEntry}
+use Rattle.lvm_report.specs.AnswerLines.{answers_text}
 use Rattle.lvm_run.specs.CommandSpec.{CommandSpec, Context, Inputs}
 use Rattle.lvm_run.specs.Commands.{is_built, spec_of}
 use Rattle.lvm_run.specs.History.{IsEntered, Said, answers_of, is_answer, journal_by, lines_asked, lines_of_task, lines_of_words, said_of}

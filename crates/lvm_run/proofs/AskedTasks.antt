@@ -1,14 +1,14 @@
 -- A run does what its words ask for, unless memory is wanting or they have no meaning.
 use Rattle.std.proofs.Common.{◌≡◌, ◌∙◌, ℕ, List, [], Some, None, is_some, refl, sym, ap, subst, inl, true≢false}
 use Rattle.std.proofs.lemmas.Option.{same_Some}
-use Rattle.disk_model.specs.State.{State}
+use Rattle.command_table.specs.Options.{Word}
+use Rattle.command_table.specs.declared.request.Request.{Request}
+use Rattle.command_table.specs.declared.request.Request.TheVariants as request
 use Rattle.lvm_script.specs.Lines.{TakesId}
-use Rattle.lvm_script.specs.Options.{Word}
-use Rattle.lvm_script.specs.declared.request.Request.{Request}
-use Rattle.lvm_script.specs.declared.request.Request.TheVariants as request
 use Rattle.lvm_words.specs.CommandLines.{command_line_of, draws_id, request_in, task_of}
 use Rattle.lvm_words.specs.declared.asked.Task.{Task}
 use Rattle.lvm_words.specs.declared.command_line.CommandLine.{CommandLine}
+use Rattle.disk_model.specs.State.{State}
 use Rattle.lvm_run.specs.Disks.{HasDisks}
 use Rattle.lvm_run.specs.History.{IsEntered, journal_by, lines_of_task, lines_of_words}
 use Rattle.lvm_run.specs.Runs.{IsRefusedUnread, RunsRequest, RunsTask, RunsWords, ended_by, names_of}

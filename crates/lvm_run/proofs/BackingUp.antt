@@ -2,12 +2,16 @@
 use Rattle.std.proofs.Common.{◌≡◌, ℕ, true, List, [], Option, Some, None, inl, inr, refl, sym, subst}
 use Rattle.std.specs.FinSet as set
 use Rattle.std.specs.Ordering.{nat_cmp}
-use Rattle.conf_text.specs.Printed.{printed}
+use Rattle.command_table.specs.Options.{Word}
+use Rattle.line_answers.specs.declared.answer.Answer.TheVariants.{Refused}
+use Rattle.line_answers.specs.declared.answer.Answer.TheVariants as answer
+use Rattle.line_answers.specs.declared.op_refusal.OpRefusal.TheVariants.{UnknownGroup}
 use Rattle.disk_model.proofs.IdleAgain.{again_nothing}
 use Rattle.disk_model.specs.Faults.{HasSameFaults}
 use Rattle.disk_model.specs.Idle.{IsIdleAgain}
 use Rattle.disk_model.specs.Since.{BetweenTold}
 use Rattle.disk_model.specs.State.{State}
+use Rattle.conf_text.specs.Printed.{printed}
 use Rattle.meta_model.specs.Standing.{HasTree}
 use Rattle.meta_model.specs.declared.group.Group.{Group}
 use Rattle.meta_print.specs.Layout.{backup_of}
@@ -17,10 +21,6 @@ use Rattle.vg_found.specs.declared.whole.NotWhole.{NotWhole}
 use Rattle.vg_found.specs.declared.whole.NotWhole.TheVariants.{ReadFailed, Partial as IsPartial}
 use Rattle.vg_found.specs.Whole.{IsNotWhole, IsWhole}
 use Rattle.vg_scan.specs.Scans.{FailedOn, IsScan, IsScanOf, IsScanRefused, ReadsFew}
-use Rattle.lvm_script.specs.Options.{Word}
-use Rattle.lvm_script.specs.declared.answer.Answer.TheVariants.{Refused}
-use Rattle.lvm_script.specs.declared.answer.Answer.TheVariants as answer
-use Rattle.lvm_script.specs.declared.op_refusal.OpRefusal.TheVariants.{UnknownGroup}
 use Rattle.lvm_run.specs.declared.ending.Ending.{Ending}
 use Rattle.lvm_run.specs.declared.ending.Ending.TheVariants.{NoMemory, ScanReadFailed, ScanRefused}
 use Rattle.lvm_run.specs.declared.outcome.Outcome.{Outcome}

@@ -2,8 +2,14 @@
 use Rattle.std.proofs.Common.{◌≡◌, ◌<◌, ℕ, ◌^◌, Bool, true, false, List, length, take, Option, Some, None, ⊎_elim, refl, sym, ap, subst, ◌∙◌, arith}
 use Rattle.std.specs.FinSet as set
 use Rattle.std.specs.Prelude.{All, IsTrue, Result, Ok, Err, MatchResult, is_some}
-use Rattle.disk_batch.proofs.InTurn.{of_submitted}
-use Rattle.disk_batch.specs.InTurn.{HasFirstBatches, Put, WritesInTurn, with_batches}
+use Rattle.command_table.specs.Options.{Word}
+use Rattle.command_table.specs.Values.{is_disk_name}
+use Rattle.command_table.specs.declared.command.Command.{Command}
+use Rattle.line_answers.specs.declared.answer.Answer.{Answer}
+use Rattle.line_answers.specs.declared.answer.Answer.TheVariants as answer
+use Rattle.line_answers.specs.declared.answer.Answer.TheVariants.{Fine, PvFailed}
+use Rattle.line_answers.specs.declared.op_refusal.OpRefusal.{OpRefusal}
+use Rattle.lvm_script.specs.declared.line.Line.{Line}
 use Rattle.disk_model.proofs.IdleAgain.{again_both}
 use Rattle.disk_model.specs.Durability.{IsBase}
 use Rattle.disk_model.specs.Record.{IsRecord}
@@ -17,32 +23,23 @@ use Rattle.disk_model.specs.Steps.{Image, Told, now_after}
 use Rattle.disk_model.proofs.EveryMoment.{since_weaken}
 use Rattle.disk_model.proofs.LastFault.{same_faults_both}
 use Rattle.disk_model.proofs.StepsSince.{between_both, between_weaker}
+use Rattle.disk_batch.proofs.InTurn.{of_submitted}
+use Rattle.disk_batch.specs.InTurn.{HasFirstBatches, Put, WritesInTurn, with_batches}
+use Rattle.vg_found.specs.Shape.{HasShape}
+use Rattle.vg_found.specs.Whole.{IsWhole}
+use Rattle.vg_found.specs.declared.found.Found.{Found}
+use Rattle.vg_scan.specs.Scans.{HoldsNow, IsScanOf}
 use Rattle.group_ops.specs.Allocating.{Takes}
 use Rattle.group_ops.specs.Laws.{state_in}
 use Rattle.group_ops.specs.Planning.{IsBackupOf, IsPlanned, asks_of, change_of, refusal_of}
-use Rattle.image_scans.proofs.CommitLine.{all_written}
-use Rattle.image_scans.proofs.Zeroes.{IsPlannedOn, zeroes_show}
-use Rattle.repair_scans.proofs.FoundGroup.{found_group}
 use Rattle.group_ops.proofs.WholeState.{whole_is_state}
-use Rattle.vg_repair.proofs.RepairedSizes.{repaired_count}
-use Rattle.line_history.proofs.Seen.{record_before}
 use Rattle.group_ops.specs.declared.state.GroupState.{GroupState}
-use Rattle.lvm_script.specs.Options.{Word}
-use Rattle.lvm_script.specs.Values.{is_disk_name}
-use Rattle.lvm_script.specs.declared.answer.Answer.{Answer}
-use Rattle.lvm_script.specs.declared.answer.Answer.TheVariants as answer
-use Rattle.lvm_script.specs.declared.answer.Answer.TheVariants.{Fine, PvFailed}
-use Rattle.lvm_script.specs.declared.command.Command.{Command}
-use Rattle.lvm_script.specs.declared.line.Line.{Line}
-use Rattle.lvm_script.specs.declared.op_refusal.OpRefusal.{OpRefusal}
 use Rattle.vg_change.specs.Batches.{batches_of, clears_of, zeros_of}
 use Rattle.vg_change.specs.CarryingOut.{Carries, ClearsBehind, HasBegun, HasJudged, IsFault, KeepsImages, WritesBehind}
 use Rattle.vg_change.specs.Laws.{ShowsEntries}
 use Rattle.vg_change.specs.declared.fault.ChangeFault.{ChangeFault}
 use Rattle.vg_change.specs.declared.fault.ChangeFault.TheVariants as fault
-use Rattle.vg_found.specs.Shape.{HasShape}
-use Rattle.vg_found.specs.Whole.{IsWhole}
-use Rattle.vg_found.specs.declared.found.Found.{Found}
+use Rattle.vg_repair.proofs.RepairedSizes.{repaired_count}
 use Rattle.vg_repair.specs.Batches.{repair_batches}
 use Rattle.vg_repair.specs.Repaired.{repaired_of}
 use Rattle.vg_repair.specs.Laws.{KeepsImages as RepairKeepsImages, StraysAreOthers}
@@ -51,7 +48,10 @@ use Rattle.vg_repair.specs.Stale.{too_large}
 use Rattle.vg_repair.specs.declared.fault.RepairFault.{RepairFault}
 use Rattle.vg_repair.specs.declared.fault.RepairFault.TheVariants as repair
 use Rattle.vg_repair.proofs.RepairedEntries.{repaired_entries}
-use Rattle.vg_scan.specs.Scans.{HoldsNow, IsScanOf}
+use Rattle.image_scans.proofs.CommitLine.{all_written}
+use Rattle.image_scans.proofs.Zeroes.{IsPlannedOn, zeroes_show}
+use Rattle.repair_scans.proofs.FoundGroup.{found_group}
+use Rattle.line_history.proofs.Seen.{record_before}
 use Rattle.lvm_run.specs.Changing.{GoesOn, IsCarriedOut, IsChanged, IsWholeAgain, changing, ending_of, line_in, outcome_of}
 use Rattle.lvm_run.specs.CommandSpec.{Context, Finds, Inputs, no_inputs}
 use Rattle.lvm_run.specs.Meets.{ChangesDisks, IsJudged, IsTaken, Meets, batches_if, is_done, line_begun}

@@ -3,23 +3,23 @@ use Rattle.std.proofs.Common.{◌≡◌, ℕ, Bool, true, List, [], ◌∷◌, �
 use Rattle.std.specs.FinSet as set
 use Rattle.std.specs.Prelude.{unwrap_or}
 use Rattle.sector_base.specs.declared.spans.Span.{Span}
+use Rattle.command_table.specs.Options.{Word, number_named}
+use Rattle.line_answers.specs.declared.answer.Answer.TheVariants.{Refused}
+use Rattle.line_answers.specs.declared.answer.Answer.TheVariants as answer
+use Rattle.line_answers.specs.declared.op_refusal.OpRefusal.TheVariants.{UnknownPv}
 use Rattle.disk_model.proofs.IdleAgain.{again_nothing}
 use Rattle.disk_model.specs.Faults.{HasSameFaults, IsLastFault}
 use Rattle.disk_model.specs.Idle.{IsIdleAgain}
 use Rattle.disk_model.specs.Since.{BetweenTold}
 use Rattle.disk_model.specs.State.{State}
 use Rattle.disk_model.specs.Steps.{Image, Reading, now_after}
+use Rattle.pv_label.specs.LabelSectors.{label_span}
 use Rattle.pv_header.specs.declared.extent_list.Extent.{Extent}
 use Rattle.disk_contents.specs.declared.contents.PvFound.{PvFound}
 use Rattle.disk_contents.specs.declared.contents.PvFound.TheVariants.{NoLabel, NoHeader, Whole}
 use Rattle.disk_contents.specs.Contents.{IsFound}
-use Rattle.pv_label.specs.LabelSectors.{label_span}
 use Rattle.disk_contents.specs.Reads.{AreAreasOf, ReadsAllOf, ReadsFirstOf, area_spans, areas_found}
 use Rattle.lvm_report.specs.Report.{IsReport}
-use Rattle.lvm_script.specs.Options.{Word, number_named}
-use Rattle.lvm_script.specs.declared.answer.Answer.TheVariants.{Refused}
-use Rattle.lvm_script.specs.declared.answer.Answer.TheVariants as answer
-use Rattle.lvm_script.specs.declared.op_refusal.OpRefusal.TheVariants.{UnknownPv}
 use Rattle.lvm_run.specs.declared.ending.Ending.TheVariants.{NoMemory, ScanReadFailed}
 use Rattle.lvm_run.specs.declared.outcome.Outcome.{Outcome}
 use Rattle.lvm_run.specs.declared.outcome.Outcome.TheVariants.{Ended, Answered, Reported}

@@ -2,8 +2,8 @@
 use Rattle.std.proofs.Common.{◌≡◌, ◌⊎◌, All, Bool, true, false, if◌then◌else◌, List, [], ◌∷◌, Option, Some, None, IfSome, option_map, option_and_then, subst, inl, inr}
 use Rattle.std.proofs.lemmas.Bool.{cases_Bool}
 use Rattle.std.proofs.lemmas.List.Elements.{All-cons, All-nil}
-use Rattle.lvm_script.specs.Options.{Word}
-use Rattle.lvm_script.specs.Values.{is_disk_name}
+use Rattle.command_table.specs.Options.{Word}
+use Rattle.command_table.specs.Values.{is_disk_name}
 use Rattle.lvm_words.specs.declared.command_line.CommandLine.{CommandLine}
 use Rattle.lvm_words.specs.CommandLines.{command_line_of}
 use Rattle.lvm_words.specs.Disks.{Front, are_disks, front_of, is_disk_option, where_disks, with_name}

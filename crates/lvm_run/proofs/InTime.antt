@@ -2,20 +2,20 @@
 use Rattle.std.proofs.Common.{◌≡◌, ◌≤◌, ℕ, Bool, true, false, if◌then◌else◌, List, [], ◌∷◌, Option, Some, None, sym, subst, arith, refl}
 use Rattle.std.specs.Option.{option_map_or}
 use Rattle.std.specs.Prelude.{Result, Ok, Err}
-use Rattle.disk_batch.specs.InTurn.{Put}
-use Rattle.disk_model.specs.State.{State}
-use Rattle.group_ops.specs.Planning.{IsPlanned}
-use Rattle.line_history.specs.Histories.{journal_of_line}
-use Rattle.lvm_script.specs.Options.{Word}
-use Rattle.lvm_script.specs.declared.answer.Answer.{Answer}
-use Rattle.lvm_script.specs.declared.command.Command.{Command}
-use Rattle.lvm_script.specs.declared.command.Command.TheVariants.{Lvs, Pvs, Vgcfgbackup, Vgck, Vgs}
+use Rattle.command_table.specs.Options.{Word}
+use Rattle.command_table.specs.declared.command.Command.{Command}
+use Rattle.command_table.specs.declared.command.Command.TheVariants.{Lvs, Pvs, Vgcfgbackup, Vgck, Vgs}
+use Rattle.line_answers.specs.declared.answer.Answer.{Answer}
 use Rattle.lvm_script.specs.declared.line.Line.{Line}
+use Rattle.disk_model.specs.State.{State}
+use Rattle.disk_batch.specs.InTurn.{Put}
+use Rattle.vg_found.specs.declared.found.Found.{Found}
+use Rattle.group_ops.specs.Planning.{IsPlanned}
 use Rattle.vg_change.specs.CarryingOut.{Carries, made_at}
 use Rattle.vg_change.specs.declared.fault.ChangeFault.{ChangeFault}
 use Rattle.vg_change.specs.declared.fault.ChangeFault.TheVariants as fault
-use Rattle.vg_found.specs.declared.found.Found.{Found}
 use Rattle.vg_repair.specs.declared.fault.RepairFault.{RepairFault}
+use Rattle.line_history.specs.Histories.{journal_of_line}
 use Rattle.lvm_run.specs.Changing.{GoesOn, took_of}
 use Rattle.lvm_run.specs.History.{AreInTime, Said, begun_from, journal_by, lines_by, reports_scan, said_of}
 use Rattle.lvm_run.specs.declared.outcome.Outcome.{Outcome}

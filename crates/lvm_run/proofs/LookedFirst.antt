@@ -5,10 +5,16 @@ use Rattle.std.specs.Prelude.{MatchOption, MatchResult}
 use Rattle.std.proofs.lemmas.List.Elements.{All-nil}
 use Rattle.std.proofs.lemmas.Option.{same_Some}
 use Rattle.sector_base.specs.declared.spans.Span.{Span}
+use Rattle.command_table.specs.declared.command.Command.{Command}
+use Rattle.command_table.specs.declared.request.Request.TheVariants.{One}
+use Rattle.command_table.specs.Options.{Word}
+use Rattle.lvm_words.specs.declared.command_line.CommandLine.{CommandLine}
+use Rattle.lvm_words.specs.CommandLines.{command_line_of}
 use Rattle.disk_model.specs.Faults.{HasSameFaults}
 use Rattle.disk_model.specs.Since.{ReadsAlone, writes_submitted}
 use Rattle.disk_model.specs.State.{State}
 use Rattle.disk_model.specs.Steps.{Step, Told, Submitted, Completed, Reading, Writing, Flushing, now_after}
+use Rattle.vg_scan.specs.Scans.{HoldsNow}
 use Rattle.disk_use.specs.declared.in_use.InUse.{InUse as UsedDisk}
 use Rattle.disk_use.specs.declared.use_refusal.UseRefusal.{UseRefusal}
 use Rattle.disk_use.specs.Faults.{IsUseFault}
@@ -16,12 +22,6 @@ use Rattle.disk_use.specs.Looks.{Looks}
 use Rattle.disk_use.specs.Taken.{is_new, taken_by}
 use Rattle.disk_use.specs.Uses.{IsFree, IsUsedBy}
 use Rattle.disk_use.proofs.Looking.{now_weaker}
-use Rattle.lvm_script.specs.declared.command.Command.{Command}
-use Rattle.lvm_script.specs.declared.request.Request.TheVariants.{One}
-use Rattle.lvm_script.specs.Options.{Word}
-use Rattle.lvm_words.specs.declared.command_line.CommandLine.{CommandLine}
-use Rattle.lvm_words.specs.CommandLines.{command_line_of}
-use Rattle.vg_scan.specs.Scans.{HoldsNow}
 use Rattle.lvm_run.specs.declared.not_run.NotRun.TheVariants.{InUse, Untold}
 use Rattle.lvm_run.specs.Disks.{HasDisks}
 use Rattle.lvm_run.specs.Guarded.{AreFree, Asks, IsWhyNotRun, LeavesUsed, LooksAtMost}

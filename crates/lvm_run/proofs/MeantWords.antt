@@ -6,40 +6,40 @@ use Rattle.std.specs.Int.{is_power_of_two}
 use Rattle.std.specs.List.{list_all}
 use Rattle.std.specs.Result.{result_ok}
 use Rattle.lvm_name.specs.Names.{group_name_refusal, volume_name_refusal}
-use Rattle.lvm_script.specs.declared.amount.Amount.{Amount}
-use Rattle.lvm_script.specs.declared.amount.Amount.TheVariants.{Extents, Sectors}
-use Rattle.lvm_script.specs.declared.amount.Growth.{Growth}
-use Rattle.lvm_script.specs.declared.amount.Growth.TheVariants.{By, To}
-use Rattle.lvm_script.specs.declared.command.Command.{Command}
-use Rattle.lvm_script.specs.declared.command.Command.TheVariants.{Pvck, Pvs, Vgcreate, Vgremove, Vgrename, Vgcfgbackup, Vgcfgrestore, Vgck, Vgs, Lvcreate, Lvextend, Lvreduce, Lvremove, Lvrename, Lvs}
-use Rattle.lvm_script.specs.declared.command.Path.{Path}
-use Rattle.lvm_script.specs.declared.command_name.CommandName.{CommandName}
-use Rattle.lvm_script.specs.declared.command_name.CommandName.TheVariants as name
-use Rattle.lvm_script.specs.declared.fault.Fault.{Fault}
-use Rattle.lvm_script.specs.declared.fault.Fault.TheVariants.{BadCount, BadName}
-use Rattle.lvm_script.specs.declared.kind.Kind.TheVariants.{Growth as Grows, Number, PowerSize, Size, SizeGrowth, Volume}
-use Rattle.lvm_script.specs.declared.option_key.OptionKey.{OptionKey}
-use Rattle.lvm_script.specs.declared.option_key.OptionKey.TheVariants as key
-use Rattle.lvm_script.specs.declared.refusal.CommandRefusal.{CommandRefusal}
-use Rattle.lvm_script.specs.declared.refusal.CommandRefusal.TheVariants.{Faulty, WrongWords, NoMemory}
-use Rattle.lvm_script.specs.declared.request.Request.{Request}
-use Rattle.lvm_script.specs.declared.request.Request.TheVariants.{One, Session}
-use Rattle.lvm_script.specs.declared.table.OptionRow.{OptionRow}
-use Rattle.lvm_script.specs.Meaning.{Given, alone, amount_of, amount_with, at_place, demo, demo_of, goes_together, growth_by, growth_of, growth_with, longer, lvcreate, lvextend, lvreduce, lvrename, meaning_of_words, meaning_with, narrow, new_volume, one_path, one_word, path_in, pvcreate, pvmove, request_by_name, request_named, request_read, session, session_on, shorter, size, value_in, vgcreate, vgextend, vgreduce, vgrename, workers_in}
-use Rattle.lvm_script.specs.Options.{Word, is_key}
-use Rattle.lvm_script.specs.Table.{command_named, is_for_words, options_of}
-use Rattle.lvm_script.specs.Values.{has_plus, is_between, is_group_name, number_fault, number_of, size_of, unless, without_plus}
-use Rattle.lvm_script.specs.Words.{Split, is_complete, nothing_split, numbered_from, read}
+use Rattle.command_table.specs.declared.amount.Amount.{Amount}
+use Rattle.command_table.specs.declared.amount.Amount.TheVariants.{Extents, Sectors}
+use Rattle.command_table.specs.declared.amount.Growth.{Growth}
+use Rattle.command_table.specs.declared.amount.Growth.TheVariants.{By, To}
+use Rattle.command_table.specs.declared.command.Command.{Command}
+use Rattle.command_table.specs.declared.command.Command.TheVariants.{Pvck, Pvs, Vgcreate, Vgremove, Vgrename, Vgcfgbackup, Vgcfgrestore, Vgck, Vgs, Lvcreate, Lvextend, Lvreduce, Lvremove, Lvrename, Lvs}
+use Rattle.command_table.specs.declared.command.Path.{Path}
+use Rattle.command_table.specs.declared.command_name.CommandName.{CommandName}
+use Rattle.command_table.specs.declared.command_name.CommandName.TheVariants as name
+use Rattle.command_table.specs.declared.fault.Fault.{Fault}
+use Rattle.command_table.specs.declared.fault.Fault.TheVariants.{BadCount, BadName}
+use Rattle.command_table.specs.declared.kind.Kind.TheVariants.{Growth as Grows, Number, PowerSize, Size, SizeGrowth, Volume}
+use Rattle.command_table.specs.declared.option_key.OptionKey.{OptionKey}
+use Rattle.command_table.specs.declared.option_key.OptionKey.TheVariants as key
+use Rattle.command_table.specs.declared.refusal.CommandRefusal.{CommandRefusal}
+use Rattle.command_table.specs.declared.refusal.CommandRefusal.TheVariants.{Faulty, WrongWords, NoMemory}
+use Rattle.command_table.specs.declared.request.Request.{Request}
+use Rattle.command_table.specs.declared.request.Request.TheVariants.{One, Session}
+use Rattle.command_table.specs.declared.table.OptionRow.{OptionRow}
+use Rattle.command_table.specs.Meaning.{Given, alone, amount_of, amount_with, at_place, demo, demo_of, goes_together, growth_by, growth_of, growth_with, longer, lvcreate, lvextend, lvreduce, lvrename, meaning_of_words, meaning_with, narrow, new_volume, one_path, one_word, path_in, pvcreate, pvmove, request_by_name, request_named, request_read, session, session_on, shorter, size, value_in, vgcreate, vgextend, vgreduce, vgrename, workers_in}
+use Rattle.command_table.specs.Options.{Word, is_key}
+use Rattle.command_table.specs.Table.{command_named, is_for_words, options_of}
+use Rattle.command_table.specs.Values.{has_plus, is_between, is_group_name, number_fault, number_of, size_of, unless, without_plus}
+use Rattle.command_table.specs.Words.{Split, is_complete, nothing_split, numbered_from, read}
 use Rattle.lvm_words.specs.declared.command_line.CommandLine.{CommandLine}
 use Rattle.lvm_words.specs.CommandLines.{command_line_of, of_disks}
 use Rattle.lvm_words.specs.Disks.{Front, disks_front}
 use Rattle.lvm_words.specs.Parser.{arguments_pass, value_passes}
 use Rattle.lvm_words.proofs.FaultFree.{all_pass, fault_free, given_passes, kind_in, split_read}
 use Rattle.lvm_words.proofs.Spellings.{same_key}
+use Rattle.volume_rules.specs.Rules.{IsPowerOfTwo}
+use Rattle.vg_check.proofs.OneBit.{power_from_ones}
 use Rattle.group_ops.specs.Lvcreate.{IsNewVolume}
 use Rattle.group_ops.specs.Sizes.{IsAmount, IsGrowth}
-use Rattle.vg_check.proofs.OneBit.{power_from_ones}
-use Rattle.volume_rules.specs.Rules.{IsPowerOfTwo}
 
 -- from 8 sectors to 2^31, and a multiple of 8
 abbrev IsExtentSize : ℕ → Type 0

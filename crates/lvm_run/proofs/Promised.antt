@@ -3,7 +3,11 @@ use Rattle.std.proofs.Common.{◌≡◌, ◌≤◌, ◌<◌, ℕ, ◌^◌, Bool,
 use Rattle.std.proofs.lemmas.List.{append-nil}
 use Rattle.std.proofs.lemmas.Option.{same_Some}
 use Rattle.std.specs.Prelude.{All, IsTrue, MatchResult, Result, Ok, Err, is_some}
-use Rattle.disk_batch.specs.InTurn.{Put, WritesInTurn}
+use Rattle.command_table.specs.Options.{Word}
+use Rattle.command_table.specs.Values.{is_disk_name}
+use Rattle.line_answers.specs.declared.answer.Answer.{Answer}
+use Rattle.line_answers.specs.declared.answer.Answer.TheVariants as answer
+use Rattle.lvm_script.specs.declared.line.Line.{Line}
 use Rattle.disk_model.proofs.NowStands.{now_base}
 use Rattle.disk_model.proofs.WhereTold.{told_at}
 use Rattle.disk_model.specs.Durability.{IsBase}
@@ -13,29 +17,19 @@ use Rattle.disk_model.specs.Record.{IsRecord}
 use Rattle.disk_model.specs.Since.{BetweenTold}
 use Rattle.disk_model.specs.State.{IsLawful, State}
 use Rattle.disk_model.specs.Steps.{Image, Step, Told, now_after, steps_on}
+use Rattle.disk_batch.specs.InTurn.{Put, WritesInTurn}
+use Rattle.vg_found.specs.Shape.{HasShape}
+use Rattle.vg_found.specs.Whole.{IsWhole}
+use Rattle.vg_found.specs.declared.found.Found.{Found}
+use Rattle.vg_scan.specs.Scans.{HoldsNow, IsScanOf}
 use Rattle.group_ops.specs.Allocating.{Takes}
 use Rattle.group_ops.specs.Laws.{state_in}
 use Rattle.group_ops.specs.Planning.{IsBackupOf, IsPlanned, asks_of, change_of, refusal_of}
 use Rattle.group_ops.specs.declared.state.GroupState.{GroupState}
-use Rattle.image_scans.specs.Laws.{none_out}
-use Rattle.image_scans.specs.Versions.{FindsVersion, Version}
-use Rattle.line_history.proofs.Looks.{looks}
-use Rattle.line_history.specs.EachSet.{DoneSetsAgree, MadeMembersAgree}
-use Rattle.line_history.specs.Histories.{ClearsHaveHistories, EndsHaveHistories, HasRunHistory, LinesHaveHistories, LooksAlone, MayAnswer, MayEnd, journal_of_line, took_of as line_took}
-use Rattle.line_history.specs.LineRun.{ClearsLine, Given, IsGiven, RunsLine, Stage, Opened, Repairing, Repaired, Zeroing, Writing, Done, batches_if, is_done, is_repaired, is_zeroed, repair_begun, zeros_begun}
-use Rattle.lvm_script.specs.Options.{Word}
-use Rattle.lvm_script.specs.Values.{is_disk_name}
-use Rattle.lvm_script.specs.declared.answer.Answer.{Answer}
-use Rattle.lvm_script.specs.declared.answer.Answer.TheVariants as answer
-use Rattle.lvm_script.specs.declared.line.Line.{Line}
-use Rattle.repair_scans.proofs.StraysApart.{strays_apart}
 use Rattle.vg_change.specs.Batches.{batches_of, clears_of, zeros_of}
 use Rattle.vg_change.specs.CarryingOut.{Carries, ClearsBehind, HasBegun, HasJudged, IsFault, KeepsImages, WritesBehind, WritesBoth, made_at}
 use Rattle.vg_change.specs.declared.fault.ChangeFault.{ChangeFault}
 use Rattle.vg_change.specs.declared.fault.ChangeFault.TheVariants as fault
-use Rattle.vg_found.specs.Shape.{HasShape}
-use Rattle.vg_found.specs.Whole.{IsWhole}
-use Rattle.vg_found.specs.declared.found.Found.{Found}
 use Rattle.vg_repair.specs.Batches.{repair_batches}
 use Rattle.vg_repair.specs.Laws.{KeepsImages as RepairKeepsImages, StraysAreOthers}
 use Rattle.vg_repair.specs.Repaired.{repaired_of}
@@ -43,7 +37,13 @@ use Rattle.vg_repair.specs.Repairing.{HasBegun as HasRepairBegun, IsFault as IsR
 use Rattle.vg_repair.specs.Stale.{too_large}
 use Rattle.vg_repair.specs.declared.fault.RepairFault.{RepairFault}
 use Rattle.vg_repair.specs.declared.fault.RepairFault.TheVariants as repair
-use Rattle.vg_scan.specs.Scans.{HoldsNow, IsScanOf}
+use Rattle.image_scans.specs.Laws.{none_out}
+use Rattle.image_scans.specs.Versions.{FindsVersion, Version}
+use Rattle.repair_scans.proofs.StraysApart.{strays_apart}
+use Rattle.line_history.proofs.Looks.{looks}
+use Rattle.line_history.specs.EachSet.{DoneSetsAgree, MadeMembersAgree}
+use Rattle.line_history.specs.Histories.{ClearsHaveHistories, EndsHaveHistories, HasRunHistory, LinesHaveHistories, LooksAlone, MayAnswer, MayEnd, journal_of_line, took_of as line_took}
+use Rattle.line_history.specs.LineRun.{ClearsLine, Given, IsGiven, RunsLine, Stage, Opened, Repairing, Repaired, Zeroing, Writing, Done, batches_if, is_done, is_repaired, is_zeroed, repair_begun, zeros_begun}
 use Rattle.lvm_run.specs.Changing.{GoesOn, IsCarriedOut, IsChanged, IsWholeAgain, ending_of, outcome_of, took_of}
 use Rattle.lvm_run.specs.CommandSpec.{Inputs, no_inputs}
 use Rattle.lvm_run.specs.History.{AreInTime, IsEntered, KeepsPromise, Said, begun_from, journal_by, lines_by}

@@ -2,23 +2,23 @@
 use Rattle.std.proofs.Common.{◌≡◌, ◌≤◌, ℕ, Bool, true, false, if◌then◌else◌, List, [], ◌∷◌, length, Option, Some, None, refl, sym, ap, subst, ◌∙◌, arith}
 use Rattle.std.proofs.lemmas.Bool.{true≢false}
 use Rattle.std.specs.Bool.{MatchBool}
+use Rattle.command_table.specs.Commands.{changes}
+use Rattle.command_table.specs.Options.{Word}
+use Rattle.command_table.specs.declared.command.Command.{Command}
+use Rattle.command_table.specs.declared.command.Command.TheVariants.{Lvcreate, Lvextend, Lvreduce, Lvremove, Lvrename, Lvs, Pvcreate, Pvck, Pvs, Vgcfgbackup, Vgcfgrestore, Vgck, Vgcreate, Vgextend, Vgreduce, Vgremove, Vgrename, Vgs}
+use Rattle.line_answers.specs.declared.answer.Answer.{Answer}
+use Rattle.line_answers.specs.declared.answer.Answer.TheVariants as answer
+use Rattle.line_answers.specs.declared.op_refusal.OpRefusal.{OpRefusal}
+use Rattle.lvm_script.specs.declared.line.Line.{Line}
 use Rattle.disk_model.proofs.ReadingAlone.{reads_write_nothing}
 use Rattle.disk_model.proofs.StepsSince.{between_weaker}
 use Rattle.disk_model.specs.Since.{BetweenTold}
 use Rattle.disk_model.specs.State.{State}
 use Rattle.disk_model.specs.Steps.{Told}
-use Rattle.line_history.proofs.Looks.{reports}
-use Rattle.line_history.specs.Histories.{IsFineOrBad, journal_of_line, took_if}
-use Rattle.lvm_script.specs.Lines.{changes}
-use Rattle.lvm_script.specs.Options.{Word}
-use Rattle.lvm_script.specs.declared.answer.Answer.{Answer}
-use Rattle.lvm_script.specs.declared.answer.Answer.TheVariants as answer
-use Rattle.lvm_script.specs.declared.command.Command.{Command}
-use Rattle.lvm_script.specs.declared.command.Command.TheVariants.{Lvcreate, Lvextend, Lvreduce, Lvremove, Lvrename, Lvs, Pvcreate, Pvck, Pvs, Vgcfgbackup, Vgcfgrestore, Vgck, Vgcreate, Vgextend, Vgreduce, Vgremove, Vgrename, Vgs}
-use Rattle.lvm_script.specs.declared.line.Line.{Line}
-use Rattle.lvm_script.specs.declared.op_refusal.OpRefusal.{OpRefusal}
 use Rattle.volume_history.specs.Commands.{commits, may_say}
 use Rattle.volume_history.specs.Quiet.{is_quiet}
+use Rattle.line_history.proofs.Looks.{reports}
+use Rattle.line_history.specs.Histories.{IsFineOrBad, journal_of_line, took_if}
 use Rattle.lvm_run.specs.CommandSpec.{Context, Inputs}
 use Rattle.lvm_run.specs.Commands.{is_built, spec_of}
 use Rattle.lvm_run.specs.History.{IsEntered, KeepsPromise, NoneOlder, journal_by, lines_by, reports_scan}

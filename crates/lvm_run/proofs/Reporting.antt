@@ -5,6 +5,9 @@ use Rattle.std.specs.FinSet as set
 use Rattle.std.specs.Ordering.{nat_cmp}
 use Rattle.std.specs.Prelude.{◌↔◌, IsTrue}
 use Rattle.sector_base.specs.declared.spans.Span.{Span}
+use Rattle.command_table.specs.Options.{Word}
+use Rattle.command_table.specs.Commands.{changes}
+use Rattle.line_answers.specs.declared.answer.Answer.TheVariants as answer
 use Rattle.disk_model.proofs.IdleAgain.{again_nothing}
 use Rattle.disk_model.specs.Idle.{IsIdleAgain}
 use Rattle.disk_model.specs.Since.{BetweenTold, spans_read}
@@ -13,8 +16,6 @@ use Rattle.disk_model.specs.Steps.{Image, now_after}
 use Rattle.scan_rules.specs.declared.decision.ScanRefusal.{ScanRefusal}
 use Rattle.vg_found.specs.declared.found.Found.{Found}
 use Rattle.vg_scan.specs.Scans.{AreFewReads, FailedOn, HoldsNow, IsRefusalOfScan, IsScan, IsScanOf, IsScanRefused, ReadsFew}
-use Rattle.lvm_script.specs.Options.{Word}
-use Rattle.lvm_script.specs.declared.answer.Answer.TheVariants as answer
 use Rattle.lvm_run.specs.declared.commands.scan_report.ScanReport.{ScanReport}
 use Rattle.lvm_run.specs.declared.commands.scan_report.ScanReport.TheVariants.{Pvs, Vgs, Lvs, Vgck}
 use Rattle.lvm_run.specs.declared.ending.Ending.{Ending}
@@ -26,7 +27,6 @@ use Rattle.lvm_run.specs.CommandSpec.{CommandSpec, Context, no_inputs}
 use Rattle.lvm_run.specs.Meets.{DoesToDisks, Meets}
 use Rattle.lvm_run.specs.ScanEndings.{IsEndingOf}
 use Rattle.lvm_run.specs.ScanReport.{IsReported, command_of, scan_report, text_of}
-use Rattle.lvm_script.specs.Lines.{changes}
 use Rattle.lvm_run.proofs.ChangedDisks.{holds_now_anyway, holds_now_weaker, reads_disks}
 use Rattle.lvm_run.proofs.Refusals.{refused_is}
 

@@ -1,13 +1,14 @@
 -- A line with the text that the source gave.
 use Rattle.std.proofs.Common.{◌≡◌, ℕ, true, false, List, refl, subst, inl, true≢false}
 use Rattle.std.specs.Prelude.{Ok}
+use Rattle.command_table.specs.Commands.{changes}
+use Rattle.command_table.specs.Options.{Word}
+use Rattle.command_table.specs.declared.command.Command.{Command}
+use Rattle.command_table.specs.declared.command.Command.TheVariants.{Vgcfgrestore}
+use Rattle.lvm_script.specs.Lines.{with_text}
+use Rattle.lvm_script.specs.declared.line.Line.{Line}
 use Rattle.disk_model.specs.State.{State}
 use Rattle.group_ops.specs.Planning.{IsPlanned}
-use Rattle.lvm_script.specs.Lines.{changes, with_text}
-use Rattle.lvm_script.specs.Options.{Word}
-use Rattle.lvm_script.specs.declared.command.Command.{Command}
-use Rattle.lvm_script.specs.declared.command.Command.TheVariants.{Vgcfgrestore}
-use Rattle.lvm_script.specs.declared.line.Line.{Line}
 use Rattle.lvm_run.specs.Commands.{is_built, spec_of}
 use Rattle.lvm_run.specs.Meets.{Meets}
 use Rattle.lvm_run.specs.Runs.{CanPlan, RunsLine, context_with}

@@ -1,13 +1,13 @@
 -- Memory was wanting before a line was begun.
 use Rattle.std.proofs.Common.{◌≡◌, ℕ, List, [], Option, refl, inl, inr}
+use Rattle.command_table.specs.Options.{Word}
+use Rattle.command_table.specs.declared.command.Command.{Command}
+use Rattle.command_table.specs.declared.command.Command.TheVariants.{Lvcreate, Lvextend, Lvreduce, Lvremove, Lvrename, Lvs, Pvcreate, Pvck, Pvs, Vgcfgbackup, Vgcfgrestore, Vgck, Vgcreate, Vgextend, Vgreduce, Vgremove, Vgrename, Vgs}
+use Rattle.command_table.specs.declared.request.Request.{Request}
+use Rattle.command_table.specs.declared.request.Request.TheVariants.{One}
+use Rattle.lvm_words.proofs.LineNames.{names_of_line}
 use Rattle.disk_model.proofs.IdleAgain.{again_nothing}
 use Rattle.disk_model.specs.State.{State}
-use Rattle.lvm_script.specs.Options.{Word}
-use Rattle.lvm_script.specs.declared.command.Command.{Command}
-use Rattle.lvm_script.specs.declared.command.Command.TheVariants.{Lvcreate, Lvextend, Lvreduce, Lvremove, Lvrename, Lvs, Pvcreate, Pvck, Pvs, Vgcfgbackup, Vgcfgrestore, Vgck, Vgcreate, Vgextend, Vgreduce, Vgremove, Vgrename, Vgs}
-use Rattle.lvm_script.specs.declared.request.Request.{Request}
-use Rattle.lvm_script.specs.declared.request.Request.TheVariants.{One}
-use Rattle.lvm_words.proofs.LineNames.{names_of_line}
 use Rattle.lvm_run.specs.Changing.{changing}
 use Rattle.lvm_run.specs.declared.commands.scan_report.ScanReport.TheVariants as report
 use Rattle.lvm_run.specs.declared.ending.Ending.TheVariants.{NoMemory}

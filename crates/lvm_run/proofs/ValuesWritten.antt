@@ -5,8 +5,8 @@ use Rattle.std.proofs.lemmas.List.{take-append-drop, take_more}
 use Rattle.std.specs.Prelude.{codes}
 use Rattle.std.specs.List.{flat_map}
 use Rattle.sector_base.specs.Shown.{Value, shown_text, value_text}
-use Rattle.lvm_script.specs.Streams.{WritesText}
-use Rattle.lvm_script.proofs.TextsWritten.{failed_before, written_both}
+use Rattle.byte_streams.specs.Streams.{WritesText}
+use Rattle.byte_streams.proofs.TextsWritten.{failed_before, written_both}
 
 abbrev behind_spaces : List Value → List ℕ
 behind_spaces values = flat_map (λ value. codes " " ++ value_text value) values

@@ -1,13 +1,13 @@
 -- The backup of a group that was found.
 use Rattle.std.specs.Prelude.{◌≡◌, ◌⊎◌, ℕ, true, false, nat_eq, Option, Some, None}
 use Rattle.std.specs.Cmp.Lexicographic.{pointwise}
+use Rattle.command_table.specs.Options.{Word}
+use Rattle.line_answers.specs.declared.answer.Answer.TheVariants.{NoMemory, Refused}
+use Rattle.line_answers.specs.declared.op_refusal.OpRefusal.TheVariants.{UnknownGroup}
 use Rattle.conf_text.specs.Printed.{printed}
 use Rattle.meta_model.specs.Standing.{HasTree}
 use Rattle.meta_model.specs.declared.group.Group.{Group}
 use Rattle.meta_print.specs.Layout.{backup_of}
-use Rattle.lvm_script.specs.Options.{Word}
-use Rattle.lvm_script.specs.declared.answer.Answer.TheVariants.{NoMemory, Refused}
-use Rattle.lvm_script.specs.declared.op_refusal.OpRefusal.TheVariants.{UnknownGroup}
 use Rattle.vg_found.specs.declared.found.Found.{Found}
 use Rattle.vg_found.specs.declared.whole.NotWhole.{NotWhole}
 use Rattle.vg_found.specs.Whole.{IsNotWhole, IsWhole}

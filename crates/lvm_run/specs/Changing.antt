@@ -1,31 +1,32 @@
 -- A command that changes something: the disks are flushed and scanned, what is stale or a stray is repaired, the line is judged
 -- by what stands there then, its zeros and then its other batches are written, and disks are cleared that the group lets go.
 use Rattle.std.specs.Prelude.{◌≡◌, ℕ, true, List, [], length, Option, Some, None, Result, Ok, Err, MatchResult}
-use Rattle.disk_batch.specs.InTurn.{Put}
+use Rattle.command_table.specs.declared.command.Command.{Command}
+use Rattle.command_table.specs.Options.{Word}
+use Rattle.line_answers.specs.declared.answer.Answer.TheVariants.{Fine, NoMemory, PvFailed, Refused}
+use Rattle.line_answers.specs.declared.op_refusal.OpRefusal.{OpRefusal}
+use Rattle.lvm_script.specs.declared.line.Line.{Line}
 use Rattle.disk_model.specs.Idle.{IsIdleAgain}
 use Rattle.disk_model.specs.Record.{IsRecord}
 use Rattle.disk_model.specs.Since.{BetweenTold}
 use Rattle.disk_model.specs.State.{State}
 use Rattle.disk_model.specs.Steps.{Told}
+use Rattle.disk_batch.specs.InTurn.{Put}
+use Rattle.vg_found.specs.Shape.{HasShape}
+use Rattle.vg_found.specs.Whole.{IsWhole}
+use Rattle.vg_found.specs.declared.found.Found.{Found}
+use Rattle.vg_scan.specs.Scans.{AreFewReads}
 use Rattle.group_ops.specs.Allocating.{Takes}
 use Rattle.group_ops.specs.Laws.{state_in}
 use Rattle.group_ops.specs.Planning.{IsBackupOf, asks_of, change_of, refusal_of}
 use Rattle.group_ops.specs.declared.backup.Backup.{Backup}
 use Rattle.group_ops.specs.declared.state.Change.{Change}
 use Rattle.group_ops.specs.declared.state.GroupState.{GroupState}
-use Rattle.lvm_script.specs.declared.command.Command.{Command}
-use Rattle.lvm_script.specs.declared.answer.Answer.TheVariants.{Fine, NoMemory, PvFailed, Refused}
-use Rattle.lvm_script.specs.declared.line.Line.{Line}
-use Rattle.lvm_script.specs.Options.{Word}
-use Rattle.lvm_script.specs.declared.op_refusal.OpRefusal.{OpRefusal}
 use Rattle.vg_change.specs.Batches.{batches_of, clears_of, zeros_of}
 use Rattle.vg_change.specs.CarryingOut.{HasJudged, IsCarried}
 use Rattle.vg_change.specs.declared.fault.ChangeFault.{ChangeFault}
 use Rattle.vg_change.specs.declared.fault.ChangeFault.TheVariants as fault
 use Rattle.vg_change.specs.Laws.{AreCleared, AreasAreKept, ClearsKeep, IsFoundAfter}
-use Rattle.vg_found.specs.Shape.{HasShape}
-use Rattle.vg_found.specs.Whole.{IsWhole}
-use Rattle.vg_found.specs.declared.found.Found.{Found}
 use Rattle.vg_repair.specs.Batches.{repair_batches}
 use Rattle.vg_repair.specs.Repaired.{repaired_of}
 use Rattle.vg_repair.specs.Laws.{KeepsImages as RepairKeepsImages, StraysAreOthers}
@@ -33,7 +34,6 @@ use Rattle.vg_repair.specs.Repairing.{HasBegun as HasRepairBegun, IsFault as IsR
 use Rattle.vg_repair.specs.Stale.{too_large}
 use Rattle.vg_repair.specs.declared.fault.RepairFault.{RepairFault}
 use Rattle.vg_repair.specs.declared.fault.RepairFault.TheVariants as repair
-use Rattle.vg_scan.specs.Scans.{AreFewReads}
 use Rattle.lvm_run.specs.declared.ending.Ending.{Ending}
 use Rattle.lvm_run.specs.declared.ending.Ending.TheVariants as ending
 use Rattle.lvm_run.specs.declared.outcome.Outcome.{Outcome}

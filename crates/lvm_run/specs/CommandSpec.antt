@@ -3,15 +3,15 @@ use Rattle.std.specs.Prelude.{ℕ, Bool, if◌then◌else◌, List, [], Option, 
 use Rattle.std.specs.FinSet as set
 use Rattle.std.specs.Ordering.{nat_cmp}
 use Rattle.sector_base.specs.declared.spans.Span.{Span}
-use Rattle.disk_batch.specs.InTurn.{Put}
+use Rattle.command_table.specs.Options.{Word, number_named}
+use Rattle.line_answers.specs.declared.op_refusal.OpRefusal.{OpRefusal}
+use Rattle.line_answers.specs.declared.op_refusal.OpRefusal.TheVariants.{UnknownPv}
 use Rattle.disk_model.specs.Steps.{Image}
-use Rattle.extent_alloc.specs.declared.part.Part.{Part}
-use Rattle.group_ops.specs.declared.backup.Backup.{Backup}
 use Rattle.meta_model.specs.declared.group.Group.{Group}
+use Rattle.extent_alloc.specs.declared.part.Part.{Part}
+use Rattle.disk_batch.specs.InTurn.{Put}
 use Rattle.vg_found.specs.declared.found.Found.{Found}
-use Rattle.lvm_script.specs.Options.{Word, number_named}
-use Rattle.lvm_script.specs.declared.op_refusal.OpRefusal.{OpRefusal}
-use Rattle.lvm_script.specs.declared.op_refusal.OpRefusal.TheVariants.{UnknownPv}
+use Rattle.group_ops.specs.declared.backup.Backup.{Backup}
 use Rattle.lvm_run.specs.declared.scan_refusal.ScanRefusal.{ScanRefusal}
 
 -- what a line is judged against, beside what a scan finds

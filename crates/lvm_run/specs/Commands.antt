@@ -6,8 +6,8 @@ pub mod Vgcfgbackup
 pub mod Vgck
 pub mod Vgs
 use Rattle.std.specs.Prelude.{◌≡◌, Bool, true, false, [], None}
-use Rattle.lvm_script.specs.declared.command.Command.{Command}
-use Rattle.lvm_script.specs.declared.command.Command.TheVariants as command
+use Rattle.command_table.specs.declared.command.Command.{Command}
+use Rattle.command_table.specs.declared.command.Command.TheVariants as command
 use Rattle.lvm_run.specs.Changing.{changing}
 use Rattle.lvm_run.specs.CommandSpec.{CommandSpec, AtNothing, no_inputs}
 use Rattle.lvm_run.specs.Commands.Lvs.{lvs}

@@ -1,8 +1,8 @@
 -- The disks that are handed to a run.
 use Rattle.std.specs.Prelude.{◌≡◌, ◌≤◌, ◌<◌, ℕ, ◌^◌, List, [], length, slice_index_or, Some}
-use Rattle.disk_model.specs.State.{State}
-use Rattle.lvm_script.specs.Options.{Word}
+use Rattle.command_table.specs.Options.{Word}
 use Rattle.lvm_words.specs.Disks.{disks_named}
+use Rattle.disk_model.specs.State.{State}
 
 -- so many disks, each of 8 to 2^40 sectors, with nothing in flight
 pub record AreDisks (count : ℕ) (state : State) : Type 0 where

@@ -2,11 +2,11 @@
 use Rattle.std.specs.Prelude.{ℕ, true, false, List, [], ◌∷◌, ◌++◌, codes, slice_index_or, flat_map}
 use Rattle.sector_base.specs.Shown.{Value, number, shown_text, text}
 use Rattle.lvm_id.specs.LvmId.{hyphen_form}
+use Rattle.command_table.specs.Options.{Word}
 use Rattle.scan_rules.specs.Copies.{kind_of}
 use Rattle.scan_rules.specs.declared.copy_refusal.CopyRefusal.{CopyRefusal}
 use Rattle.scan_rules.specs.declared.decision.ScanRefusal.{ScanRefusal as RefusalOfScan}
 use Rattle.scan_rules.specs.declared.decision.ScanRefusal.TheVariants as scan
-use Rattle.lvm_script.specs.Options.{Word}
 use Rattle.lvm_run.specs.declared.ending.Ending.{Ending}
 use Rattle.lvm_run.specs.declared.ending.Ending.TheVariants.{WordsRefused, NoMemory, SourceFailed, ScriptTooLong, OpenFailed, ScanReadFailed, ScanRefused, RepairFailed, RepairRefused}
 use Rattle.lvm_run.specs.declared.scan_refusal.ScanRefusal.{ScanRefusal}

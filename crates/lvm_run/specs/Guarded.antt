@@ -1,21 +1,21 @@
 -- A run that takes no disk which is in use, unless it is told to.
 use Rattle.std.specs.Prelude.{◌≡◌, ◌≢◌, ◌<◌, ◌⊎◌, ℕ, List, All, Contains, Some}
 use Rattle.sector_base.specs.declared.spans.Span.{Span}
+use Rattle.command_table.specs.declared.command.Command.{Command}
+use Rattle.command_table.specs.declared.request.Request.TheVariants.{One}
+use Rattle.command_table.specs.Options.{Word}
+use Rattle.lvm_words.specs.declared.command_line.CommandLine.{CommandLine}
+use Rattle.lvm_words.specs.CommandLines.{command_line_of}
 use Rattle.disk_model.specs.Faults.{HasSameFaults}
 use Rattle.disk_model.specs.Since.{writes_submitted}
 use Rattle.disk_model.specs.State.{State}
 use Rattle.disk_model.specs.Steps.{Image, Step, Told, now_after, steps_on}
+use Rattle.vg_scan.specs.Scans.{HoldsNow}
 use Rattle.disk_use.specs.declared.in_use.InUse.{InUse as UsedDisk}
 use Rattle.disk_use.specs.Faults.{IsUseFault}
 use Rattle.disk_use.specs.Looks.{Looks}
 use Rattle.disk_use.specs.Taken.{is_new, taken_by}
 use Rattle.disk_use.specs.Uses.{IsFree, IsUsedBy}
-use Rattle.lvm_script.specs.declared.command.Command.{Command}
-use Rattle.lvm_script.specs.declared.request.Request.TheVariants.{One}
-use Rattle.lvm_script.specs.Options.{Word}
-use Rattle.lvm_words.specs.declared.command_line.CommandLine.{CommandLine}
-use Rattle.lvm_words.specs.CommandLines.{command_line_of}
-use Rattle.vg_scan.specs.Scans.{HoldsNow}
 use Rattle.lvm_run.specs.declared.not_run.NotRun.{NotRun}
 use Rattle.lvm_run.specs.declared.not_run.NotRun.TheVariants.{InUse, Untold}
 

@@ -2,31 +2,31 @@
 use Rattle.std.specs.Prelude.{◌≡◌, ◌≤◌, ℕ, ◌+◌, Bool, true, false, if◌then◌else◌, List, [], ◌∷◌, map, Option, Some, None, vec_capacity, vec_len}
 use Rattle.std.specs.List.{list_any}
 use Rattle.std.specs.Option.{option_map_or}
-use Rattle.disk_model.specs.Durability.{IsBase}
-use Rattle.disk_model.specs.State.{State}
-use Rattle.disk_model.specs.Steps.{Image, Told}
-use Rattle.image_scans.specs.Laws.{none_out}
-use Rattle.image_scans.specs.Versions.{FindsVersion, Version}
-use Rattle.line_history.specs.EachSet.{MembersAgree, SetsAgree}
-use Rattle.line_history.specs.Histories.{HasRunHistory, journal_of_line}
-use Rattle.line_table.specs.declared.journal.EntryKind.{EntryKind}
-use Rattle.line_table.specs.declared.journal.EntryKind.TheVariants as kind
-use Rattle.line_table.specs.declared.journal.JournalEntry.{JournalEntry}
-use Rattle.lvm_report.specs.AnswerLines.{answers_text}
+use Rattle.command_table.specs.Options.{Word}
+use Rattle.command_table.specs.declared.command.Command.{Command}
+use Rattle.command_table.specs.declared.command.Command.TheVariants as command
+use Rattle.command_table.specs.declared.request.Request.{Request}
+use Rattle.command_table.specs.declared.request.Request.TheVariants.{One}
+use Rattle.line_answers.specs.declared.answer.Answer.{Answer}
+use Rattle.line_answers.specs.declared.answer.Answer.TheVariants as answer
 use Rattle.lvm_script.specs.Lines.{line_of, with_text}
-use Rattle.lvm_script.specs.Options.{Word}
-use Rattle.lvm_script.specs.declared.answer.Answer.{Answer}
-use Rattle.lvm_script.specs.declared.answer.Answer.TheVariants as answer
-use Rattle.lvm_script.specs.declared.command.Command.{Command}
-use Rattle.lvm_script.specs.declared.command.Command.TheVariants as command
 use Rattle.lvm_script.specs.declared.line.Line.{Line}
-use Rattle.lvm_script.specs.declared.request.Request.{Request}
-use Rattle.lvm_script.specs.declared.request.Request.TheVariants.{One}
 use Rattle.lvm_words.specs.CommandLines.{command_line_of}
 use Rattle.lvm_words.specs.declared.asked.Task.{Task}
 use Rattle.lvm_words.specs.declared.asked.Task.TheVariants as task
 use Rattle.lvm_words.specs.declared.command_line.CommandLine.{CommandLine}
+use Rattle.disk_model.specs.Durability.{IsBase}
+use Rattle.disk_model.specs.State.{State}
+use Rattle.disk_model.specs.Steps.{Image, Told}
+use Rattle.line_table.specs.declared.journal.EntryKind.{EntryKind}
+use Rattle.line_table.specs.declared.journal.EntryKind.TheVariants as kind
+use Rattle.line_table.specs.declared.journal.JournalEntry.{JournalEntry}
+use Rattle.lvm_report.specs.AnswerLines.{answers_text}
+use Rattle.image_scans.specs.Laws.{none_out}
+use Rattle.image_scans.specs.Versions.{FindsVersion, Version}
 use Rattle.volume_history.specs.Commands.{commits}
+use Rattle.line_history.specs.EachSet.{MembersAgree, SetsAgree}
+use Rattle.line_history.specs.Histories.{HasRunHistory, journal_of_line}
 use Rattle.lvm_run.specs.Outcomes.{output_of}
 use Rattle.lvm_run.specs.Runs.{names_of}
 use Rattle.lvm_run.specs.declared.entered.Entered.{Entered}

@@ -4,19 +4,19 @@ use Rattle.std.specs.Bool.{MatchBool}
 use Rattle.std.specs.FinSet as set
 use Rattle.std.specs.Ordering.{nat_cmp}
 use Rattle.sector_base.specs.declared.spans.Span.{Span}
+use Rattle.line_answers.specs.declared.op_refusal.OpRefusal.{OpRefusal}
+use Rattle.line_answers.specs.declared.answer.Answer.TheVariants.{Fine, Refused, PvFailed}
+use Rattle.line_answers.specs.declared.answer.Answer.TheVariants as answer
 use Rattle.disk_model.specs.Durability.{IsBase}
 use Rattle.disk_model.specs.Faults.{HasSameFaults, IsLastFault}
 use Rattle.disk_model.specs.Idle.{IsIdleAgain}
 use Rattle.disk_model.specs.Moments.{EveryImageSince}
-use Rattle.disk_batch.specs.InTurn.{Put, WritesInTurn}
 use Rattle.disk_model.specs.Since.{BetweenTold, OnlyReads}
 use Rattle.disk_model.specs.State.{State}
 use Rattle.disk_model.specs.Steps.{Image, Reading, Flushing, Told, now_after}
+use Rattle.disk_batch.specs.InTurn.{Put, WritesInTurn}
 use Rattle.vg_found.specs.declared.found.Found.{Found}
 use Rattle.vg_scan.specs.Scans.{FailedOn, HoldsNow}
-use Rattle.lvm_script.specs.declared.op_refusal.OpRefusal.{OpRefusal}
-use Rattle.lvm_script.specs.declared.answer.Answer.TheVariants.{Fine, Refused, PvFailed}
-use Rattle.lvm_script.specs.declared.answer.Answer.TheVariants as answer
 use Rattle.lvm_run.specs.declared.ending.Ending.TheVariants.{WordsRefused, NoMemory, SourceFailed, ScriptTooLong, OpenFailed, ScanReadFailed, ScanRefused, RepairFailed, RepairRefused}
 use Rattle.lvm_run.specs.declared.outcome.Outcome.{Outcome}
 use Rattle.lvm_run.specs.declared.outcome.Outcome.TheVariants.{Ended, Answered, Reported}

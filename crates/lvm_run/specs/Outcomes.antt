@@ -1,11 +1,11 @@
 -- What a run comes to: its output and its exit status.
 use Rattle.std.specs.Prelude.{◌≡◌, ℕ, Bool, true, false, List, ◌++◌, codes, decimal, Option}
+use Rattle.byte_streams.specs.Streams.{WritesText}
+use Rattle.command_table.specs.Options.{Word}
+use Rattle.line_answers.specs.Answers.{answer_text}
+use Rattle.line_answers.specs.declared.answer.Answer.{Answer}
+use Rattle.line_answers.specs.declared.answer.Answer.TheVariants.{Refused, ReadFailed, PvFailed, Fenced, Stopped, NoMemory}
 use Rattle.lvm_report.specs.AnswerLines.{answers_text}
-use Rattle.lvm_script.specs.Answers.{answer_text}
-use Rattle.lvm_script.specs.Options.{Word}
-use Rattle.lvm_script.specs.Streams.{WritesText}
-use Rattle.lvm_script.specs.declared.answer.Answer.{Answer}
-use Rattle.lvm_script.specs.declared.answer.Answer.TheVariants.{Refused, ReadFailed, PvFailed, Fenced, Stopped, NoMemory}
 use Rattle.lvm_run.specs.declared.ending.Ending.TheVariants.{SourceFailed, WordsRefused}
 use Rattle.lvm_run.specs.declared.ending.Ending.TheVariants as ending
 use Rattle.lvm_run.specs.declared.outcome.Outcome.{Outcome}

@@ -2,19 +2,20 @@
 use Rattle.std.specs.Prelude.{◌≡◌, ◌≤◌, ◌⊎◌, ⊤, ℕ, true, List, [], length, All, Option, Some, None}
 use Rattle.std.specs.Bool.{MatchBool}
 use Rattle.std.specs.Option.{option_map_or}
-use Rattle.disk_model.specs.State.{State}
-use Rattle.lvm_script.specs.declared.command.Command.{Command}
-use Rattle.lvm_script.specs.declared.request.Request.{Request}
-use Rattle.lvm_script.specs.declared.request.Request.TheVariants.{One}
-use Rattle.group_ops.specs.Planning.{IsPlanned}
+use Rattle.command_table.specs.declared.command.Command.{Command}
+use Rattle.command_table.specs.declared.request.Request.{Request}
+use Rattle.command_table.specs.declared.request.Request.TheVariants.{One}
+use Rattle.command_table.specs.Commands.{changes}
+use Rattle.command_table.specs.Values.{is_disk_name}
+use Rattle.command_table.specs.Options.{Word}
 use Rattle.lvm_script.specs.declared.line.Line.{Line}
-use Rattle.lvm_script.specs.Lines.{TakesId, changes, line_of, with_text}
-use Rattle.lvm_script.specs.Values.{is_disk_name}
-use Rattle.lvm_script.specs.Options.{Word}
+use Rattle.lvm_script.specs.Lines.{TakesId, line_of, with_text}
 use Rattle.lvm_words.specs.declared.command_line.CommandLine.{CommandLine}
 use Rattle.lvm_words.specs.declared.asked.Task.{Task}
 use Rattle.lvm_words.specs.declared.asked.Task.TheVariants as task
 use Rattle.lvm_words.specs.CommandLines.{command_line_of, draws_id}
+use Rattle.disk_model.specs.State.{State}
+use Rattle.group_ops.specs.Planning.{IsPlanned}
 use Rattle.lvm_run.specs.declared.ending.Ending.{Ending}
 use Rattle.lvm_run.specs.declared.ending.Ending.TheVariants.{WordsRefused, NoMemory}
 use Rattle.lvm_run.specs.declared.outcome.Outcome.{Outcome}

@@ -1,14 +1,14 @@
 -- A report on what a scan of the disks finds, whatever is missing or unread.
 use Rattle.std.specs.Prelude.{◌≡◌, ◌↔◌, ℕ, IsTrue, List, [], Some, None}
 use Rattle.std.specs.FinSet as set
-use Rattle.lvm_report.specs.Reports.{lvs_text, pvs_text, vgck_text, vgs_text}
+use Rattle.command_table.specs.Commands.{changes}
+use Rattle.command_table.specs.Options.{Word}
+use Rattle.command_table.specs.declared.command.Command.{Command}
+use Rattle.command_table.specs.declared.command.Command.TheVariants as command
+use Rattle.line_answers.specs.declared.answer.Answer.TheVariants.{NoMemory}
 use Rattle.vg_found.specs.declared.found.Found.{Found}
 use Rattle.vg_scan.specs.Scans.{AreFewReads}
-use Rattle.lvm_script.specs.Lines.{changes}
-use Rattle.lvm_script.specs.Options.{Word}
-use Rattle.lvm_script.specs.declared.answer.Answer.TheVariants.{NoMemory}
-use Rattle.lvm_script.specs.declared.command.Command.{Command}
-use Rattle.lvm_script.specs.declared.command.Command.TheVariants as command
+use Rattle.lvm_report.specs.Reports.{lvs_text, pvs_text, vgck_text, vgs_text}
 use Rattle.lvm_run.specs.declared.commands.scan_report.ScanReport.{ScanReport}
 use Rattle.lvm_run.specs.declared.commands.scan_report.ScanReport.TheVariants.{Pvs, Vgs, Lvs, Vgck}
 use Rattle.lvm_run.specs.declared.outcome.Outcome.{Outcome}

@@ -1,9 +1,9 @@
 -- What a run reads of its source.
 use Rattle.std.specs.Prelude.{◌≡◌, ◌≤◌, ◌<◌, ℕ, Bool, true, false, List, [], length, Option, IfSome, Result, Ok, Err}
+use Rattle.byte_streams.specs.Streams.{HasRisen}
+use Rattle.command_table.specs.declared.command.Command.{Command}
+use Rattle.command_table.specs.declared.command.Command.TheVariants.{Vgcfgrestore}
 use Rattle.lvm_script.specs.Lines.{with_text}
-use Rattle.lvm_script.specs.Streams.{HasRisen}
-use Rattle.lvm_script.specs.declared.command.Command.{Command}
-use Rattle.lvm_script.specs.declared.command.Command.TheVariants.{Vgcfgrestore}
 use Rattle.lvm_script.specs.declared.line.Line.{Line}
 use Rattle.lvm_run.specs.declared.ending.Ending.{Ending}
 use Rattle.lvm_run.specs.declared.ending.Ending.TheVariants.{NoMemory, ScriptTooLong, SourceFailed}

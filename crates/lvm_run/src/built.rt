@@ -2,7 +2,7 @@
 ghost use Rattle.std.specs.Prelude.{◌≡◌};
 ghost use Rattle.lvm_run.specs.Commands.{is_built};
 
-use lvm_script::Command;
+use command_table::Command;
 
 /// Which commands run so far, as it is told to a user.
 pub const BUILT: &str =

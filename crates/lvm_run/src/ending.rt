@@ -1,12 +1,13 @@
 //! What ends a run before its lines.
 ghost use Rattle.std.specs.Prelude.{◌≡◌, [], ◌++◌, codes, is_ok};
 ghost use Rattle.sector_base.specs.Shown.{shown_text};
-ghost use Rattle.lvm_script.specs.Streams.{WritesText};
+ghost use Rattle.byte_streams.specs.Streams.{WritesText};
 ghost use Rattle.lvm_run.specs.Endings.{ending_text, status_of_ending};
 ghost use Rattle.lvm_run.specs.Endings.{repair_values, shown_scan};
 
 use crate::scan_refusal::ScanRefusal;
-use lvm_script::{DiskNames, Failed, Shown, Sink, write_bytes, write_kind};
+use byte_streams::{Failed, Sink, write_bytes};
+use line_answers::{DiskNames, Shown, write_kind};
 
 /// What ends a run before its lines. It prints one line, or none.
 #[derive(Debug, Drop)]

@@ -1,16 +1,16 @@
 //! The journal and the answers of a run.
 ghost use Rattle.std.specs.Prelude.{◌≡◌, ◌≢◌, [], ◌∷◌, false, IfOk, List, None, Some};
 ghost use Rattle.std.specs.Option.{option_map_or};
+ghost use Rattle.command_table.specs.Options.{Word};
+ghost use Rattle.line_answers.specs.declared.answer.Answer.{Answer as AnswerRecord};
 ghost use Rattle.line_history.specs.Histories.{journal_of_line};
-ghost use Rattle.lvm_script.specs.declared.answer.Answer.{Answer as AnswerRecord};
-ghost use Rattle.lvm_script.specs.Options.{Word};
 ghost use Rattle.lvm_run.specs.History.{HasRoom, IsNothing, journal_by, said_of};
 ghost use Rattle.lvm_run.specs.Outcomes.{IsOfLineOne, output_of, text_of};
 
 use crate::outcome::Outcome;
 use crate::output::Output;
+use line_answers::Answer;
 use line_table::{Answers, EntryKind, Journal, JournalEntry};
-use lvm_script::Answer;
 use sector_base::Piece;
 use std::alloc::{AllocError, Global};
 

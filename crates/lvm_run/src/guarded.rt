@@ -1,7 +1,7 @@
 //! A run that takes no disk which is in use, unless it is told to.
 ghost use Rattle.std.specs.Prelude.{◌≡◌, ◌<◌, ◌^◌, ℕ, false, List, length, IfErr, IfOk, IfSome, MatchOption, MatchResult};
+ghost use Rattle.command_table.specs.Options.{words_of};
 ghost use Rattle.disk_model.specs.State.{State};
-ghost use Rattle.lvm_script.specs.Options.{words_of};
 ghost use Rattle.lvm_run.specs.declared.not_run.NotRun.TheVariants.{InUse as Used, Untold};
 ghost use Rattle.lvm_run.specs.declared.outcome.Outcome.{Outcome as OutcomeRecord};
 ghost use Rattle.lvm_run.specs.Disks.{HasDisks};
@@ -13,10 +13,11 @@ ghost use Rattle.lvm_run.specs.Sourced.{source};
 
 use crate::not_run::NotRun;
 use crate::run::{Ended, lvm_run};
+use byte_streams::{Sink, Source};
+use command_table::Request;
 use disk_model::Shelf;
 use disk_use::{InUse, UseRefusal, find_use};
 use lvm_id::Words64;
-use lvm_script::{Request, Sink, Source};
 use lvm_words::{WordsRefusal, read_command_line};
 use std::alloc::Global;
 use std::sync::Wait;

@@ -3,7 +3,7 @@ ghost use Rattle.std.specs.Prelude.{◌≡◌};
 ghost use Rattle.lvm_run.specs.Outcomes.{is_report, status_of, status_of_answer, status_unprinted};
 
 use crate::ending::Ending;
-use lvm_script::Answer;
+use line_answers::Answer;
 use sector_base::Text;
 
 /// What a run comes to.

@@ -1,14 +1,15 @@
 //! What a run prints.
 ghost use Rattle.std.specs.Prelude.{is_ok};
-ghost use Rattle.lvm_script.specs.Streams.{WritesText};
+ghost use Rattle.byte_streams.specs.Streams.{WritesText};
 ghost use Rattle.lvm_report.specs.AnswerLines.{answers_text};
 ghost use Rattle.lvm_run.specs.Endings.{ending_text};
 ghost use Rattle.lvm_run.specs.Outcomes.{text_of};
 
 use crate::ending::Ending;
+use byte_streams::{Failed, Sink, TextSink, write_all, write_bytes};
+use line_answers::{Answer, DiskNames};
 use line_table::Answers;
 use lvm_report::{answer_lines, write_answered, write_answers};
-use lvm_script::{Answer, DiskNames, Failed, Sink, TextSink, write_all, write_bytes};
 use sector_base::Text;
 use std::alloc::{AllocError, Global};
 

@@ -1,9 +1,10 @@
 //! All that the program does, over any row of disks, streams and sources of ids.
 ghost use Rattle.std.specs.Prelude.{◌≡◌, ◌≢◌, ◌≤◌, ◌<◌, ◌^◌, ℕ, true, false, List, [], ◌∷◌, length, None, Some};
 ghost use Rattle.std.specs.Option.{option_map_or};
-ghost use Rattle.lvm_script.specs.declared.answer.Answer.{Answer as AnswerRecord};
-ghost use Rattle.lvm_script.specs.Lines.{changes, with_text};
-ghost use Rattle.lvm_script.specs.Options.{words_of};
+ghost use Rattle.command_table.specs.Commands.{changes};
+ghost use Rattle.command_table.specs.Options.{words_of};
+ghost use Rattle.line_answers.specs.declared.answer.Answer.{Answer as AnswerRecord};
+ghost use Rattle.lvm_script.specs.Lines.{with_text};
 ghost use Rattle.lvm_run.specs.declared.outcome.Outcome.{Outcome as OutcomeRecord};
 ghost use Rattle.lvm_run.specs.Commands.{is_built, spec_of};
 ghost use Rattle.lvm_run.specs.Disks.{AreDisks, HasDisks};
@@ -23,10 +24,13 @@ use crate::entered::Entered;
 use crate::outcome::Outcome;
 use crate::ran::Ran;
 use crate::sourced::with_source;
+use byte_streams::{Failed, Sink, Source};
+use command_table::Command;
 use disk_model::Shelf;
+use line_answers::DiskNames;
 use line_table::{Answers, Journal};
 use lvm_id::Words64;
-use lvm_script::{Command, DiskNames, Failed, Line, Sink, Source};
+use lvm_script::Line;
 use lvm_words::{Asked, Task, WordsRefusal, read_words};
 use std::alloc::{AllocError, Global};
 use std::sync::Wait;

@@ -3,12 +3,13 @@ ghost use Rattle.std.specs.Prelude.{◌≡◌, [], ◌∷◌, codes, flat_map, i
 ghost use Rattle.sector_base.specs.Shown.{shown_text};
 ghost use Rattle.sector_base.specs.Shown.Value.{text};
 ghost use Rattle.lvm_id.specs.LvmId.{hyphen_form};
-ghost use Rattle.lvm_script.specs.Answers.{value_of};
-ghost use Rattle.lvm_script.specs.Streams.{WritesText};
+ghost use Rattle.byte_streams.specs.Streams.{WritesText};
+ghost use Rattle.line_answers.specs.Answers.{value_of};
 ghost use Rattle.lvm_run.specs.Endings.{id_values, named, refused_values, shown_refusal, shown_scan};
 
+use byte_streams::{Failed, Sink, write_bytes};
+use line_answers::{DiskNames, Shown, write_kind};
 use lvm_id::LvmId;
-use lvm_script::{DiskNames, Failed, Shown, Sink, write_bytes, write_kind};
 use scan_rules::CopyRefusal;
 use vg_found::Ids;
 

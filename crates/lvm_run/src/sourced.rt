@@ -2,7 +2,9 @@
 ghost use Rattle.lvm_run.specs.Sourced.{IsSourced, source};
 
 use crate::ending::Ending;
-use lvm_script::{Command, Line, ReadFault, Source, read_all};
+use byte_streams::{ReadFault, Source, read_all};
+use command_table::Command;
+use lvm_script::Line;
 use std::alloc::Global;
 
 /// The line with the text that the source gives, which is read to its end, where the line restores a group from it; any other

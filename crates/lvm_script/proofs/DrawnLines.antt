@@ -2,9 +2,10 @@
 use Rattle.std.proofs.Common.{◌≡◌, ◌<◌, ◌≤◌, ◌∙◌, ◌+◌, ℕ, List, [], ◌∷◌, ◌++◌, get_or, length, map, take, drop, set, refl, ap, sym, subst, arith, add-one}
 use Rattle.std.proofs.Math.Seq.{take-suc}
 use Rattle.std.proofs.lemmas.List.{drop_more, drop-set-lt, length-drop, map-append, take_all, take_more_set}
-use Rattle.lvm_script.specs.declared.command.Command.{Command}
+use Rattle.command_table.specs.declared.command.Command.{Command}
+use Rattle.command_table.specs.Commands.{draws}
 use Rattle.lvm_script.specs.declared.line.Line.{Line}
-use Rattle.lvm_script.specs.Lines.{TakesId, draws, line_of}
+use Rattle.lvm_script.specs.Lines.{TakesId, line_of}
 use Rattle.lvm_script.specs.Script.{AreLines, numbered}
 
 pub and_one : (before : ℕ → List ℕ) (commands : List (ℕ × Command)) (lines : List Line) (between after : ℕ → List ℕ) (number : ℕ) (command : Command) (line : Line)

@@ -1,13 +1,13 @@
 -- Lines of a script that are refused, each fault at its place.
 use Rattle.std.specs.Prelude.{◌≡◌, ℕ, Bool, true, false, List, [], ◌∷◌, Option, Some, Ok, Err, codes, map, ◌++◌, length, replicate}
 use Rattle.std.proofs.Common.{refl}
-use Rattle.lvm_script.specs.Options.{Word}
+use Rattle.command_table.specs.Options.{Word}
+use Rattle.command_table.specs.Values.{are_sectors, is_hex_digit}
+use Rattle.command_table.specs.declared.fault.Fault.{Fault}
+use Rattle.command_table.specs.declared.fault.Fault.TheVariants.{BadOption, BadNumber, BadCount, BadName, BadHex}
+use Rattle.command_table.specs.declared.line_fault.LineFault.{LineFault}
+use Rattle.command_table.specs.declared.line_fault.LineFault.TheVariants.{UnknownWord, NotHere, Faulty, WrongWords}
 use Rattle.lvm_script.specs.Script.{Meant, meaning_of_line}
-use Rattle.lvm_script.specs.Values.{are_sectors, is_hex_digit}
-use Rattle.lvm_script.specs.declared.fault.Fault.{Fault}
-use Rattle.lvm_script.specs.declared.fault.Fault.TheVariants.{BadOption, BadNumber, BadCount, BadName, BadHex}
-use Rattle.lvm_script.specs.declared.script_refusal.LineFault.{LineFault}
-use Rattle.lvm_script.specs.declared.script_refusal.LineFault.TheVariants.{UnknownWord, NotHere, Faulty, WrongWords}
 
 -- a line, and the place of its faulty word
 abbrev Row : Type 0

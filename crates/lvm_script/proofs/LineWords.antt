@@ -7,7 +7,7 @@ use Rattle.std.proofs.lemmas.List.Elements.{All-from_get_or}
 use Rattle.std.proofs.lemmas.List.Splits.{slice_split_first, slice_split_none}
 use Rattle.std.proofs.lemmas.List.Sums.{position_or_len_is}
 use Rattle.std.specs.List.{position_or_len, slice_split}
-use Rattle.lvm_script.specs.Options.{Word}
+use Rattle.command_table.specs.Options.{Word}
 use Rattle.lvm_script.specs.Script.{some_from, word_between, words_in}
 
 abbrev is_space : ℕ → Bool

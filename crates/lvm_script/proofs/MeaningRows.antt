@@ -1,25 +1,25 @@
 -- What each command means: lines of a script, and the commands that aren't for scripts by their options and arguments.
 use Rattle.std.specs.Prelude.{◌≡◌, ℕ, Bool, true, false, List, [], ◌∷◌, ◌++◌, Option, Some, None, Ok, codes, map, replicate}
 use Rattle.std.proofs.Common.{refl}
-use Rattle.lvm_script.specs.declared.amount.Amount.{Amount}
-use Rattle.lvm_script.specs.declared.amount.Amount.TheVariants.{Extents, Sectors}
-use Rattle.lvm_script.specs.declared.amount.Growth.TheVariants.{To, By}
-use Rattle.lvm_script.specs.declared.command.Command.{Command}
-use Rattle.lvm_script.specs.declared.command.Command.TheVariants.{Pvcreate, Pvmove, Pvck, Pvs, Vgcreate, Vgextend, Vgreduce, Vgremove, Vgrename, Vgcfgbackup, Vgcfgrestore, Vgck, Vgs, Lvcreate, Lvextend, Lvreduce, Lvremove, Lvrename, Lvs, Read, Fill, Write, List as ListVolumes, Wait, Resync}
-use Rattle.lvm_script.specs.declared.command.Moving.TheVariants.{From, GoOn, Abort}
-use Rattle.lvm_script.specs.declared.command.NewVolume.{NewVolume}
-use Rattle.lvm_script.specs.declared.command.Path.{Path}
-use Rattle.lvm_script.specs.declared.command_name.CommandName.{CommandName}
-use Rattle.lvm_script.specs.declared.command_name.CommandName.TheVariants as name
-use Rattle.lvm_script.specs.declared.option_key.OptionKey.{OptionKey}
-use Rattle.lvm_script.specs.declared.option_key.OptionKey.TheVariants as key
-use Rattle.lvm_script.specs.declared.request.Request.{Request}
-use Rattle.lvm_script.specs.declared.request.Request.TheVariants.{One, Session, Demo}
-use Rattle.lvm_script.specs.Lines.{changes, draws, sectors_of}
-use Rattle.lvm_script.specs.Meaning.{request_by_name, value_in}
-use Rattle.lvm_script.specs.Options.{Word}
+use Rattle.command_table.specs.declared.amount.Amount.{Amount}
+use Rattle.command_table.specs.declared.amount.Amount.TheVariants.{Extents, Sectors}
+use Rattle.command_table.specs.declared.amount.Growth.TheVariants.{To, By}
+use Rattle.command_table.specs.declared.command.Command.{Command}
+use Rattle.command_table.specs.declared.command.Command.TheVariants.{Pvcreate, Pvmove, Pvck, Pvs, Vgcreate, Vgextend, Vgreduce, Vgremove, Vgrename, Vgcfgbackup, Vgcfgrestore, Vgck, Vgs, Lvcreate, Lvextend, Lvreduce, Lvremove, Lvrename, Lvs, Read, Fill, Write, List as ListVolumes, Wait, Resync}
+use Rattle.command_table.specs.declared.command.Moving.TheVariants.{From, GoOn, Abort}
+use Rattle.command_table.specs.declared.command.NewVolume.{NewVolume}
+use Rattle.command_table.specs.declared.command.Path.{Path}
+use Rattle.command_table.specs.declared.command_name.CommandName.{CommandName}
+use Rattle.command_table.specs.declared.command_name.CommandName.TheVariants as name
+use Rattle.command_table.specs.declared.option_key.OptionKey.{OptionKey}
+use Rattle.command_table.specs.declared.option_key.OptionKey.TheVariants as key
+use Rattle.command_table.specs.declared.request.Request.{Request}
+use Rattle.command_table.specs.declared.request.Request.TheVariants.{One, Session, Demo}
+use Rattle.command_table.specs.Commands.{changes, draws, sectors_of}
+use Rattle.command_table.specs.Meaning.{request_by_name, value_in}
+use Rattle.command_table.specs.Options.{Word}
+use Rattle.command_table.specs.Values.{size_of}
 use Rattle.lvm_script.specs.Script.{Meant, meaning_of_line}
-use Rattle.lvm_script.specs.Values.{size_of}
 
 -- the commands of these lines
 abbrev meant : List (Word × Command) → List (Option Meant)

@@ -1,17 +1,17 @@
 -- The refusal of a line's words.
 use Rattle.std.proofs.Common.{◌≡◌, ℕ, true, List, Some, Err, Result, ap, sym, subst, inl, inr, ◌⊎◌}
 use Rattle.std.specs.Prelude.{⊤}
-use Rattle.lvm_script.specs.declared.command.Command.{Command}
-use Rattle.lvm_script.specs.declared.command_name.CommandName.{CommandName}
-use Rattle.lvm_script.specs.declared.refusal.CommandRefusal.{CommandRefusal}
-use Rattle.lvm_script.specs.declared.refusal.CommandRefusal.TheVariants.{Faulty, WrongWords, NoMemory}
-use Rattle.lvm_script.specs.declared.script_refusal.LineFault.{LineFault}
+use Rattle.command_table.specs.declared.command.Command.{Command}
+use Rattle.command_table.specs.declared.command_name.CommandName.{CommandName}
+use Rattle.command_table.specs.declared.refusal.CommandRefusal.{CommandRefusal}
+use Rattle.command_table.specs.declared.refusal.CommandRefusal.TheVariants.{Faulty, WrongWords, NoMemory}
+use Rattle.command_table.specs.declared.line_fault.LineFault.{LineFault}
+use Rattle.command_table.specs.Meaning.{at_place, meaning_of}
+use Rattle.command_table.specs.Options.{Word}
+use Rattle.command_table.specs.Table.{is_for_scripts}
 use Rattle.lvm_script.specs.declared.script_refusal.LineRefusal.{LineRefusal}
 use Rattle.lvm_script.specs.declared.script_refusal.LineRefusal.TheVariants as line
-use Rattle.lvm_script.specs.Meaning.{at_place, meaning_of}
-use Rattle.lvm_script.specs.Options.{Word}
 use Rattle.lvm_script.specs.Script.{IsRefusal, IsRefusalOf, line_named, refusal_at}
-use Rattle.lvm_script.specs.Table.{is_for_scripts}
 
 -- it is want of memory
 abbrev OfMemory : CommandRefusal → Type 0

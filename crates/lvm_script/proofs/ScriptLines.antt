@@ -1,10 +1,10 @@
 -- One line more of a script.
 use Rattle.std.proofs.Common.{◌≡◌, ◌∙◌, ◌≤◌, ◌+◌, ℕ, List, [], ◌∷◌, ◌++◌, Some, None, Ok, Err, refl, ap, sym, arith}
 use Rattle.std.proofs.lemmas.List.{append_assoc, append-nil}
-use Rattle.lvm_script.specs.declared.command.Command.{Command}
+use Rattle.command_table.specs.declared.command.Command.{Command}
+use Rattle.command_table.specs.Commands.{sectors_of}
 use Rattle.lvm_script.specs.declared.script_refusal.LineRefusal.{LineRefusal}
 use Rattle.lvm_script.specs.declared.script_refusal.LineRefusal.TheVariants.{NoMemory, Refused}
-use Rattle.lvm_script.specs.Lines.{sectors_of}
 use Rattle.lvm_script.specs.Script.{Commands, IsRefusal, IsScriptRefusal, behind_all, commands_from, commands_in, commands_with, in_line, limited, line_meant, lines_in}
 
 -- these commands stand before the rest of a script, in so many lines

@@ -1,13 +1,13 @@
 -- Whole scripts: how lines are numbered, how many there may be, and how many sectors they may read and write.
 use Rattle.std.specs.Prelude.{◌≡◌, ℕ, List, [], ◌∷◌, ◌++◌, Some, None, Ok, Err, codes, map, replicate}
 use Rattle.std.proofs.Common.{refl}
-use Rattle.lvm_script.specs.declared.command.Command.{Command}
-use Rattle.lvm_script.specs.declared.command.Command.TheVariants.{Pvcreate, Vgcfgbackup, Vgcfgrestore, Read, Fill, Write, List as ListVolumes, Wait}
-use Rattle.lvm_script.specs.declared.command.Path.{Path}
-use Rattle.lvm_script.specs.declared.fault.Fault.TheVariants.{BadCount}
+use Rattle.command_table.specs.declared.command.Command.{Command}
+use Rattle.command_table.specs.declared.command.Command.TheVariants.{Pvcreate, Vgcfgbackup, Vgcfgrestore, Read, Fill, Write, List as ListVolumes, Wait}
+use Rattle.command_table.specs.declared.command.Path.{Path}
+use Rattle.command_table.specs.declared.fault.Fault.TheVariants.{BadCount}
+use Rattle.command_table.specs.declared.line_fault.LineFault.{LineFault}
+use Rattle.command_table.specs.declared.line_fault.LineFault.TheVariants.{UnknownWord, NotHere, Faulty, WrongWords, SessionFull}
 use Rattle.lvm_script.specs.declared.line.Line.{Line}
-use Rattle.lvm_script.specs.declared.script_refusal.LineFault.{LineFault}
-use Rattle.lvm_script.specs.declared.script_refusal.LineFault.TheVariants.{UnknownWord, NotHere, Faulty, WrongWords, SessionFull}
 use Rattle.lvm_script.specs.Lines.{with_text}
 use Rattle.lvm_script.specs.Script.{Commands, commands_from, commands_in, limited, lines_in}
 

@@ -3,14 +3,14 @@ use Rattle.std.specs.Prelude.{◌≡◌, ◌==◌, ℕ, List, [], ◌∷◌, Som
 use Rattle.std.specs.List.{slice_split}
 use Rattle.std.proofs.Common.{refl}
 use Rattle.lvm_id.specs.LvmId.{digit_char, word_chars}
-use Rattle.lvm_script.specs.declared.command.Command.TheVariants.{Pvcreate, Vgcreate, Lvs}
-use Rattle.lvm_script.specs.declared.fault.Fault.TheVariants.{BadOption, BadNumber, BadCount, BadName}
-use Rattle.lvm_script.specs.declared.request.Request.{Request}
-use Rattle.lvm_script.specs.declared.script_refusal.LineFault.{LineFault}
-use Rattle.lvm_script.specs.declared.script_refusal.LineFault.TheVariants.{UnknownWord, NotHere, Faulty, WrongWords}
+use Rattle.command_table.specs.declared.command.Command.TheVariants.{Pvcreate, Vgcreate, Lvs}
+use Rattle.command_table.specs.declared.fault.Fault.TheVariants.{BadOption, BadNumber, BadCount, BadName}
+use Rattle.command_table.specs.declared.request.Request.{Request}
+use Rattle.command_table.specs.declared.line_fault.LineFault.{LineFault}
+use Rattle.command_table.specs.declared.line_fault.LineFault.TheVariants.{UnknownWord, NotHere, Faulty, WrongWords}
+use Rattle.command_table.specs.Meaning.{meaning_of_words}
+use Rattle.command_table.specs.Options.{Word}
 use Rattle.lvm_script.specs.Lines.{line_of}
-use Rattle.lvm_script.specs.Meaning.{meaning_of_words}
-use Rattle.lvm_script.specs.Options.{Word}
 use Rattle.lvm_script.specs.Script.{only_command}
 
 -- words, and the number of the faulty one

@@ -1,10 +1,2 @@
-pub mod Answers
 pub mod Lines
-pub mod Meaning
-pub mod Memory
-pub mod Options
 pub mod Script
-pub mod Streams
-pub mod Table
-pub mod Values
-pub mod Words

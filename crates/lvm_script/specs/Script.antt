@@ -1,24 +1,25 @@
 -- The lines of a script.
 use Rattle.std.specs.Prelude.{◌≡◌, ℕ, ◌+◌, ◌==◌, Bool, true, false, nat_lt, if◌then◌else◌, List, [], ◌∷◌, ◌++◌, length, take, drop, ◌-◌, filter, Option, Some, None, Result, Ok, Err}
 use Rattle.std.specs.List.{slice_split}
-use Rattle.lvm_script.specs.declared.command.Command.{Command}
-use Rattle.lvm_script.specs.declared.command_name.CommandName.{CommandName}
+use Rattle.command_table.specs.declared.command.Command.{Command}
+use Rattle.command_table.specs.declared.command_name.CommandName.{CommandName}
+use Rattle.command_table.specs.declared.refusal.CommandRefusal.{CommandRefusal}
+use Rattle.command_table.specs.declared.refusal.CommandRefusal.TheVariants as words
+use Rattle.command_table.specs.declared.line_fault.LineFault.{LineFault}
+use Rattle.command_table.specs.declared.line_fault.LineFault.TheVariants.{UnknownWord, NotHere, Faulty, WrongWords, SessionFull}
+use Rattle.command_table.specs.declared.request.Request.{Request}
+use Rattle.command_table.specs.declared.request.Request.TheVariants.{One}
+use Rattle.command_table.specs.Commands.{draws, sectors_of}
+use Rattle.command_table.specs.Meaning.{at_place, meaning_of}
+use Rattle.command_table.specs.Options.{Word}
+use Rattle.command_table.specs.Table.{command_named, is_for_scripts}
 use Rattle.lvm_script.specs.declared.line.Line.{Line}
-use Rattle.lvm_script.specs.declared.refusal.CommandRefusal.{CommandRefusal}
-use Rattle.lvm_script.specs.declared.refusal.CommandRefusal.TheVariants as words
-use Rattle.lvm_script.specs.declared.script_refusal.LineFault.{LineFault}
-use Rattle.lvm_script.specs.declared.script_refusal.LineFault.TheVariants.{UnknownWord, NotHere, Faulty, WrongWords, SessionFull}
 use Rattle.lvm_script.specs.declared.script_refusal.LineRefusal.{LineRefusal}
 use Rattle.lvm_script.specs.declared.script_refusal.LineRefusal.TheVariants.{NoMemory, Refused}
 use Rattle.lvm_script.specs.declared.script_refusal.ScriptRefusal.{ScriptRefusal}
 use Rattle.lvm_script.specs.declared.script_refusal.ScriptRefusal.TheVariants as script
 use Rattle.lvm_script.specs.declared.script_refusal.ScriptRefusal.TheVariants.{LineRefused}
-use Rattle.lvm_script.specs.declared.request.Request.{Request}
-use Rattle.lvm_script.specs.declared.request.Request.TheVariants.{One}
-use Rattle.lvm_script.specs.Lines.{TakesId, draws, line_of, sectors_of}
-use Rattle.lvm_script.specs.Meaning.{at_place, meaning_of}
-use Rattle.lvm_script.specs.Options.{Word}
-use Rattle.lvm_script.specs.Table.{command_named, is_for_scripts}
+use Rattle.lvm_script.specs.Lines.{TakesId, line_of}
 
 -- ---- one line
 

@@ -1,9 +1,10 @@
 //! What a command line or a line of a script asks for.
 ghost use Rattle.std.specs.Prelude.{◌≡◌, IfSome};
 ghost use Rattle.lvm_id.specs.LvmId.{IsId};
-ghost use Rattle.lvm_script.specs.Lines.{TakesId, draws, line_of, with_text};
+ghost use Rattle.command_table.specs.Commands.{draws};
+ghost use Rattle.lvm_script.specs.Lines.{TakesId, line_of, with_text};
 
-use crate::Command;
+use command_table::Command;
 use lvm_id::{LvmId, Words64};
 use sector_base::Text;
 

@@ -1,15 +1,14 @@
 //! The lines of a script.
 ghost use Rattle.std.specs.Prelude.{◌≡◌, ◌≢◌, ◌≤◌, ◌<◌, ◌+◌, ◌==◌, [], ◌∷◌, ◌++◌, length, map, Some, Ok, IfOk, IfSome, List, ℕ, MatchResult, OnErr, OnOk, option_map};
 ghost use Rattle.std.specs.List.{position};
-ghost use Rattle.lvm_script.specs.declared.command.Command.{Command as CommandRecord};
-ghost use Rattle.lvm_script.specs.Lines.{sectors_of};
+ghost use Rattle.command_table.specs.declared.command.Command.{Command as CommandRecord};
+ghost use Rattle.command_table.specs.Commands.{sectors_of};
+ghost use Rattle.command_table.specs.Words.{placed};
 ghost use Rattle.lvm_script.specs.Script.{AreLines, IsRefusal, IsScriptRefusal, commands_in, limited, line_meant, line_named, line_of_words, lines_in, meaning_of_line, numbered, refusal_at, word_between, words_in};
-ghost use Rattle.lvm_script.specs.Words.{placed};
 
-use crate::meaning::read_command;
-use crate::refusal::CommandRefusal;
-use crate::script_refusal::{LineFault, LineRefusal, ScriptRefusal};
-use crate::{Command, CommandName, Line};
+use crate::Line;
+use crate::script_refusal::{LineRefusal, ScriptRefusal};
+use command_table::{Command, CommandName, CommandRefusal, LineFault, read_command};
 use lvm_id::Words64;
 use sector_base::{ItemList, Text};
 use std::alloc::{AllocError, Global};

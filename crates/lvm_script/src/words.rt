@@ -1,17 +1,16 @@
 //! From the words of a command line to what they ask for, or to their first refusal.
 ghost use Rattle.std.specs.Prelude.{◌≡◌, ◌⊎◌, Err, IfErr, IfOk, IfSome, MatchResult, Ok, OnErr, Some};
 ghost use Rattle.lvm_id.specs.LvmId.{IsId};
-ghost use Rattle.lvm_script.specs.Lines.{TakesId, draws, line_of as line_with};
-ghost use Rattle.lvm_script.specs.Meaning.{meaning_of_words, request_named, request_of, request_read};
-ghost use Rattle.lvm_script.specs.Options.{words_of};
+ghost use Rattle.command_table.specs.Commands.{draws};
+ghost use Rattle.command_table.specs.Meaning.{meaning_of_words, request_named, request_of, request_read};
+ghost use Rattle.command_table.specs.Options.{words_of};
+ghost use Rattle.command_table.specs.Words.{numbered_from, read, read_by, split_by};
+ghost use Rattle.lvm_script.specs.Lines.{TakesId, line_of as line_with};
 ghost use Rattle.lvm_script.specs.Script.{IsRefusalOf, only_command};
-ghost use Rattle.lvm_script.specs.Words.{numbered_from, read, read_by, split_by};
 
-use crate::meaning::request_by_name;
-use crate::reading::Reading;
-use crate::refusal::CommandRefusal;
 use crate::script::refusal_at;
-use crate::{CommandName, Line, LineFault, LineRefusal, Request};
+use crate::{Line, LineRefusal};
+use command_table::{CommandName, CommandRefusal, LineFault, Reading, Request, request_by_name};
 use lvm_id::Words64;
 use std::alloc::{AllocError, Global};
 

@@ -11,8 +11,8 @@ use Rattle.std.specs.declared.string.String.{String}
 use Rattle.std.proofs.lemmas.Bool.{and_right}
 use Rattle.std.proofs.lemmas.Cmp.{nat_list_eq_equiv}
 use Rattle.std.proofs.lemmas.Map.Text.{is_eq-slice_cmp}
-use Rattle.lvm_script.specs.Options.{Word, words_of}
-use Rattle.lvm_script.proofs.NamesFound.{from_place}
+use Rattle.command_table.specs.Options.{Word, words_of}
+use Rattle.line_answers.proofs.NamesFound.{from_place}
 use Rattle.lvm_words.specs.Disks.{all_differ}
 
 -- whether the set has the word

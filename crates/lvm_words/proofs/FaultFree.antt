@@ -6,19 +6,19 @@ use Rattle.std.proofs.Math.Nat.{add-zero, zero-add}
 use Rattle.std.specs.Prelude.{fold, is_none, is_some, unwrap_or}
 use Rattle.std.specs.List.{list_all, list_any}
 use Rattle.std.specs.Option.{option_map_or}
-use Rattle.lvm_script.specs.declared.fault.Fault.{Fault}
-use Rattle.lvm_script.specs.declared.kind.Kind.{Kind}
-use Rattle.lvm_script.specs.declared.kind.Kind.TheVariants.{Flag}
-use Rattle.lvm_script.specs.declared.command_name.CommandName.{CommandName}
-use Rattle.lvm_script.specs.declared.command_name.CommandName.TheVariants as name
-use Rattle.lvm_script.specs.declared.option_key.OptionKey.{OptionKey}
-use Rattle.lvm_script.specs.declared.role.Role.{Role}
-use Rattle.lvm_script.specs.declared.role.Role.TheVariants as role
-use Rattle.lvm_script.specs.declared.table.OptionRow.{OptionRow}
-use Rattle.lvm_script.specs.Options.{Word, is_dashed, is_key, spells}
-use Rattle.lvm_script.specs.Table.{options_of}
-use Rattle.lvm_script.specs.Values.{fault_in}
-use Rattle.lvm_script.specs.Words.{Read, Split, after_role, after_word, fault_of, first_fault, has_key, nothing_split, option_named, read, role_of, role_of_option, role_of_other, role_of_row}
+use Rattle.command_table.specs.declared.fault.Fault.{Fault}
+use Rattle.command_table.specs.declared.kind.Kind.{Kind}
+use Rattle.command_table.specs.declared.kind.Kind.TheVariants.{Flag}
+use Rattle.command_table.specs.declared.command_name.CommandName.{CommandName}
+use Rattle.command_table.specs.declared.command_name.CommandName.TheVariants as name
+use Rattle.command_table.specs.declared.option_key.OptionKey.{OptionKey}
+use Rattle.command_table.specs.declared.role.Role.{Role}
+use Rattle.command_table.specs.declared.role.Role.TheVariants as role
+use Rattle.command_table.specs.declared.table.OptionRow.{OptionRow}
+use Rattle.command_table.specs.Options.{Word, is_dashed, is_key, spells}
+use Rattle.command_table.specs.Table.{options_of}
+use Rattle.command_table.specs.Values.{fault_in}
+use Rattle.command_table.specs.Words.{Read, Split, after_role, after_word, fault_of, first_fault, has_key, nothing_split, option_named, read, role_of, role_of_option, role_of_other, role_of_row}
 use Rattle.lvm_words.specs.Parser.{after_split, argument_passes, arguments_pass, is_stray, no_stray, row_of_key, split_from, split_of, value_passes}
 use Rattle.lvm_words.proofs.Forms.{Form, flag, form, takes}
 use Rattle.lvm_words.proofs.Spellings.{same_name}

@@ -8,7 +8,7 @@ use Rattle.clap.specs.Simple.{filled_from, is_simple, is_ready, new_shape}
 use Rattle.clap.specs.Faults.{is_simple_and_free}
 use Rattle.clap.specs.Walk.{Rule, Text, is_early_multiple}
 use Rattle.clap.specs.declared.builder.value_parser.ValueParser.TheVariants as vp
-use Rattle.lvm_script.specs.declared.table.OptionRow.{OptionRow}
+use Rattle.command_table.specs.declared.table.OptionRow.{OptionRow}
 use Rattle.lvm_words.specs.Parser.{app_for, named_rule, option_rule, option_rules, rest_rule, rules_for}
 
 -- an option as it is built

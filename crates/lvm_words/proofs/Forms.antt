@@ -1,10 +1,10 @@
 -- An option is a flag or has a value.
 use Rattle.std.proofs.Common.{◌≡◌, refl}
-use Rattle.lvm_script.specs.declared.kind.Kind.{Kind}
-use Rattle.lvm_script.specs.declared.kind.Kind.TheVariants.{Flag, Number, Growth, Size, SizeGrowth, PowerSize, Policy, Disk, Group, Volume, Path, Hex}
-use Rattle.lvm_script.specs.declared.role.Role.TheVariants as role
-use Rattle.lvm_script.specs.declared.table.OptionRow.{OptionRow}
-use Rattle.lvm_script.specs.Words.{role_of_row}
+use Rattle.command_table.specs.declared.kind.Kind.{Kind}
+use Rattle.command_table.specs.declared.kind.Kind.TheVariants.{Flag, Number, Growth, Size, SizeGrowth, PowerSize, Policy, Disk, Group, Volume, Path, Hex}
+use Rattle.command_table.specs.declared.role.Role.TheVariants as role
+use Rattle.command_table.specs.declared.table.OptionRow.{OptionRow}
+use Rattle.command_table.specs.Words.{role_of_row}
 use Rattle.lvm_words.specs.Parser.{value_count}
 
 pub data Form (row : OptionRow) : Type 0 where

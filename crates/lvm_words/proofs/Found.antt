@@ -5,9 +5,9 @@ use Rattle.std.specs.Prelude.{is_some, option_map}
 use Rattle.std.specs.Option.{option_map_or}
 use Rattle.std.specs.Str.{bytes_eq}
 use Rattle.clap.specs.Walk.{arg_by_id, arg_by_index, arg_by_long, arg_by_short}
-use Rattle.lvm_script.specs.declared.option_key.OptionKey.{OptionKey}
-use Rattle.lvm_script.specs.declared.table.OptionRow.{OptionRow}
-use Rattle.lvm_script.specs.Options.{is_key, letter_of, name_of}
+use Rattle.command_table.specs.declared.option_key.OptionKey.{OptionKey}
+use Rattle.command_table.specs.declared.table.OptionRow.{OptionRow}
+use Rattle.command_table.specs.Options.{is_key, letter_of, name_of}
 use Rattle.lvm_words.specs.Parser.{rest_id, row_of_key}
 use Rattle.lvm_words.proofs.Find.{option_built, rest_built, rules_built}
 use Rattle.lvm_words.proofs.Spellings.{not_the_rest, same_key, same_letter, same_name}

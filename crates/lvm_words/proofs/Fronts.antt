@@ -5,9 +5,9 @@ use Rattle.std.proofs.lemmas.List.{append-nil}
 use Rattle.std.specs.Prelude.{option_map}
 use Rattle.std.specs.String.{string_bytes}
 use Rattle.std.specs.declared.string.String.{String}
-use Rattle.lvm_script.specs.Options.{Word, words_of}
-use Rattle.lvm_script.specs.Values.{is_disk_name}
-use Rattle.lvm_script.proofs.NamesFound.{from_place}
+use Rattle.command_table.specs.Options.{Word, words_of}
+use Rattle.command_table.specs.Values.{is_disk_name}
+use Rattle.line_answers.proofs.NamesFound.{from_place}
 use Rattle.lvm_words.specs.Disks.{Front, front_of, is_disk_option, with_name}
 
 -- a front with some names before its own

@@ -6,11 +6,11 @@ use Rattle.std.specs.Prelude.{is_some, find, option_map, slice_get}
 use Rattle.std.specs.Option.{option_and_then}
 use Rattle.std.specs.Str.{bytes_eq}
 use Rattle.clap.specs.Walk.{Row, Text, all_of, first_of}
-use Rattle.lvm_script.specs.declared.option_key.OptionKey.{OptionKey}
-use Rattle.lvm_script.specs.declared.table.OptionRow.{OptionRow}
-use Rattle.lvm_script.specs.Meaning.{value_in}
-use Rattle.lvm_script.specs.Options.{Word, is_key, name_of}
-use Rattle.lvm_script.specs.Words.{Split}
+use Rattle.command_table.specs.declared.option_key.OptionKey.{OptionKey}
+use Rattle.command_table.specs.declared.table.OptionRow.{OptionRow}
+use Rattle.command_table.specs.Meaning.{value_in}
+use Rattle.command_table.specs.Options.{Word, is_key, name_of}
+use Rattle.command_table.specs.Words.{Split}
 use Rattle.lvm_words.specs.Parser.{Lists, listed, pair_of, pairs_of, row_of_key, values_of}
 use Rattle.lvm_words.proofs.Spellings.{same_key}
 

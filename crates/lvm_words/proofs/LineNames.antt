@@ -2,9 +2,9 @@
 use Rattle.std.proofs.Common.{◌≡◌, List, Option, Some, None, ap}
 use Rattle.std.specs.Prelude.{option_and_then, option_map}
 use Rattle.std.specs.Result.{result_ok}
-use Rattle.lvm_script.specs.declared.request.Request.{Request}
-use Rattle.lvm_script.specs.Meaning.{meaning_of_words}
-use Rattle.lvm_script.specs.Options.{Word}
+use Rattle.command_table.specs.declared.request.Request.{Request}
+use Rattle.command_table.specs.Meaning.{meaning_of_words}
+use Rattle.command_table.specs.Options.{Word}
 use Rattle.lvm_words.specs.declared.command_line.CommandLine.{CommandLine}
 use Rattle.lvm_words.specs.CommandLines.{command_line_of, of_disks}
 use Rattle.lvm_words.specs.Disks.{Front, disks_front, disks_named}

@@ -15,11 +15,11 @@ use Rattle.clap.specs.Walk.{Row, Rule, Text, Walk, all_of, finished, has_row, no
 use Rattle.clap.specs.declared.builder.value_parser.Reading.TheVariants as reading
 use Rattle.clap.specs.declared.error.kind.ErrorKind.TheVariants as kind
 use Rattle.clap.specs.declared.parser.matches.ValueSource.TheVariants.{CommandLine}
-use Rattle.lvm_script.specs.declared.option_key.OptionKey.{OptionKey}
-use Rattle.lvm_script.specs.declared.table.OptionRow.{OptionRow}
-use Rattle.lvm_script.specs.declared.role.Role.TheVariants as role
-use Rattle.lvm_script.specs.Options.{Word, is_dashed, is_key, name_of, spells}
-use Rattle.lvm_script.specs.Words.{Split, is_complete, nothing_split, after_role, has_key, role_of, role_of_option, role_of_other, role_of_row, option_named}
+use Rattle.command_table.specs.declared.option_key.OptionKey.{OptionKey}
+use Rattle.command_table.specs.declared.table.OptionRow.{OptionRow}
+use Rattle.command_table.specs.declared.role.Role.TheVariants as role
+use Rattle.command_table.specs.Options.{Word, is_dashed, is_key, name_of, spells}
+use Rattle.command_table.specs.Words.{Split, is_complete, nothing_split, after_role, has_key, role_of, role_of_option, role_of_other, role_of_row, option_named}
 use Rattle.lvm_words.specs.Parser.{Lists, after_split, app_for, is_stray, listed, no_stray, rest_id, row_of_key, split_from, split_of, values_of}
 use Rattle.lvm_words.proofs.Find.{rules_are_built, rules_built}
 use Rattle.lvm_words.proofs.Forms.{Form, flag, form, takes}

@@ -10,9 +10,9 @@ use Rattle.clap.specs.Walk.{rows_of}
 use Rattle.clap.specs.declared.error.Error.{Error}
 use Rattle.clap.specs.declared.error.kind.ErrorKind.TheVariants as kind
 use Rattle.clap.specs.declared.parser.matches.ArgMatches.{ArgMatches}
-use Rattle.lvm_script.specs.declared.table.OptionRow.{OptionRow}
-use Rattle.lvm_script.specs.Options.{Word}
-use Rattle.lvm_script.specs.Words.{is_complete}
+use Rattle.command_table.specs.declared.table.OptionRow.{OptionRow}
+use Rattle.command_table.specs.Options.{Word}
+use Rattle.command_table.specs.Words.{is_complete}
 use Rattle.lvm_words.specs.Parser.{Lists, app_for, split_of}
 use Rattle.lvm_words.proofs.Link.{Parsed}
 

@@ -4,9 +4,9 @@ use Rattle.std.proofs.lemmas.Bool.{and_parts, cases_Bool, not-true, true≢false
 use Rattle.std.proofs.Math.Bool.{and-true}
 use Rattle.std.proofs.Math.Path.{fun_ext}
 use Rattle.std.specs.List.{list_all, list_any}
-use Rattle.lvm_script.specs.declared.option_key.OptionKey.{OptionKey}
-use Rattle.lvm_script.specs.declared.table.OptionRow.{OptionRow}
-use Rattle.lvm_script.specs.Options.{Word, is_key}
+use Rattle.command_table.specs.declared.option_key.OptionKey.{OptionKey}
+use Rattle.command_table.specs.declared.table.OptionRow.{OptionRow}
+use Rattle.command_table.specs.Options.{Word, is_key}
 use Rattle.lvm_words.specs.Parser.{value_passes, values_of}
 use Rattle.lvm_words.proofs.FaultFree.{distinct, given_passes}
 use Rattle.lvm_words.proofs.Spellings.{same_key}

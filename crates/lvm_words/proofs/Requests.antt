@@ -7,18 +7,18 @@ use Rattle.std.specs.List.{list_all}
 use Rattle.std.specs.Option.{option_map_or}
 use Rattle.std.specs.Result.{result_ok}
 use Rattle.clap.specs.Walk.{Row}
-use Rattle.lvm_script.specs.declared.command_name.CommandName.{CommandName}
-use Rattle.lvm_script.specs.declared.fault.Fault.{Fault}
-use Rattle.lvm_script.specs.declared.refusal.CommandRefusal.{CommandRefusal}
-use Rattle.lvm_script.specs.declared.refusal.CommandRefusal.TheVariants.{Faulty, WrongWords, NoMemory}
-use Rattle.lvm_script.specs.declared.option_key.OptionKey.{OptionKey}
-use Rattle.lvm_script.specs.declared.request.Request.{Request}
-use Rattle.lvm_script.specs.declared.script_refusal.LineFault.TheVariants as fault
-use Rattle.lvm_script.specs.declared.table.OptionRow.{OptionRow}
-use Rattle.lvm_script.specs.Meaning.{at_place, meaning_with, request_by_name, request_named, request_of, request_read, value_in}
-use Rattle.lvm_script.specs.Options.{Word}
-use Rattle.lvm_script.specs.Table.{is_for_words, options_of}
-use Rattle.lvm_script.specs.Words.{Split, is_complete, nothing_split, numbered_from, read}
+use Rattle.command_table.specs.declared.command_name.CommandName.{CommandName}
+use Rattle.command_table.specs.declared.fault.Fault.{Fault}
+use Rattle.command_table.specs.declared.refusal.CommandRefusal.{CommandRefusal}
+use Rattle.command_table.specs.declared.refusal.CommandRefusal.TheVariants.{Faulty, WrongWords, NoMemory}
+use Rattle.command_table.specs.declared.option_key.OptionKey.{OptionKey}
+use Rattle.command_table.specs.declared.request.Request.{Request}
+use Rattle.command_table.specs.declared.line_fault.LineFault.TheVariants as fault
+use Rattle.command_table.specs.declared.table.OptionRow.{OptionRow}
+use Rattle.command_table.specs.Meaning.{at_place, meaning_with, request_by_name, request_named, request_of, request_read, value_in}
+use Rattle.command_table.specs.Options.{Word}
+use Rattle.command_table.specs.Table.{is_for_words, options_of}
+use Rattle.command_table.specs.Words.{Split, is_complete, nothing_split, numbered_from, read}
 use Rattle.lvm_words.specs.Parser.{Lists, arguments_in, arguments_pass, listed, no_stray, pairs_of, request_found, split_of, value_passes, values_of, values_pass}
 use Rattle.lvm_words.proofs.FaultFree.{all_pass, bare, distinct_options, fault_free, given_passes, split_read}
 use Rattle.lvm_words.proofs.Given.{given_alike}

@@ -7,9 +7,9 @@ use Rattle.std.specs.Option.{option_map_or}
 use Rattle.std.specs.Str.{bytes_eq, chars}
 use Rattle.clap.specs.Lexer.{long_of, short_of}
 use Rattle.clap.proofs.OnLiterals.{clap_on_literals}
-use Rattle.lvm_script.specs.declared.option_key.OptionKey.{OptionKey}
-use Rattle.lvm_script.specs.declared.option_key.OptionKey.TheVariants.{Abort, Alloc, Extents, MetadataCopies, Mirrors, Name, PhysicalExtentSize, Size, Stripes, StripeSize, Workers}
-use Rattle.lvm_script.specs.Options.{Word, is_key, letter_of, name_of, spells}
+use Rattle.command_table.specs.declared.option_key.OptionKey.{OptionKey}
+use Rattle.command_table.specs.declared.option_key.OptionKey.TheVariants.{Abort, Alloc, Extents, MetadataCopies, Mirrors, Name, PhysicalExtentSize, Size, Stripes, StripeSize, Workers}
+use Rattle.command_table.specs.Options.{Word, is_key, letter_of, name_of, spells}
 use Rattle.lvm_words.specs.Parser.{rest_id}
 
 -- the word is the option's long spelling, or its short one

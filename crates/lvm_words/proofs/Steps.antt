@@ -11,8 +11,8 @@ use Rattle.clap.specs.Walk.{Row, Text, Waiting, Walk, bundle_met, idle, option, 
 use Rattle.clap.specs.declared.builder.value_parser.Reading.TheVariants as reading
 use Rattle.clap.specs.declared.error.kind.ErrorKind.TheVariants as kind
 use Rattle.clap.specs.declared.parser.matches.ValueSource.TheVariants.{CommandLine}
-use Rattle.lvm_script.specs.declared.table.OptionRow.{OptionRow}
-use Rattle.lvm_script.specs.Options.{Word, is_dashed, letter_of, name_of}
+use Rattle.command_table.specs.declared.table.OptionRow.{OptionRow}
+use Rattle.command_table.specs.Options.{Word, is_dashed, letter_of, name_of}
 use Rattle.lvm_words.specs.Parser.{rest_id, value_count}
 use Rattle.lvm_words.proofs.Find.{rules_built}
 use Rattle.lvm_words.proofs.Found.{Stands, found_by_id, found_by_long, found_by_short, found_rest, found_rest_by_id}

@@ -4,11 +4,11 @@ use Rattle.std.proofs.lemmas.Bool.{cases_Bool}
 use Rattle.std.proofs.lemmas.List.{drop_more}
 use Rattle.std.specs.declared.string.String.{String}
 use Rattle.std.specs.String.{string_bytes}
-use Rattle.lvm_script.specs.declared.option_key.OptionKey.{OptionKey}
-use Rattle.lvm_script.specs.declared.role.Role.TheVariants as role
-use Rattle.lvm_script.specs.declared.table.OptionRow.{OptionRow}
-use Rattle.lvm_script.specs.Options.{Word, is_dashed, words_of}
-use Rattle.lvm_script.specs.Words.{Split, after_role, has_key, nothing_split, option_named, role_of, role_of_option, role_of_other, role_of_row}
+use Rattle.command_table.specs.declared.option_key.OptionKey.{OptionKey}
+use Rattle.command_table.specs.declared.role.Role.TheVariants as role
+use Rattle.command_table.specs.declared.table.OptionRow.{OptionRow}
+use Rattle.command_table.specs.Options.{Word, is_dashed, words_of}
+use Rattle.command_table.specs.Words.{Split, after_role, has_key, nothing_split, option_named, role_of, role_of_option, role_of_other, role_of_row}
 use Rattle.lvm_words.specs.Parser.{after_split, is_stray, next_seen, no_stray, seen_after}
 use Rattle.lvm_words.proofs.Forms.{Form, flag, form, takes}
 

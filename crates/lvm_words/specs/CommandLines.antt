@@ -2,12 +2,13 @@
 use Rattle.std.specs.Prelude.{◌≡◌, ⊤, ℕ, Bool, false, List, Option, Some, None, Result, Ok, Err, IfSome, option_map, option_and_then}
 use Rattle.std.specs.Result.{result_ok}
 use Rattle.lvm_id.specs.LvmId.{IsId}
-use Rattle.lvm_script.specs.declared.script_refusal.LineFault.{LineFault}
-use Rattle.lvm_script.specs.declared.request.Request.{Request}
-use Rattle.lvm_script.specs.declared.request.Request.TheVariants as request
-use Rattle.lvm_script.specs.Lines.{draws, line_of}
-use Rattle.lvm_script.specs.Meaning.{meaning_of_words}
-use Rattle.lvm_script.specs.Options.{Word}
+use Rattle.command_table.specs.declared.line_fault.LineFault.{LineFault}
+use Rattle.command_table.specs.declared.request.Request.{Request}
+use Rattle.command_table.specs.declared.request.Request.TheVariants as request
+use Rattle.command_table.specs.Commands.{draws}
+use Rattle.command_table.specs.Meaning.{meaning_of_words}
+use Rattle.command_table.specs.Options.{Word}
+use Rattle.lvm_script.specs.Lines.{line_of}
 use Rattle.lvm_words.specs.declared.asked.Asked.{Asked}
 use Rattle.lvm_words.specs.declared.asked.Task.{Task}
 use Rattle.lvm_words.specs.declared.asked.Task.TheVariants.{One, Session, Demo}

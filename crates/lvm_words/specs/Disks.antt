@@ -2,8 +2,8 @@
 use Rattle.std.specs.Prelude.{Bool, true, not, ◌==◌, ◌&&◌, if◌then◌else◌, nat_le, List, [], ◌∷◌, length, Option, Some, None, codes, option_map, option_and_then}
 use Rattle.std.specs.List.{list_any}
 use Rattle.std.specs.Str.{bytes_eq}
-use Rattle.lvm_script.specs.Options.{Word}
-use Rattle.lvm_script.specs.Values.{is_disk_name}
+use Rattle.command_table.specs.Options.{Word}
+use Rattle.command_table.specs.Values.{is_disk_name}
 
 -- the names of the pairs at the front of some words, and the words after the pairs
 pub record Front : Type 0 where

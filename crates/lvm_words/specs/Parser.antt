@@ -5,19 +5,19 @@ use Rattle.std.specs.Option.{option_and_then, option_map_or}
 use Rattle.clap.specs.Simple.{App, new_rule, new_shape}
 use Rattle.clap.specs.Walk.{Row, Rule, Text, all_of, first_of}
 use Rattle.clap.specs.declared.builder.action.ArgAction.TheVariants.{Append}
-use Rattle.lvm_script.specs.declared.command_name.CommandName.{CommandName}
-use Rattle.lvm_script.specs.declared.kind.Kind.{Kind}
-use Rattle.lvm_script.specs.declared.kind.Kind.TheVariants.{Flag}
-use Rattle.lvm_script.specs.declared.option_key.OptionKey.{OptionKey}
-use Rattle.lvm_script.specs.declared.request.Request.{Request}
-use Rattle.lvm_script.specs.declared.role.Role.{Role}
-use Rattle.lvm_script.specs.declared.role.Role.TheVariants as role
-use Rattle.lvm_script.specs.declared.table.OptionRow.{OptionRow}
-use Rattle.lvm_script.specs.Meaning.{request_by_name, value_in}
-use Rattle.lvm_script.specs.Options.{Word, is_dashed, is_key, letter_of, name_of}
-use Rattle.lvm_script.specs.Table.{argument_of, options_of}
-use Rattle.lvm_script.specs.Values.{fault_in}
-use Rattle.lvm_script.specs.Words.{Split, after_role, has_key, nothing_split, option_named, role_of}
+use Rattle.command_table.specs.declared.command_name.CommandName.{CommandName}
+use Rattle.command_table.specs.declared.kind.Kind.{Kind}
+use Rattle.command_table.specs.declared.kind.Kind.TheVariants.{Flag}
+use Rattle.command_table.specs.declared.option_key.OptionKey.{OptionKey}
+use Rattle.command_table.specs.declared.request.Request.{Request}
+use Rattle.command_table.specs.declared.role.Role.{Role}
+use Rattle.command_table.specs.declared.role.Role.TheVariants as role
+use Rattle.command_table.specs.declared.table.OptionRow.{OptionRow}
+use Rattle.command_table.specs.Meaning.{request_by_name, value_in}
+use Rattle.command_table.specs.Options.{Word, is_dashed, is_key, letter_of, name_of}
+use Rattle.command_table.specs.Table.{argument_of, options_of}
+use Rattle.command_table.specs.Values.{fault_in}
+use Rattle.command_table.specs.Words.{Split, after_role, has_key, nothing_split, option_named, role_of}
 
 -- ---- the command of clap
 

@@ -1,14 +1,16 @@
 //! What a command line asks for, with what its line draws.
 ghost use Rattle.std.specs.Prelude.{◌≡◌, None, Some, IfOk, OnErr, IsErrOf};
+ghost use Rattle.command_table.specs.Options.{words_of};
 ghost use Rattle.lvm_script.specs.Lines.{TakesId};
-ghost use Rattle.lvm_script.specs.Options.{words_of};
 ghost use Rattle.lvm_words.specs.CommandLines.{HasId, command_line_of, draws_id, line_in, request_in, task_of};
 ghost use Rattle.lvm_words.specs.declared.command_line.CommandLine.{CommandLine as CommandLineRecord};
 
 use crate::{CommandLine, WordsRefusal, read_command_line};
+use command_table::Request;
+use line_answers::DiskNames;
 use lvm_id::Words64;
 use lvm_name::GroupName;
-use lvm_script::{DiskNames, Line, Request};
+use lvm_script::Line;
 use std::alloc::Global;
 
 /// What a run is to do.

@@ -1,12 +1,13 @@
 //! The command after the pairs.
 ghost use Rattle.std.specs.Prelude.{◌≡◌, None, Some, IfOk, IsErrOf};
-ghost use Rattle.lvm_script.specs.Options.{words_of};
+ghost use Rattle.command_table.specs.Options.{words_of};
 ghost use Rattle.lvm_words.specs.CommandLines.{command_line_of};
 
 use crate::WordsRefusal;
 use crate::disks::disks_front;
 use crate::request::request_of_words;
-use lvm_script::{DiskNames, Request};
+use command_table::Request;
+use line_answers::DiskNames;
 use std::alloc::Global;
 
 /// The names of the disks, and what is asked for.

@@ -1,11 +1,12 @@
 //! The pairs `-d NAME`.
 ghost use Rattle.std.specs.Prelude.{◌≡◌, None, Some, IfOk, IsErrOf};
 ghost use Rattle.std.specs.String.{string_bytes};
-ghost use Rattle.lvm_script.specs.Options.{words_of};
+ghost use Rattle.command_table.specs.Options.{words_of};
 ghost use Rattle.lvm_words.specs.Disks.{all_differ, are_disks, disks_front, disks_named, front_of, is_disk_option};
 
 use crate::WordsRefusal;
-use lvm_script::{DiskNames, is_disk_name};
+use command_table::is_disk_name;
+use line_answers::DiskNames;
 use std::alloc::{AllocError, Global};
 use std::collections::BTreeSet;
 

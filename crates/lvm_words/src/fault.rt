@@ -1,13 +1,14 @@
 //! What is wrong with words that have no meaning.
 ghost use Rattle.std.specs.Prelude.{IfOk};
-ghost use Rattle.lvm_script.specs.Options.{words_of};
+ghost use Rattle.command_table.specs.Options.{words_of};
+ghost use Rattle.command_table.specs.Meaning.{meaning_of_words};
 ghost use Rattle.lvm_words.specs.CommandLines.{IsCommandFault, IsFaultOf};
-ghost use Rattle.lvm_script.specs.Meaning.{meaning_of_words};
 ghost use Rattle.lvm_words.specs.Disks.{disks_front};
 
 use crate::WordsRefusal;
 use crate::disks::disks_front;
-use lvm_script::{LineFault, LineRefusal, read_request};
+use command_table::LineFault;
+use lvm_script::{LineRefusal, read_request};
 use std::alloc::{AllocError, Global};
 
 /// What is wrong with the words of a command line.

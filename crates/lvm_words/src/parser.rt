@@ -6,13 +6,13 @@ ghost use Rattle.clap.specs.Matches.{found_of};
 ghost use Rattle.clap.specs.Simple.{app_of, matches_of};
 ghost use Rattle.clap.specs.Walk.{all_of, first_of, rows_of, rule_of, texts};
 ghost use Rattle.clap.specs.Values.{kind_of};
-ghost use Rattle.lvm_script.specs.Options.{name_of, words_of};
-ghost use Rattle.lvm_script.specs.Words.{is_complete, nothing_split};
+ghost use Rattle.command_table.specs.Options.{name_of, words_of};
+ghost use Rattle.command_table.specs.Words.{is_complete, nothing_split};
 ghost use Rattle.lvm_words.specs.Parser.{Lists, app_for, app_with, named_rule, no_stray, rest_id, rest_rule, seen_after, split_of, value_count};
 
 use clap::error::ErrorKind;
 use clap::{Arg, ArgAction, ArgMatches, Command, Error};
-use lvm_script::{Kind, OptionKey, OptionRow, has_key, option_named};
+use command_table::{Kind, OptionKey, OptionRow, has_key, option_named};
 use std::alloc::{AllocError, Global};
 
 /// The matches of these words, which are those of a command with these options. Each word that begins with `-` is one of the

@@ -4,15 +4,15 @@ ghost use Rattle.std.specs.List.{list_all};
 ghost use Rattle.std.specs.Result.{result_ok};
 ghost use Rattle.clap.specs.Matches.{found_of};
 ghost use Rattle.clap.specs.Walk.{rows_of, texts};
-ghost use Rattle.lvm_script.specs.Meaning.{meaning_of_words, request_named, request_read};
-ghost use Rattle.lvm_script.specs.Options.{words_in, words_of};
-ghost use Rattle.lvm_script.specs.Words.{numbered_from, read};
+ghost use Rattle.command_table.specs.Meaning.{meaning_of_words, request_named, request_read};
+ghost use Rattle.command_table.specs.Options.{words_in, words_of};
+ghost use Rattle.command_table.specs.Words.{numbered_from, read};
 ghost use Rattle.lvm_words.specs.Parser.{argument_passes, arguments_in, arguments_pass, pairs_of, request_found, value_passes, values_pass};
 
 use crate::parser::{arguments, only_options, parse, value, values};
 use clap::ArgMatches;
 use clap::error::ErrorKind;
-use lvm_script::{
+use command_table::{
     CommandName, Given, Kind, OptionKey, OptionRow, Request, fault_in, request_by_name,
 };
 use std::alloc::{AllocError, Global};

@@ -1,7 +1,8 @@
 //! The lines of answers, where the disks are named `sda` and `sdb`.
+use byte_streams::{Failed, MemSink, Sink};
+use line_answers::{Answer, DiskNames, OpRefusal};
 use line_table::Answers;
 use lvm_report::{answer_lines, write_answers};
-use lvm_script::{Answer, DiskNames, Failed, MemSink, OpRefusal, Sink};
 use std::alloc::{AllocError, Global};
 use std::test::Fail;
 

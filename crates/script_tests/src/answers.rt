@@ -1,5 +1,6 @@
 //! Answers as they print, where the disks are named `sda` and `sdb`. What each prints is told by rows on the definition.
-use lvm_script::{Answer, DiskNames, OpRefusal, Sink, TextSink};
+use byte_streams::{Sink, TextSink};
+use line_answers::{Answer, DiskNames, OpRefusal};
 use sector_base::{Bytes512, ItemList, Sectors, Text};
 use std::alloc::{AllocError, Global};
 use std::test::Fail;

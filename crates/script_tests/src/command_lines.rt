@@ -1,6 +1,7 @@
 //! Command lines, and what they name and mean, once each: rows over `lvm_run` show what is refused.
+use command_table::{Fault, LineFault};
+use line_answers::DiskNames;
 use lvm_id::{MemWords, Words64};
-use lvm_script::{DiskNames, Fault, LineFault};
 use lvm_words::{Task, WordsFault, WordsRefusal, disk_names, fault_of_command_line, read_words};
 use std::alloc::{AllocError, Global};
 use std::test::Fail;

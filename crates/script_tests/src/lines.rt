@@ -1,6 +1,8 @@
 //! A line that takes place and is answered, and one of which a piece fails.
+use command_table::Command;
+use line_answers::Answer;
 use line_table::{EntryKind, JournalEntry, LineTable};
-use lvm_script::{Answer, Command, Line};
+use lvm_script::Line;
 use sector_base::Piece;
 use std::test::Fail;
 

@@ -1,7 +1,8 @@
 //! Whole scripts: a line of each command, the most lines, and a line's text.
 use crate::texts::text_of;
+use command_table::{Command, LineFault};
 use lvm_id::{MemWords, Words64};
-use lvm_script::{Command, Line, LineFault, ScriptRefusal, script_of};
+use lvm_script::{Line, ScriptRefusal, script_of};
 use sector_base::Text;
 use std::alloc::{AllocError, Global};
 use std::test::Fail;

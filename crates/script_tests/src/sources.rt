@@ -1,5 +1,5 @@
 //! Reading a source to its end.
-use lvm_script::{MemSource, ReadFault, Source, read_all};
+use byte_streams::{MemSource, ReadFault, Source, read_all};
 use std::alloc::Global;
 use std::test::Fail;
 

@@ -1,5 +1,5 @@
 //! Streams through their bounds, with a fault in mid-stream.
-use lvm_script::{Failed, MemSink, MemSource, Sink, Source, write_all};
+use byte_streams::{Failed, MemSink, MemSource, Sink, Source, write_all};
 use sector_base::Text;
 use std::test::Fail;
 

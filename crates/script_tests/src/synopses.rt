@@ -1,5 +1,5 @@
 //! The words of the manual against the table.
-use lvm_script::{CommandName, Kind, OptionKey};
+use command_table::{CommandName, Kind, OptionKey};
 use std::alloc::{AllocError, Global};
 use std::test::Fail;
 

@@ -1,8 +1,7 @@
 //! Words of a command line: each command has its request, and one command is a line.
+use command_table::{CommandName, Given, LineFault, OptionKey, request_by_name};
 use lvm_id::{MemWords, Words64};
-use lvm_script::{
-    CommandName, Given, LineFault, LineRefusal, OptionKey, line_of, read_request, request_by_name,
-};
+use lvm_script::{LineRefusal, line_of, read_request};
 use std::alloc::{AllocError, Global};
 use std::test::Fail;
 

@@ -2,9 +2,10 @@
 ghost use Rattle.std.specs.Prelude.{◌≡◌, length, IfOk};
 
 use crate::disks::shelf_of_one;
+use command_table::Command;
 use dev_shelf::Fail as Failure;
 use disk_use::{InUse, Use, UseRefusal, find_use};
-use lvm_script::{Command, DiskNames};
+use line_answers::DiskNames;
 use sector_base::{Bytes512, Sectors, Text};
 use std::alloc::{AllocError, Global};
 use std::process::Abort;

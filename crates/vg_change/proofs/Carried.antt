@@ -1,7 +1,8 @@
 -- Each exit of a line that is carried out.
 use Rattle.std.proofs.Common.{◌≡◌, ◌≤◌, ◌<◌, ℕ, Bool, true, false, List, [], Option, Some, None, inl, inr, refl, sym, ap, subst, ◌∙◌}
 use Rattle.std.specs.Prelude.{All, MatchResult, Result, Ok, Err, is_ok, is_some}
-use Rattle.disk_batch.specs.InTurn.{Put, WritesInTurn}
+use Rattle.line_answers.specs.declared.op_refusal.OpRefusal.{OpRefusal}
+use Rattle.lvm_script.specs.declared.line.Line.{Line}
 use Rattle.disk_model.specs.Calls.{Reserves}
 use Rattle.disk_model.specs.Faults.{HasSameFaults}
 use Rattle.disk_model.specs.Idle.{IsIdleAgain}
@@ -9,8 +10,7 @@ use Rattle.disk_model.specs.Since.{BetweenTold}
 use Rattle.disk_model.specs.State.{IsLawful, State}
 use Rattle.disk_model.specs.Steps.{Told}
 use Rattle.extent_alloc.specs.declared.part.Part.{Part}
-use Rattle.lvm_script.specs.declared.line.Line.{Line}
-use Rattle.lvm_script.specs.declared.op_refusal.OpRefusal.{OpRefusal}
+use Rattle.disk_batch.specs.InTurn.{Put, WritesInTurn}
 use Rattle.group_ops.specs.Allocating.{Asking, Takes}
 use Rattle.group_ops.specs.Cleared.{unused_labels}
 use Rattle.group_ops.specs.Judging.{first_refusal}

@@ -5,30 +5,30 @@ use Rattle.std.specs.Option.{option_map_or}
 use Rattle.std.proofs.lemmas.Bool.{ltb-false}
 use Rattle.std.proofs.lemmas.List.Elements.{All-append, All-cons, All-head, All-map, All-nil, All-weaker}
 use Rattle.std.proofs.lemmas.Option.{same_Some}
-use Rattle.extent_alloc.specs.declared.part.Part.{Part}
 use Rattle.lvm_id.specs.LvmId.{IsId}
-use Rattle.lvm_script.specs.Options.{number_named}
-use Rattle.lvm_script.specs.declared.command.Command.{Command}
-use Rattle.lvm_script.specs.declared.command.Command.TheVariants.{Lvcreate, Lvextend, Lvreduce, Lvremove, Lvrename, Pvcreate, Vgcfgrestore, Vgcreate, Vgextend, Vgreduce, Vgremove, Vgrename}
+use Rattle.command_table.specs.Options.{number_named}
+use Rattle.command_table.specs.declared.command.Command.{Command}
+use Rattle.command_table.specs.declared.command.Command.TheVariants.{Lvcreate, Lvextend, Lvreduce, Lvremove, Lvrename, Pvcreate, Vgcfgrestore, Vgcreate, Vgextend, Vgreduce, Vgremove, Vgrename}
 use Rattle.lvm_script.specs.declared.line.Line.{Line}
 use Rattle.disk_model.specs.Steps.{Image}
-use Rattle.disk_batch.specs.InTurn.{Put, with_batches, with_writes}
-use Rattle.disk_batch.proofs.FrontBatches.{keeps_sector}
-use Rattle.disk_batch.proofs.WritesOnImages.{written_is, written_kept}
-use Rattle.mda_header.specs.Header.{IsHeader}
-use Rattle.mda_header.specs.HeaderBytes.{header_bytes as mda_bytes}
-use Rattle.meta_model.specs.declared.group.Group.{Group}
 use Rattle.pv_header.specs.declared.extent_list.Extent.{Extent}
 use Rattle.pv_header.specs.declared.header.PvHeader.{PvHeader}
 use Rattle.pv_header.specs.Areas.{is_outside}
 use Rattle.pv_header.specs.Extents.{Fits64}
 use Rattle.pv_header.specs.PvRefusal.{Reads}
+use Rattle.mda_header.specs.Header.{IsHeader}
+use Rattle.mda_header.specs.HeaderBytes.{header_bytes as mda_bytes}
+use Rattle.meta_model.specs.declared.group.Group.{Group}
+use Rattle.extent_alloc.specs.declared.part.Part.{Part}
+use Rattle.disk_batch.specs.InTurn.{Put, with_batches, with_writes}
+use Rattle.disk_batch.proofs.FrontBatches.{keeps_sector}
+use Rattle.disk_batch.proofs.WritesOnImages.{written_is, written_kept}
 use Rattle.disk_contents.specs.declared.contents.PvFound.{PvFound}
 use Rattle.disk_contents.specs.declared.contents.PvFound.TheVariants.{NoLabel, NoHeader, Whole}
-use Rattle.vg_commit.specs.Showing.{sectors_of}
 use Rattle.vg_found.specs.declared.disk.Disk.{Disk}
 use Rattle.vg_found.specs.Disks.{header_on}
 use Rattle.vg_found.specs.Shape.{ContentsCanStand, IsDisk}
+use Rattle.vg_commit.specs.Showing.{sectors_of}
 use Rattle.group_ops.proofs.AddedFacts.{IsFoundOn, all_found}
 use Rattle.group_ops.proofs.NextVersions.{is_next, next_labels}
 use Rattle.group_ops.proofs.Restoring.{restore_holds}

@@ -7,18 +7,21 @@ use Rattle.std.specs.FinSet as set
 use Rattle.std.specs.FinSet.{FinSet}
 use Rattle.std.specs.Option.{option_map_or}
 use Rattle.std.proofs.lemmas.List.Elements.{All-nil}
-use Rattle.extent_alloc.specs.declared.part.Part.{Part}
-use Rattle.lvm_script.specs.declared.command.Command.{Command}
-use Rattle.lvm_script.specs.declared.command.Command.TheVariants.{Lvcreate, Lvextend, Lvreduce, Lvremove, Lvrename, Pvcreate, Vgcfgrestore, Vgcreate, Vgextend, Vgreduce, Vgremove, Vgrename}
-use Rattle.lvm_script.specs.declared.line.Line.{Line}
-use Rattle.lvm_script.specs.declared.op_refusal.OpRefusal.TheVariants.{GroupStands, UnknownGroup}
-use Rattle.conf_text.specs.Printed.{printed}
-use Rattle.meta_print.specs.Layout.{tree_of}
 use Rattle.sector_base.specs.declared.spans.Span.{Span}
+use Rattle.command_table.specs.declared.command.Command.{Command}
+use Rattle.command_table.specs.declared.command.Command.TheVariants.{Lvcreate, Lvextend, Lvreduce, Lvremove, Lvrename, Pvcreate, Vgcfgrestore, Vgcreate, Vgextend, Vgreduce, Vgremove, Vgrename}
+use Rattle.line_answers.specs.declared.op_refusal.OpRefusal.TheVariants.{GroupStands, UnknownGroup}
+use Rattle.lvm_script.specs.declared.line.Line.{Line}
+use Rattle.conf_text.specs.Printed.{printed}
 use Rattle.meta_model.specs.declared.group.Group.{Group}
-use Rattle.group_ops.proofs.NextVersions.{CommitsNext, append_nil, commits_next, extended_none}
+use Rattle.meta_print.specs.Layout.{tree_of}
+use Rattle.extent_alloc.specs.declared.part.Part.{Part}
+use Rattle.vg_found.specs.Disks.{disks_of}
 use Rattle.group_edits.proofs.ReducedRules.{all_without}
 use Rattle.group_edits.specs.ReducedGroup.{reduced_group}
+use Rattle.group_edits.specs.NextVersion.{next_version}
+use Rattle.group_edits.specs.RestoredGroup.{restored_group}
+use Rattle.group_ops.proofs.NextVersions.{CommitsNext, append_nil, commits_next, extended_none}
 use Rattle.group_ops.proofs.Leaving.{LeavesNext, leaves_next}
 use Rattle.group_ops.specs.Added.{added_of}
 use Rattle.group_ops.specs.Allocating.{Takes}
@@ -28,11 +31,8 @@ use Rattle.group_ops.specs.NewGroup.{change_with, extended}
 use Rattle.group_ops.specs.Planning.{IsPlanned, asks_of, change_of, extend_by, refusal_of}
 use Rattle.group_ops.specs.State.{IsState}
 use Rattle.group_ops.specs.Vgcreate.{empty_group, new_rows, vgcreate_change}
-use Rattle.group_edits.specs.NextVersion.{next_version}
 use Rattle.group_ops.specs.Vgextend.{found_rows, vgextend_change}
 use Rattle.group_ops.specs.Vgreduce.{vgreduce_change}
-use Rattle.vg_found.specs.Disks.{disks_of}
-use Rattle.group_edits.specs.RestoredGroup.{restored_group}
 use Rattle.group_ops.proofs.Restoring.{Restores, restores}
 use Rattle.group_ops.specs.Vgcfgrestore.{backup_change, vgcfgrestore_change, vgcfgrestore_rows}
 use Rattle.group_ops.specs.declared.backup.Backup.{Backup}

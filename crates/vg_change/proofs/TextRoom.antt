@@ -6,15 +6,15 @@ use Rattle.std.specs.FinSet as set
 use Rattle.std.specs.Ordering.{nat_cmp}
 use Rattle.std.proofs.lemmas.Bool.{ltb-false}
 use Rattle.std.proofs.lemmas.List.Elements.{All-head, All-tail}
-use Rattle.conf_text.specs.Printed.{printed}
+use Rattle.line_answers.specs.declared.op_refusal.OpRefusal.TheVariants.{NoArea, TooLarge}
+use Rattle.pv_header.proofs.Overlaps.{All-from_find}
 use Rattle.mda_header.specs.declared.header.Locn.{Locn}
 use Rattle.mda_ring.specs.Areas.{CanTake}
 use Rattle.mda_ring.specs.Ring.{need, room}
 use Rattle.mda_ring.specs.declared.area.Area.{Area}
+use Rattle.conf_text.specs.Printed.{printed}
 use Rattle.meta_model.specs.declared.group.Group.{Group}
 use Rattle.meta_print.specs.Layout.{tree_of}
-use Rattle.pv_header.proofs.Overlaps.{All-from_find}
-use Rattle.lvm_script.specs.declared.op_refusal.OpRefusal.TheVariants.{NoArea, TooLarge}
 use Rattle.vg_commit.specs.TooLarge.{first_too_large}
 use Rattle.group_ops.proofs.Passed.{no_map}
 use Rattle.group_ops.specs.Judging.{area_row, is_full, large_row, lies_on, set_of, stored_size}

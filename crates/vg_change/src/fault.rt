@@ -4,7 +4,7 @@ ghost use Rattle.vg_change.specs.CarryingOut.{fault_of};
 ghost use Rattle.vg_change.specs.declared.fault.ChangeFault.TheVariants.{NoMemory};
 
 use group_ops::PlanRefusal;
-use lvm_script::OpRefusal;
+use line_answers::OpRefusal;
 use std::alloc::{AllocError, AllocFailed};
 
 /// Why a line didn't do what it asks for.

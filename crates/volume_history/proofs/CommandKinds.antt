@@ -1,17 +1,17 @@
 -- What commands are that leave the volumes as they are, and those that create no sector.
 use Rattle.std.proofs.Common.{◌≡◌, ℕ, Bool, true, false, List, Option, Some, None, refl, ap}
+use Rattle.command_table.specs.Options.{Word}
+use Rattle.command_table.specs.declared.command.Command.{Command}
+use Rattle.command_table.specs.declared.command.Command.TheVariants as command
+use Rattle.line_answers.specs.declared.answer.Answer.TheVariants as answer
 use Rattle.disk_model.specs.Steps.{Image}
+use Rattle.line_table.specs.Machine.{PlainState, plain_after}
 use Rattle.group_ops.proofs.NextVersions.{zeroes}
 use Rattle.image_scans.specs.Versions.{Version}
-use Rattle.line_table.specs.Machine.{PlainState, plain_after}
-use Rattle.lvm_script.specs.Options.{Word}
-use Rattle.lvm_script.specs.declared.command.Command.{Command}
 use Rattle.volume_history.specs.Candidates.{is_born, is_zeroed}
 use Rattle.volume_history.specs.Commands.{commits, created_disk, is_data, may_say, removes, volume_named, writes}
 use Rattle.volume_history.specs.Quiet.{is_quiet}
 use Rattle.volume_history.specs.Replay.{command_step}
-use Rattle.lvm_script.specs.declared.command.Command.TheVariants as command
-use Rattle.lvm_script.specs.declared.answer.Answer.TheVariants as answer
 
 -- what is known of a command that leaves the volumes as they are
 pub record IsQuietCommand (c : Command) : Type 0 where

@@ -1,11 +1,15 @@
 -- Small histories, evaluated.
 use Rattle.std.proofs.Common.{◌≡◌, ℕ, ◌&&◌, ◌||◌, Bool, true, false, List, [], ◌∷◌, Some, None, refl}
+use Rattle.sector_base.specs.declared.places.Piece.{Piece}
+use Rattle.command_table.specs.Options.{number_named}
+use Rattle.line_answers.specs.declared.answer.Answer.TheVariants as answer
+use Rattle.line_answers.specs.declared.op_refusal.OpRefusal.TheVariants as refusal
 use Rattle.disk_model.specs.Steps.{Completed, Flushing, Image, Step, Submitted, Writing}
 use Rattle.disk_model.specs.ValueList.{values}
-use Rattle.image_scans.specs.Versions.{Version}
+use Rattle.volume_view.specs.InSegments.{leg_spot, met}
+use Rattle.volume_view.specs.Places.{primary}
 use Rattle.line_table.specs.Machine.{key_of, list_of, plain_after, sector_of}
-use Rattle.lvm_script.specs.Options.{number_named}
-use Rattle.sector_base.specs.declared.places.Piece.{Piece}
+use Rattle.image_scans.specs.Versions.{Version}
 use Rattle.volume_history.proofs.SmallGroups.{creating, extending, filling, group_removing, listing, making, moving, pvcreating, reading, reducing, removing, renaming, restoring, version_1, version_2, version_3, version_4, version_5, version_6, version_7}
 use Rattle.volume_history.specs.Candidates.{Anything, OneOf, base, candidates, pending_candidates, pending_step}
 use Rattle.volume_history.specs.Chronicles.{Answered, Begun, Changed, Entry, Failed, GivenUp, Opened, Origin, Took, fenced_by, in_force, is_failed_disk, left_out, may_begin, pending, upto}
@@ -13,10 +17,6 @@ use Rattle.volume_history.specs.Commands.{number_sector, zero_sector}
 use Rattle.volume_history.specs.Legal.{is_in_order, read_values}
 use Rattle.volume_history.specs.Placed.{place_of, volumes_of}
 use Rattle.volume_history.specs.Replay.{plain_state}
-use Rattle.volume_view.specs.InSegments.{leg_spot, met}
-use Rattle.volume_view.specs.Places.{primary}
-use Rattle.lvm_script.specs.declared.answer.Answer.TheVariants as answer
-use Rattle.lvm_script.specs.declared.op_refusal.OpRefusal.TheVariants as refusal
 
 abbrev write : ℕ → ℕ → ℕ → Step
 write tag at number = Submitted tag (Writing (record { pv = 0; first = at; count = 1 }) (number_sector number ∷ []))

@@ -1,11 +1,12 @@
 -- The histories of one line are legal.
 use Rattle.std.proofs.Common.{◌≡◌, ◌≤◌, ℕ, ◌-◌, ◌&&◌, ◌||◌, Bool, true, false, not, if◌then◌else◌, List, [], ◌∷◌, length, take, drop, Option, Some, None, refl, sym, ap, subst, ◌∙◌, arith, is_some}
 use Rattle.std.proofs.lemmas.Bool.{true≢false}
+use Rattle.command_table.specs.declared.command.Path.{Path}
+use Rattle.line_answers.specs.declared.answer.Answer.{Answer}
+use Rattle.line_answers.specs.declared.answer.Answer.TheVariants as answer
+use Rattle.lvm_script.specs.declared.line.Line.{Line}
 use Rattle.disk_model.specs.Order.{WritesNothing}
 use Rattle.image_scans.specs.Versions.{Version}
-use Rattle.lvm_script.specs.declared.command.Path.{Path}
-use Rattle.lvm_script.specs.declared.answer.Answer.{Answer}
-use Rattle.lvm_script.specs.declared.line.Line.{Line}
 use Rattle.volume_history.proofs.Bits.{and_both}
 use Rattle.volume_history.proofs.CommandKinds.{commit_says, undata}
 use Rattle.volume_history.proofs.Written.{since_seen}
@@ -14,7 +15,6 @@ use Rattle.volume_history.specs.Commands.{commits, failed_pv, is_data, is_good, 
 use Rattle.volume_history.specs.Legal.{AllFaithful, AllOrdered, FindsNow, GivesMachine, IsFaithful, IsOrdered, LeavesGroup, Makes, is_new_piece, is_pending, keeps_group, key_named, may_answer, may_answer_command, may_answer_data}
 use Rattle.volume_history.specs.Runs.{zero_piece}
 use Rattle.volume_history.specs.Single.{LeavesAll, MayEnd, answered_entries, begun_entries, taken_entries, end_of, fenced_entries, given_up_entries, made_entries, open_entries}
-use Rattle.lvm_script.specs.declared.answer.Answer.TheVariants as answer
 
 or_true : (b : Bool) → (b || true) ≡ true
 or_true true = refl

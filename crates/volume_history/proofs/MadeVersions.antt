@@ -4,15 +4,15 @@ use Rattle.std.specs.Str.{bytes_eq}
 use Rattle.std.proofs.lemmas.Bool.{cases_lt}
 use Rattle.std.proofs.lemmas.Bool.Decides.{nat_tests}
 use Rattle.std.proofs.lemmas.Option.{same_Some}
+use Rattle.command_table.specs.declared.command.Command.{Command}
+use Rattle.command_table.specs.declared.command.Command.TheVariants as command
+use Rattle.command_table.specs.declared.amount.Amount.{Amount}
+use Rattle.command_table.specs.declared.amount.Growth.{Growth}
+use Rattle.command_table.specs.declared.command.NewVolume.{NewVolume}
+use Rattle.command_table.specs.declared.command.Path.{Path}
 use Rattle.disk_model.specs.Steps.{Image}
-use Rattle.image_scans.specs.Versions.{Version}
 use Rattle.line_table.specs.Machine.{Created, Extended, Nothing, PlainState, PlainStep, PlainVolume, key_of, plain_after, sectors_of, with_key}
-use Rattle.lvm_script.specs.declared.command.Command.{Command}
-use Rattle.lvm_script.specs.declared.command.Command.TheVariants as command
-use Rattle.lvm_script.specs.declared.amount.Amount.{Amount}
-use Rattle.lvm_script.specs.declared.amount.Growth.{Growth}
-use Rattle.lvm_script.specs.declared.command.NewVolume.{NewVolume}
-use Rattle.lvm_script.specs.declared.command.Path.{Path}
+use Rattle.image_scans.specs.Versions.{Version}
 use Rattle.volume_history.proofs.Made.{come_both, come_changed, come_kept, come_without, found_key, key_from, none_equal, other_equal, places_changed, plain_at}
 use Rattle.volume_history.proofs.Bits.{and_both, eq_to, itself, lt_false, lt_true}
 use Rattle.volume_history.proofs.Quiet.{value_on, values_length}

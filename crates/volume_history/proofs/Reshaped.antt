@@ -1,13 +1,13 @@
 -- A version that a command makes of another is shown while it is pending, and once it is made, where no place of a volume is
 -- touched and what it creates has one value.
 use Rattle.std.proofs.Common.{◌≡◌, ℕ, ◌+◌, Bool, true, false, if◌then◌else◌, slice_index_or, List, [], ◌∷◌, Option, inl, inr, ⊎_elim, refl, sym, ap, subst, ◌∙◌}
+use Rattle.std.proofs.lemmas.Bool.{true≢false}
+use Rattle.command_table.specs.declared.command.Command.{Command}
 use Rattle.disk_model.specs.CrashValues.{MayLeave}
 use Rattle.disk_model.specs.Steps.{Image}
-use Rattle.image_scans.specs.Versions.{Version}
 use Rattle.line_table.specs.Machine.{PlainState, PlainStep, PlainVolume, plain_after, sector_of, sectors_of}
-use Rattle.lvm_script.specs.declared.command.Command.{Command}
-use Rattle.std.proofs.lemmas.Bool.{true≢false}
 use Rattle.group_ops.proofs.NextVersions.{zeroes}
+use Rattle.image_scans.specs.Versions.{Version}
 use Rattle.volume_history.proofs.CommandKinds.{none_zeroed}
 use Rattle.volume_history.specs.Single.{ZeroesStand}
 use Rattle.volume_history.proofs.Quiet.{OwnSectors, own_sectors, untouched_at, value_on, values_length}

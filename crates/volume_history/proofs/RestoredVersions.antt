@@ -4,10 +4,10 @@ use Rattle.std.proofs.Common.{◌≡◌, ◌≤◌, ◌<◌, ℕ, zero, suc, ◌
 use Rattle.std.specs.Prelude.{◌⊎◌}
 use Rattle.std.specs.Str.{bytes_eq}
 use Rattle.std.proofs.lemmas.Option.{same_Some}
+use Rattle.command_table.specs.declared.command.Command.TheVariants.{Vgcfgrestore}
 use Rattle.disk_model.specs.Steps.{Image}
-use Rattle.image_scans.specs.Versions.{Version}
 use Rattle.line_table.specs.Machine.{PlainState, PlainStep, PlainVolume, Restored, RestoredVolume, key_of, restored_sectors, restored_volume, sectors_of}
-use Rattle.lvm_script.specs.declared.command.Command.TheVariants.{Vgcfgrestore}
+use Rattle.image_scans.specs.Versions.{Version}
 use Rattle.volume_history.proofs.Bits.{and_cases, either, eq_of, eq_to, itself, same_text}
 use Rattle.volume_history.proofs.Made.{none_equal, other_equal}
 use Rattle.volume_history.specs.Candidates.{is_given, is_replaced, no_image, place_at}

@@ -1,13 +1,14 @@
 -- The histories of single lines.
 use Rattle.std.proofs.Common.{◌≡◌, ◌≤◌, ◌<◌, ℕ, ◌+◌, ◌-◌, ◌==◌, ◌&&◌, Bool, true, false, not, if◌then◌else◌, List, [], ◌∷◌, length, take, Option, Some, None, inl, inr, ⊎_elim, refl, sym, ap, subst, ◌∙◌, arith}
 use Rattle.std.proofs.lemmas.Bool.{true≢false}
+use Rattle.line_answers.specs.declared.answer.Answer.{Answer}
+use Rattle.line_answers.specs.declared.answer.Answer.TheVariants as answer
+use Rattle.lvm_script.specs.declared.line.Line.{Line}
 use Rattle.disk_model.specs.CrashValues.{IsImage}
 use Rattle.disk_model.specs.Moments.{at_moment}
 use Rattle.disk_model.specs.Steps.{Image, Step, Told}
-use Rattle.image_scans.specs.Versions.{FindsVersion, Version}
 use Rattle.line_table.specs.Machine.{PlainState, PlainStep, plain_after, sector_of}
-use Rattle.lvm_script.specs.declared.answer.Answer.{Answer}
-use Rattle.lvm_script.specs.declared.line.Line.{Line}
+use Rattle.image_scans.specs.Versions.{FindsVersion, Version}
 use Rattle.volume_history.proofs.Bits.{eq_of}
 use Rattle.volume_history.proofs.CommandKinds.{commit_kind, created_quiet, created_says, quiet_command, undata}
 use Rattle.volume_history.proofs.LegalLines.{answered_faithful, created_faithful, created_ordered, fenced_faithful, fenced_ordered, gives_nothing, given_up_faithful, given_up_ordered, made_faithful, made_ordered, undone_ordered}
@@ -27,7 +28,6 @@ use Rattle.volume_history.specs.Quiet.{AllUntouched}
 use Rattle.volume_history.specs.Replay.{command_step, opening_state, plain_state}
 use Rattle.volume_history.specs.Runs.{zero_piece}
 use Rattle.volume_history.specs.Single.{AllFind, CommitLaw, CreateLaw, DoneLaw, GivenUpLaw, IsStill, MadeLaw, MayEnd, LeavesAll, LeavesDisk, StaysLaw, answered_entries, begun_entries, taken_entries, done_entries, end_of, fenced_entries, given_up_entries, made_entries, is_half_made, none_out, open_entries}
-use Rattle.lvm_script.specs.declared.answer.Answer.TheVariants as answer
 
 -- the run has a history with these entries, where it is legal and each moment is consistent
 tells : (o : Origin) (es : List Entry) → IsStill o → last_moment o.start es ≤ end_of o → AllOrdered o.start es → AllFaithful o es

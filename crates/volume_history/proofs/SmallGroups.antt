@@ -1,11 +1,11 @@
 -- Small groups on one physical volume, and lines about them.
 use Rattle.std.proofs.Common.{ℕ, true, false, List, [], ◌∷◌, None}
-use Rattle.image_scans.specs.Versions.{Version}
-use Rattle.lvm_script.specs.declared.amount.Amount.TheVariants.{Extents}
-use Rattle.lvm_script.specs.declared.amount.Growth.TheVariants.{To}
-use Rattle.lvm_script.specs.declared.command.Command.{Command}
-use Rattle.lvm_script.specs.declared.command.Moving.TheVariants.{GoOn}
-use Rattle.lvm_script.specs.declared.command.Path.{Path}
+use Rattle.command_table.specs.declared.amount.Amount.TheVariants.{Extents}
+use Rattle.command_table.specs.declared.amount.Growth.TheVariants.{To}
+use Rattle.command_table.specs.declared.command.Command.{Command}
+use Rattle.command_table.specs.declared.command.Moving.TheVariants.{GoOn}
+use Rattle.command_table.specs.declared.command.Path.{Path}
+use Rattle.command_table.specs.declared.command.Command.TheVariants as command
 use Rattle.lvm_script.specs.declared.line.Line.{Line}
 use Rattle.meta_model.specs.declared.group.Group.{Group}
 use Rattle.meta_model.specs.declared.lv.Lv.{Lv}
@@ -13,7 +13,7 @@ use Rattle.meta_model.specs.declared.pv.Pv.{Pv}
 use Rattle.meta_model.specs.declared.segment.SegKind.TheVariants.{Striped}
 use Rattle.meta_model.specs.declared.segment.Segment.{Segment}
 use Rattle.meta_model.specs.declared.segment.On.TheVariants as on
-use Rattle.lvm_script.specs.declared.command.Command.TheVariants as command
+use Rattle.image_scans.specs.Versions.{Version}
 
 -- a physical volume of 99 extents from sector 10 on
 abbrev pub one_pv : List ℕ × Pv

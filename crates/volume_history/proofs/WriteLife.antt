@@ -1,13 +1,14 @@
 -- One piece from its write to its answer: written, completed, flushed, taken, answered.
 use Rattle.std.proofs.Common.{◌≡◌, ◌⊎◌, ℕ, ◌==◌, ◌&&◌, Bool, true, false, IsTrue, if◌then◌else◌, List, ◌∷◌, Some, inl, inr, ⊎_elim, refl, sym, ap, subst, ◌∙◌}
+use Rattle.sector_base.specs.Spans.{covers}
+use Rattle.sector_base.specs.declared.places.Piece.{Piece}
+use Rattle.sector_base.specs.declared.spans.Span.{Span}
+use Rattle.line_answers.specs.declared.answer.Answer.TheVariants as answer
+use Rattle.lvm_script.specs.declared.line.Line.{Line}
 use Rattle.disk_model.proofs.Durable.{flush_completes, flush_submitted, new_write, write_completes}
 use Rattle.disk_model.specs.Durability.{OnlyLeavesOrCompleted}
 use Rattle.disk_model.specs.Steps.{Completed, Flushing, Submitted, Writing, step_on, value_at}
 use Rattle.line_table.specs.Machine.{sector_of}
-use Rattle.lvm_script.specs.declared.line.Line.{Line}
-use Rattle.sector_base.specs.Spans.{covers}
-use Rattle.sector_base.specs.declared.places.Piece.{Piece}
-use Rattle.sector_base.specs.declared.spans.Span.{Span}
 use Rattle.volume_history.proofs.Bits.{eq_to}
 use Rattle.volume_history.proofs.Places.{fixed_at_take, place_by_ok}
 use Rattle.volume_history.specs.Candidates.{base, base_from, is_ok, writes_line}
@@ -17,7 +18,6 @@ use Rattle.volume_history.specs.Parts.{PlaceHolds}
 use Rattle.volume_history.specs.Placed.{Place}
 use Rattle.volume_history.specs.Replay.{plain_state}
 use Rattle.volume_history.specs.Sources.{Brings, HoldsFrom}
-use Rattle.lvm_script.specs.declared.answer.Answer.TheVariants as answer
 
 -- the value of the piece, or of another line that isn't settled
 abbrev pub IsOwnOrLater : List Entry → ℕ → ℕ → ℕ → Line → List ℕ → Type 0

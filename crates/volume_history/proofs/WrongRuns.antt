@@ -1,7 +1,10 @@
 -- Two wrong runs are refused: a command that is answered before its header is flushed, and a fill that is.
 use Rattle.std.proofs.Common.{◌≡◌, ◌<◌, ℕ, zero, suc, true, slice_index_or, List, [], ◌∷◌, Contains, Option, Some, None, inl, ⊎_elim, refl, ap, subst, arith}
 use Rattle.std.specs.Hash.{le_bytes}
+use Rattle.line_answers.specs.declared.answer.Answer.TheVariants as answer
 use Rattle.disk_model.specs.Steps.{Submitted, Told, Writing}
+use Rattle.volume_view.specs.InSegments.{leg_spot, met}
+use Rattle.volume_view.specs.Places.{primary}
 use Rattle.image_scans.specs.Versions.{FindsVersion, Version}
 use Rattle.volume_history.proofs.Phases.{finds_with}
 use Rattle.volume_history.proofs.SmallGroups.{filling, making, version_1, version_of, volume_5}
@@ -11,9 +14,6 @@ use Rattle.volume_history.specs.Chronicles.{Answered, Begun, Chronicle, Took, le
 use Rattle.volume_history.specs.Commands.{number_sector}
 use Rattle.volume_history.specs.Placed.{place_of, volumes_of}
 use Rattle.volume_history.specs.Single.{done_entries, none_out}
-use Rattle.volume_view.specs.InSegments.{leg_spot, met}
-use Rattle.volume_view.specs.Places.{primary}
-use Rattle.lvm_script.specs.declared.answer.Answer.TheVariants as answer
 
 -- the answer stands at the moment when the write was submitted
 abbrev early_told : Told

@@ -2,11 +2,11 @@
 use Rattle.std.proofs.Common.{◌≡◌, ◌≤◌, ◌<◌, ℕ, ◌+◌, true, List, [], ◌∷◌, ◌++◌, length, Option, sym, ap, subst, ◌∙◌, arith}
 use Rattle.std.specs.Prelude.{nat_lt, false, Bool, ◌&&◌}
 use Rattle.std.proofs.lemmas.Bool.{ltb-true, true≢false}
+use Rattle.command_table.specs.declared.command.Command.TheVariants.{Lvcreate}
+use Rattle.command_table.specs.declared.command.NewVolume.{NewVolume}
 use Rattle.disk_model.specs.Steps.{Image}
-use Rattle.image_scans.specs.Versions.{Version}
 use Rattle.line_table.specs.Machine.{PlainState, PlainStep, Created, PlainVolume}
-use Rattle.lvm_script.specs.declared.command.Command.TheVariants.{Lvcreate}
-use Rattle.lvm_script.specs.declared.command.NewVolume.{NewVolume}
+use Rattle.image_scans.specs.Versions.{Version}
 use Rattle.volume_history.proofs.Made.{other_equal}
 use Rattle.volume_history.specs.Candidates.{is_born, is_zeroed, place_at}
 use Rattle.volume_history.specs.Changing.{ChangesVolumes}

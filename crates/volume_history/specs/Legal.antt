@@ -3,22 +3,22 @@ use Rattle.std.specs.Prelude.{◌≡◌, ◌≤◌, ◌<◌, ◌⊎◌, ℕ, ◌
 use Rattle.std.specs.List.{range_with_len}
 use Rattle.std.specs.Option.{option_and_then, option_map_or}
 use Rattle.std.specs.Str.{bytes_eq}
+use Rattle.sector_base.specs.declared.places.Piece.{Piece}
+use Rattle.command_table.specs.declared.command.Path.{Path}
+use Rattle.line_answers.specs.declared.answer.Answer.{Answer}
+use Rattle.line_answers.specs.declared.answer.Answer.TheVariants as answer
+use Rattle.lvm_script.specs.declared.line.Line.{Line}
 use Rattle.disk_model.specs.Order.{WritesNothing}
 use Rattle.disk_model.specs.Steps.{Step}
-use Rattle.sector_base.specs.declared.places.Piece.{Piece}
+use Rattle.meta_model.specs.declared.group.Group.{Group}
 use Rattle.extent_alloc.specs.declared.part.Part.{Part}
+use Rattle.line_table.specs.Machine.{PlainState, key_of, list_of, sector_of}
 use Rattle.group_ops.specs.Allocating.{Takes}
 use Rattle.group_ops.specs.Laws.{state_in}
 use Rattle.group_ops.specs.Planning.{IsBackupOf, IsPlanned, asks_of, change_of, refusal_of}
 use Rattle.group_ops.specs.declared.backup.Backup.{Backup}
 use Rattle.group_ops.specs.declared.state.Change.{Change}
 use Rattle.image_scans.specs.Versions.{FindsVersion, Version}
-use Rattle.line_table.specs.Machine.{PlainState, key_of, list_of, sector_of}
-use Rattle.lvm_script.specs.declared.command.Path.{Path}
-use Rattle.lvm_script.specs.declared.answer.Answer.{Answer}
-use Rattle.lvm_script.specs.declared.answer.Answer.TheVariants as answer
-use Rattle.lvm_script.specs.declared.line.Line.{Line}
-use Rattle.meta_model.specs.declared.group.Group.{Group}
 use Rattle.volume_history.specs.Commands.{is_data, is_wait, is_move, is_tended, failed_pv, is_good, is_judged_again, is_refused, may_say, writes, commits, covers_sector, range_of, removes, value_for, volume_named}
 use Rattle.volume_history.specs.Chronicles.{Entry, Begun, Opened, Took, Changed, GivenUp, Failed, Answered, Origin, Chronicle, origin_at, moment_of, now_at, begun_in, count_begun, is_number, is_open, open_among, every, pending, in_force, may_begin, piece_covers, steps_upto, took_at, settled_at, has_took, left_out}
 use Rattle.volume_history.specs.Replay.{plain_state, shown_at}

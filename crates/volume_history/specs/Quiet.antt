@@ -1,11 +1,11 @@
 -- Histories that leave the volumes as they are.
 use Rattle.std.specs.Prelude.{◌≡◌, ℕ, Bool, true, false, List, [], ◌∷◌, Option, Some, None}
+use Rattle.command_table.specs.declared.command.Command.{Command}
+use Rattle.command_table.specs.declared.command.Command.TheVariants.{Vgremove, Vgcfgrestore, Lvcreate, Lvextend, Lvreduce, Lvremove, Lvrename, Read, Fill, Write}
 use Rattle.disk_model.specs.CrashValues.{MayLeave}
 use Rattle.disk_model.specs.Steps.{Image, Told}
-use Rattle.image_scans.specs.Versions.{Version}
 use Rattle.line_table.specs.Machine.{plain_after}
-use Rattle.lvm_script.specs.declared.command.Command.{Command}
-use Rattle.lvm_script.specs.declared.command.Command.TheVariants.{Vgremove, Vgcfgrestore, Lvcreate, Lvextend, Lvreduce, Lvremove, Lvrename, Read, Fill, Write}
+use Rattle.image_scans.specs.Versions.{Version}
 use Rattle.volume_history.specs.Placed.{Place, PlacedVolume, group_name, volumes_of}
 use Rattle.volume_history.specs.Chronicles.{Entry, Begun, Origin, Chronicle, chronicle_at, in_force, now_at, pending}
 use Rattle.volume_history.specs.Replay.{plain_state}

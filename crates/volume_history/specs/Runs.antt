@@ -1,12 +1,12 @@
 -- What a run tells of its history: the promise to the administrator.
 use Rattle.std.specs.Prelude.{◌≡◌, ◌≤◌, ℕ, false, List, [], ◌∷◌, ◌++◌, length, Option, option_map, unwrap_or}
 use Rattle.sector_base.specs.declared.places.Piece.{Piece}
+use Rattle.command_table.specs.Options.{Word}
+use Rattle.line_answers.specs.declared.answer.Answer.{Answer}
+use Rattle.lvm_script.specs.declared.line.Line.{Line}
 use Rattle.disk_model.specs.Steps.{Told}
 use Rattle.line_table.specs.declared.journal.EntryKind.TheVariants as kind
 use Rattle.line_table.specs.declared.journal.JournalEntry.{JournalEntry}
-use Rattle.lvm_script.specs.Options.{Word}
-use Rattle.lvm_script.specs.declared.answer.Answer.{Answer}
-use Rattle.lvm_script.specs.declared.line.Line.{Line}
 use Rattle.volume_history.specs.Chronicles.{Entry, Begun, Opened, Took, Changed, GivenUp, Failed, Answered, Chronicle, answer_in}
 use Rattle.volume_history.specs.Legal.{IsLegalHistory}
 use Rattle.volume_history.specs.Candidates.{IsConsistentMoment}

@@ -1,16 +1,16 @@
 -- The histories of a single command, by how it ends.
 use Rattle.std.specs.Prelude.{◌≡◌, ◌≤◌, ◌<◌, ◌⊎◌, ℕ, ◌-◌, ◌==◌, ◌&&◌, Bool, true, false, List, [], ◌∷◌, length, take, Option, Some, None}
+use Rattle.command_table.specs.declared.command.Command.{Command}
+use Rattle.line_answers.specs.declared.answer.Answer.{Answer}
+use Rattle.line_answers.specs.declared.answer.Answer.TheVariants as answer
+use Rattle.lvm_script.specs.declared.line.Line.{Line}
 use Rattle.disk_model.specs.CrashValues.{IsImage}
 use Rattle.disk_model.specs.Moments.{at_moment}
 use Rattle.disk_model.specs.Order.{WritesNothing}
 use Rattle.disk_model.specs.Steps.{Image, Told}
-use Rattle.image_scans.specs.Versions.{FindsVersion, Version}
-use Rattle.lvm_script.specs.declared.answer.Answer.{Answer}
-use Rattle.lvm_script.specs.declared.answer.Answer.TheVariants as answer
-use Rattle.lvm_script.specs.declared.command.Command.{Command}
-use Rattle.lvm_script.specs.declared.line.Line.{Line}
-use Rattle.volume_history.specs.Placed.{volumes_of}
 use Rattle.line_table.specs.Machine.{plain_after}
+use Rattle.image_scans.specs.Versions.{FindsVersion, Version}
+use Rattle.volume_history.specs.Placed.{volumes_of}
 use Rattle.volume_history.specs.Commands.{commits, created_disk, is_created_at, removes}
 use Rattle.volume_history.specs.Chronicles.{Entry, Begun, Opened, Took, Changed, GivenUp, Answered, Origin, has_written, now_at, origin_at, steps_upto}
 use Rattle.volume_history.specs.Legal.{FindsNow, Makes}

@@ -1,6 +1,6 @@
 //! Streams that fail, and those of the process, through their bounds.
 use super::{StdSink, StdSource};
-use lvm_script::{Failed, Sink, Source, write_bytes};
+use byte_streams::{Failed, Sink, Source, write_bytes};
 use std::cell::Cell;
 use std::fmt::Display;
 use std::io;

@@ -2,7 +2,7 @@ use Rattle.std.proofs.Common.{◌≡◌, List, Some, length, sym, ap, subst, ◌
 use Rattle.std.proofs.lemmas.List.{length-map}
 use Rattle.std.specs.declared.string.String.{String}
 use Rattle.std.specs.Vec.{vec_len}
-use Rattle.lvm_script.specs.Options.{Word, words_of}
+use Rattle.command_table.specs.Options.{Word, words_of}
 use Rattle.lvm_words.specs.Disks.{disks_named}
 use Rattle.lvm_cli.proofs.OpenedDisks.{opened_disks_as}
 use Rattle.lvm_cli.proofs.main.Goals as goal

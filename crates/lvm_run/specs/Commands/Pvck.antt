@@ -1,12 +1,12 @@
 -- pvck(8) of one disk: its report.
 use Rattle.std.specs.Prelude.{◌≡◌, List, [], ◌∷◌, None}
-use Rattle.pv_header.specs.declared.extent_list.Extent.{Extent}
+use Rattle.command_table.specs.Commands.{changes}
+use Rattle.command_table.specs.Options.{Word}
+use Rattle.command_table.specs.declared.command.Command.TheVariants as command
 use Rattle.pv_label.specs.LabelSectors.{label_span}
+use Rattle.pv_header.specs.declared.extent_list.Extent.{Extent}
 use Rattle.disk_contents.specs.Reads.{AreAreasOf, area_spans}
 use Rattle.lvm_report.specs.Report.{IsReport}
-use Rattle.lvm_script.specs.Lines.{changes}
-use Rattle.lvm_script.specs.Options.{Word}
-use Rattle.lvm_script.specs.declared.command.Command.TheVariants as command
 use Rattle.lvm_run.specs.CommandSpec.{CommandSpec, AtNothing, Finds, number_in, size_in, unknown_pv, no_inputs}
 
 -- it reads the sectors where the label may be, and then the header sector of each metadata area

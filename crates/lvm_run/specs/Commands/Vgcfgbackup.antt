@@ -2,16 +2,16 @@
 use Rattle.std.specs.Prelude.{◌≡◌, false, nat_eq, if◌then◌else◌, [], Option, Some, None}
 use Rattle.std.specs.Option.{option_map_or}
 use Rattle.std.specs.Cmp.Lexicographic.{pointwise}
+use Rattle.command_table.specs.Commands.{changes}
+use Rattle.command_table.specs.Options.{Word}
+use Rattle.command_table.specs.declared.command.Command.TheVariants as command
+use Rattle.line_answers.specs.declared.op_refusal.OpRefusal.{OpRefusal}
+use Rattle.line_answers.specs.declared.op_refusal.OpRefusal.TheVariants.{UnknownGroup}
 use Rattle.conf_text.specs.Printed.{printed}
 use Rattle.meta_model.specs.Standing.{HasTree}
 use Rattle.meta_model.specs.declared.group.Group.{Group}
 use Rattle.meta_print.specs.Layout.{backup_of}
 use Rattle.vg_scan.specs.Scans.{AreFewReads}
-use Rattle.lvm_script.specs.Lines.{changes}
-use Rattle.lvm_script.specs.Options.{Word}
-use Rattle.lvm_script.specs.declared.command.Command.TheVariants as command
-use Rattle.lvm_script.specs.declared.op_refusal.OpRefusal.{OpRefusal}
-use Rattle.lvm_script.specs.declared.op_refusal.OpRefusal.TheVariants.{UnknownGroup}
 use Rattle.lvm_run.specs.CommandSpec.{CommandSpec, AtDisks, group_in, no_inputs}
 use Rattle.lvm_run.specs.Scan.{FindsWhole}
 

@@ -8,8 +8,8 @@ use crate::ending::Ending;
 use crate::outcome::Outcome;
 use disk_contents::ReadRefusal;
 use disk_model::Shelf;
+use line_answers::{Answer, DiskNames, OpRefusal};
 use lvm_report::pvck;
-use lvm_script::{Answer, DiskNames, OpRefusal};
 use sector_base::Text;
 use std::alloc::Global;
 

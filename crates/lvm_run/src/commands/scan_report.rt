@@ -8,9 +8,10 @@ ghost use Rattle.lvm_run.specs.ScanReport.{IsReported, scan_report, text_of};
 
 use crate::outcome::Outcome;
 use crate::scanned::scan_ending;
+use command_table::Command;
 use disk_model::Shelf;
+use line_answers::{Answer, DiskNames};
 use lvm_report::{lvs, pvs, vgck, vgs};
-use lvm_script::{Answer, Command, DiskNames};
 use sector_base::Text;
 use std::alloc::{AllocError, Global};
 use vg_found::Found;

@@ -9,7 +9,7 @@ ghost use Rattle.lvm_run.specs.Meets.{Meets};
 use crate::outcome::Outcome;
 use crate::scanned::{partial_ending, scan_ending};
 use disk_model::Shelf;
-use lvm_script::{Answer, DiskNames, OpRefusal};
+use line_answers::{Answer, DiskNames, OpRefusal};
 use meta_model::Group;
 use meta_print::backup_text;
 use sector_base::Text;

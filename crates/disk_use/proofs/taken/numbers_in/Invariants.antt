@@ -1,6 +1,6 @@
 -- What the words so far give, and what the others will.
 use Rattle.std.proofs.Common.{◌≡◌, ◌<◌, length, All, filter_map, drop, ◌++◌}
-use Rattle.lvm_script.specs.Options.{number_named}
+use Rattle.command_table.specs.Options.{number_named}
 use Rattle.disk_use.proofs.taken.numbers_in.Given as goal
 
 abbrev pub invariant-loop-word : goal.invariant-loop-word

@@ -1,8 +1,8 @@
 use Rattle.std.proofs.Common.{List, [], ◌∷◌, Option, Some, sym, subst}
 use Rattle.std.specs.Option.{option_and_then, option_map_or}
-use Rattle.extent_alloc.specs.declared.part.Part.{Part}
-use Rattle.lvm_script.specs.declared.op_refusal.OpRefusal.TheVariants.{UnknownGroup}
+use Rattle.line_answers.specs.declared.op_refusal.OpRefusal.TheVariants.{UnknownGroup}
 use Rattle.meta_model.specs.declared.group.Group.{Group}
+use Rattle.extent_alloc.specs.declared.part.Part.{Part}
 use Rattle.group_edits.specs.LongerVolume.{longer_volume}
 use Rattle.group_ops.specs.Committing.{no_change, version_change}
 use Rattle.group_ops.specs.Lvextend.{extend_asks, extend_in_rows}

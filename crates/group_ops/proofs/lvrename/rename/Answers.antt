@@ -1,5 +1,5 @@
 use Rattle.std.proofs.Common.{◌≡◌, ℕ, [], ◌∷◌, Some, None, option_map, ap, subst, ◌∙◌}
-use Rattle.lvm_script.specs.declared.op_refusal.OpRefusal.TheVariants.{UnknownVolume}
+use Rattle.line_answers.specs.declared.op_refusal.OpRefusal.TheVariants.{UnknownVolume}
 use Rattle.meta_model.specs.declared.group.Group.{Group}
 use Rattle.meta_model.specs.declared.lv.Lv.{Lv}
 use Rattle.volume_rules.specs.declared.rule.Rule.TheVariants.{Volumes}

@@ -1,6 +1,6 @@
 use Rattle.std.proofs.Common.{ℕ, List, [], None, refl, sym, subst}
-use Rattle.lvm_script.specs.declared.command.Command.{Command}
-use Rattle.lvm_script.specs.declared.command.Command.TheVariants.{Lvreduce, Lvremove, Lvrename, Vgcfgrestore, Vgextend, Vgrename, Vgreduce}
+use Rattle.command_table.specs.declared.command.Command.{Command}
+use Rattle.command_table.specs.declared.command.Command.TheVariants.{Lvreduce, Lvremove, Lvrename, Vgcfgrestore, Vgextend, Vgrename, Vgreduce}
 use Rattle.lvm_script.specs.declared.line.Line.{Line}
 use Rattle.group_ops.proofs.NextVersions.{no_zero}
 use Rattle.group_ops.proofs.NoZeros.{extend_none, extends_without_zeros, restore_none, without_zeros, leave_none}

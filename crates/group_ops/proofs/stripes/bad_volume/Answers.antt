@@ -1,5 +1,5 @@
 use Rattle.std.proofs.Common.{◌≤◌, ℕ, List, Option, length, ap, ◌∙◌, arith}
-use Rattle.lvm_script.specs.declared.op_refusal.OpRefusal.{OpRefusal}
+use Rattle.line_answers.specs.declared.op_refusal.OpRefusal.{OpRefusal}
 use Rattle.meta_model.specs.declared.lv.Lv.{Lv}
 use Rattle.group_ops.specs.Stripes.{segments_row, stripes_row}
 use Rattle.group_ops.proofs.RowWalks.{row_here, row_past, rows_past}

@@ -1,5 +1,5 @@
 use Rattle.std.proofs.Common.{[], ◌∷◌, Some}
-use Rattle.lvm_script.specs.declared.op_refusal.OpRefusal.TheVariants.{BadRule}
+use Rattle.line_answers.specs.declared.op_refusal.OpRefusal.TheVariants.{BadRule}
 use Rattle.volume_rules.specs.Rules.{number_of}
 use Rattle.group_ops.proofs.Chained.{refused_front}
 use Rattle.group_ops.specs.Vgcfgrestore.{both_rows}

@@ -1,6 +1,6 @@
 use Rattle.std.proofs.Common.{true, false, codes}
 use Rattle.std.proofs.lemmas.Result.{err_from_is_err_and}
-use Rattle.lvm_script.proofs.TextsWritten.{failed_before, written_both}
+use Rattle.byte_streams.proofs.TextsWritten.{failed_before, written_both}
 use Rattle.lvm_report.proofs.answers.write_answered.Goals as goal
 
 pub returns-in_err-write_bytes : goal.returns-in_err-write_bytes

@@ -1,8 +1,8 @@
 use Rattle.std.proofs.Common.{◌≡◌, ◌<◌, List, ℕ, Option, get_or, length, subst}
 use Rattle.std.specs.Prelude.{[]}
 use Rattle.std.proofs.lemmas.Result.{err_from_is_err_and}
-use Rattle.lvm_script.proofs.ItemsWritten.{stopped_at}
-use Rattle.lvm_script.specs.declared.answer.Answer.{Answer}
+use Rattle.byte_streams.proofs.ItemsWritten.{stopped_at}
+use Rattle.line_answers.specs.declared.answer.Answer.{Answer}
 use Rattle.lvm_report.specs.AnswerLines.{answer_line}
 use Rattle.lvm_report.proofs.answers.write_answers.Goals as goal
 

@@ -1,7 +1,7 @@
 -- The lines of so many are written, without a fault.
 use Rattle.std.proofs.Common.{true, take}
 use Rattle.std.specs.Prelude.{flat_map}
-use Rattle.lvm_script.specs.Streams.{WritesText}
+use Rattle.byte_streams.specs.Streams.{WritesText}
 use Rattle.lvm_report.specs.AnswerLines.{answer_line}
 use Rattle.lvm_report.proofs.answers.write_answers.Given as goal
 

@@ -5,10 +5,10 @@ use Rattle.std.proofs.Math.Path.{fun_ext}
 use Rattle.std.specs.FinSet as set
 use Rattle.std.specs.List.{flat_map, list_any}
 use Rattle.lvm_id.specs.LvmId.{hyphen_form}
-use Rattle.lvm_script.specs.Options.{Word}
+use Rattle.command_table.specs.Options.{Word}
 use Rattle.vg_found.specs.declared.found.Found.{Found}
-use Rattle.lvm_report.specs.Reports.{disk_lines}
 use Rattle.vg_found.specs.StaleAreas.{is_on}
+use Rattle.lvm_report.specs.Reports.{disk_lines}
 use Rattle.lvm_report.proofs.OneLine.{last_put, part}
 use Rattle.lvm_report.proofs.vgck_lines.put_faults.Goals as goal
 

@@ -1,8 +1,8 @@
 use Rattle.std.proofs.Common.{◌≡◌, ℕ, List, Some, length, sym, subst}
 use Rattle.std.specs.declared.string.String.{String}
-use Rattle.dev_shelf.specs.MemShelf.{state_of_shelf}
-use Rattle.lvm_script.specs.Options.{words_of}
+use Rattle.command_table.specs.Options.{words_of}
 use Rattle.lvm_words.specs.Disks.{disks_named}
+use Rattle.dev_shelf.specs.MemShelf.{state_of_shelf}
 use Rattle.lvm_run.specs.Disks.{AreDisks}
 use Rattle.lvm_rows.proofs.NewDisks.{new_disks}
 use Rattle.lvm_rows.proofs.run.shelf_for.Goals as goal

@@ -2,7 +2,7 @@ use Rattle.std.proofs.Common.{◌≡◌, List, [], ◌∷◌, refl, ap, ◌∙�
 use Rattle.std.specs.List.{AllZip}
 use Rattle.std.specs.String.{string_bytes}
 use Rattle.std.specs.declared.string.String.{String}
-use Rattle.lvm_script.specs.Options.{Word, words_of}
+use Rattle.command_table.specs.Options.{Word, words_of}
 use Rattle.lvm_run.proofs.changing.state_of.Goals as goal
 
 -- texts with the same bytes, one by one

@@ -1,4 +1,4 @@
-use Rattle.lvm_script.specs.Options.{words_of}
+use Rattle.command_table.specs.Options.{words_of}
 use Rattle.lvm_run.proofs.LookedFirst.{asked_cause}
 use Rattle.lvm_run.proofs.guarded.find_asked.Goals as goal
 

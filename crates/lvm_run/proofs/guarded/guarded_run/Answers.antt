@@ -1,6 +1,6 @@
 use Rattle.std.proofs.Common.{List, subst}
 use Rattle.std.specs.declared.string.String.{String}
-use Rattle.lvm_script.specs.Options.{words_of}
+use Rattle.command_table.specs.Options.{words_of}
 use Rattle.lvm_run.specs.Guarded.{AreFree}
 use Rattle.lvm_run.proofs.LookedFirst.{left_free, left_looked_at, none_found}
 use Rattle.lvm_run.proofs.guarded.guarded_run.Goals as goal

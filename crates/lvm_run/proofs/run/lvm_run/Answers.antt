@@ -1,15 +1,15 @@
 use Rattle.std.proofs.Common.{◌≡◌, ℕ, List, Option, sym, ap, subst, ◌∙◌}
 use Rattle.std.specs.declared.string.String.{String}
-use Rattle.lvm_script.specs.Options.{Word, words_of}
-use Rattle.lvm_script.specs.Streams.{WritesText}
-use Rattle.lvm_run.specs.declared.outcome.Outcome.{Outcome}
+use Rattle.byte_streams.specs.Streams.{WritesText}
+use Rattle.command_table.specs.Options.{Word, words_of}
+use Rattle.line_answers.specs.declared.answer.Answer.{Answer}
 use Rattle.line_table.specs.declared.journal.JournalEntry.{JournalEntry}
+use Rattle.lvm_report.specs.AnswerLines.{answers_text}
+use Rattle.lvm_run.specs.declared.outcome.Outcome.{Outcome}
 use Rattle.lvm_run.specs.History.{IsEntered, journal_by, lines_of_words}
 use Rattle.lvm_run.specs.Outcomes.{Ends, output_of}
 use Rattle.lvm_run.specs.Runs.{RunsWords, names_of}
 use Rattle.lvm_run.specs.Sourced.{source}
-use Rattle.lvm_report.specs.AnswerLines.{answers_text}
-use Rattle.lvm_script.specs.declared.answer.Answer.{Answer}
 use Rattle.lvm_run.proofs.AskedLines.{entered_answers, printed_answers, words_first}
 use Rattle.lvm_run.proofs.run.lvm_run.Goals as goal
 

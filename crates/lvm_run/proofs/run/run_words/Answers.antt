@@ -1,5 +1,5 @@
 use Rattle.std.proofs.Common.{refl}
-use Rattle.lvm_script.specs.Options.{words_of}
+use Rattle.command_table.specs.Options.{words_of}
 use Rattle.lvm_run.specs.Sourced.{source}
 use Rattle.lvm_run.proofs.AskedTasks.{wanting}
 use Rattle.lvm_run.proofs.Promised.{told_of}

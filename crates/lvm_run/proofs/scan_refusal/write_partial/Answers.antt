@@ -1,6 +1,6 @@
 use Rattle.std.proofs.Common.{codes}
 use Rattle.std.proofs.lemmas.Result.{err_from_is_err_and}
-use Rattle.lvm_script.proofs.TextsWritten.{failed_before}
+use Rattle.byte_streams.proofs.TextsWritten.{failed_before}
 use Rattle.lvm_run.specs.Endings.{id_values}
 use Rattle.lvm_run.proofs.ValuesWritten.{stopped_at}
 use Rattle.lvm_run.proofs.scan_refusal.write_partial.Goals as goal

@@ -2,7 +2,7 @@
 use Rattle.std.proofs.Common.{true, take, codes}
 use Rattle.std.specs.List.{flat_map}
 use Rattle.sector_base.specs.Shown.{shown_text}
-use Rattle.lvm_script.specs.Streams.{WritesText}
+use Rattle.byte_streams.specs.Streams.{WritesText}
 use Rattle.lvm_run.specs.Endings.{id_values}
 use Rattle.lvm_run.proofs.scan_refusal.write_partial.Given as goal
 

@@ -1,6 +1,6 @@
 use Rattle.std.proofs.Common.{ℕ, List, [], ◌∷◌, ap, ap₂, codes, is_ok, subst}
 use Rattle.sector_base.specs.Shown.{Value, shown_text}
-use Rattle.lvm_script.specs.Streams.{WritesText}
+use Rattle.byte_streams.specs.Streams.{WritesText}
 use Rattle.lvm_run.proofs.scan_refusal.write_refusal.Goals as goal
 
 pub returns-in-DuplicatePv : goal.returns-in-DuplicatePv

@@ -1,7 +1,7 @@
 use Rattle.std.proofs.Common.{◌≡◌, ◌∙◌, ◌≤◌, ◌+◌, [], ◌∷◌, length, map, None, Ok, ap, sym, subst, eqb-true}
 use Rattle.std.proofs.lemmas.List.{map-append, nil_from_length}
 use Rattle.std.specs.Prelude.{IfSome, option_map}
-use Rattle.lvm_script.specs.Lines.{sectors_of}
+use Rattle.command_table.specs.Commands.{sectors_of}
 use Rattle.lvm_script.specs.Script.{numbered}
 use Rattle.lvm_script.proofs.ScriptLines.{ReadSoFar, at_end, passed, refused, taken}
 use Rattle.lvm_script.proofs.script.lines_without_ids.Goals as goal

@@ -1,5 +1,5 @@
 use Rattle.std.proofs.Common.{◌∙◌, sym}
-use Rattle.lvm_script.specs.Words.{placed}
+use Rattle.command_table.specs.Words.{placed}
 use Rattle.lvm_script.proofs.Refused.{refused_words}
 use Rattle.lvm_script.proofs.script.script_command.Goals as goal
 

@@ -1,6 +1,6 @@
 use Rattle.std.proofs.Common.{◌≡◌, ◌∙◌, subst, length, eq-eqb, arith}
 use Rattle.std.proofs.lemmas.Bool.{ne_eqb}
-use Rattle.lvm_script.specs.Words.{placed}
+use Rattle.command_table.specs.Words.{placed}
 use Rattle.lvm_script.proofs.LineWords.{Named, goes_on, line_end, space}
 use Rattle.lvm_script.proofs.script.words_in.Goals as goal
 use Rattle.lvm_script.proofs.script.words_in.Goals.{then-line-at-eq32+in_ok-push_word, else-line-at-eq32}

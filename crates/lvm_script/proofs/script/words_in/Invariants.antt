@@ -1,4 +1,4 @@
-use Rattle.lvm_script.specs.Words.{placed}
+use Rattle.command_table.specs.Words.{placed}
 use Rattle.lvm_script.proofs.LineWords.{Named}
 use Rattle.lvm_script.proofs.script.words_in.Given as goal
 

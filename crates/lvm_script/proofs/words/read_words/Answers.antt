@@ -1,7 +1,7 @@
 use Rattle.std.proofs.Common.{◌+◌, ◌∙◌, ap, ap₂, take, arith}
-use Rattle.lvm_script.specs.Options.{words_of}
-use Rattle.lvm_script.specs.Words.{after_word, numbered_from, read}
-use Rattle.lvm_script.proofs.Numbered.{read_more}
+use Rattle.command_table.specs.Options.{words_of}
+use Rattle.command_table.specs.Words.{after_word, numbered_from, read}
+use Rattle.command_table.proofs.Numbered.{read_more}
 use Rattle.lvm_script.proofs.words.read_words.Goals as goal
 
 pub loop-word-preserved : goal.loop-word-preserved

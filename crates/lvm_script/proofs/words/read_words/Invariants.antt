@@ -1,6 +1,6 @@
 use Rattle.std.proofs.Common.{◌≡◌, ◌+◌, take}
-use Rattle.lvm_script.specs.Options.{words_of}
-use Rattle.lvm_script.specs.Words.{numbered_from, read, read_by}
+use Rattle.command_table.specs.Options.{words_of}
+use Rattle.command_table.specs.Words.{numbered_from, read, read_by}
 use Rattle.lvm_script.proofs.words.read_words.Given as goal
 
 abbrev pub invariant-loop-word : goal.invariant-loop-word

@@ -1,6 +1,6 @@
 use Rattle.std.proofs.Common.{◌+◌, ◌∙◌, ap, length, sym}
-use Rattle.lvm_script.specs.Meaning.{at_place, request_read}
-use Rattle.lvm_script.specs.Options.{words_of}
+use Rattle.command_table.specs.Meaning.{at_place, request_read}
+use Rattle.command_table.specs.Options.{words_of}
 use Rattle.lvm_script.proofs.words.request_named.Goals as goal
 
 pub returns-in-Ok : goal.returns-in-Ok

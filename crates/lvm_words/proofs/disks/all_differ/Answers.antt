@@ -1,6 +1,6 @@
 -- The next name is one of those behind it, or it isn't.
 use Rattle.std.proofs.Common.{◌≡◌, ◌-◌, ◌∷◌, true, List, ℕ, drop, ap, sym, subst, ◌∙◌, arith}
-use Rattle.lvm_script.specs.Options.{Word, words_of}
+use Rattle.command_table.specs.Options.{Word, words_of}
 use Rattle.lvm_words.specs.Disks.{all_differ}
 use Rattle.lvm_words.proofs.Differing.{DifferIn, from_before, none_differ, one_differs, one_repeats, stands_twice}
 use Rattle.lvm_words.proofs.disks.all_differ.Goals as goal

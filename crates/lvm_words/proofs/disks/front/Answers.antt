@@ -3,8 +3,8 @@ use Rattle.std.proofs.Common.{◌≡◌, ◌++◌, [], ◌∷◌, List, ℕ, ◌
 use Rattle.std.proofs.lemmas.List.{map-append, take_rest}
 use Rattle.std.specs.Prelude.{option_map}
 use Rattle.std.specs.String.{string_bytes}
-use Rattle.lvm_script.specs.Options.{Word, words_of}
-use Rattle.lvm_script.specs.Values.{is_disk_name}
+use Rattle.command_table.specs.Options.{Word, words_of}
+use Rattle.command_table.specs.Values.{is_disk_name}
 use Rattle.lvm_words.specs.Disks.{front_of}
 use Rattle.lvm_words.proofs.Fronts.{after_names, ends_at, ends_past, ends_with, lacks_name_at, misnamed_at, names_more, pair_at}
 use Rattle.lvm_words.proofs.disks.front.Goals as goal

@@ -1,7 +1,7 @@
 -- The names so far stand before those of the words that are left.
 use Rattle.std.proofs.Common.{◌≡◌, ◌≤◌, ◌-◌, length, drop}
 use Rattle.std.specs.Prelude.{option_map}
-use Rattle.lvm_script.specs.Options.{words_of}
+use Rattle.command_table.specs.Options.{words_of}
 use Rattle.lvm_words.specs.Disks.{front_of}
 use Rattle.lvm_words.proofs.Fronts.{after_names}
 use Rattle.lvm_words.proofs.disks.front.Given as goal

@@ -1,5 +1,5 @@
 use Rattle.std.proofs.Common.{◌≡◌, [], drop}
-use Rattle.lvm_script.specs.Options.{words_of}
+use Rattle.command_table.specs.Options.{words_of}
 use Rattle.lvm_words.proofs.Strays.{fine_from}
 use Rattle.lvm_words.proofs.parser.only_options.Given as goal
 

@@ -1,4 +1,4 @@
-use Rattle.lvm_script.specs.Options.{words_of}
+use Rattle.command_table.specs.Options.{words_of}
 use Rattle.lvm_words.proofs.Link.{parsed}
 use Rattle.lvm_words.proofs.Outcome.{complete_on_ok, lacks_on_err, lists_on_ok}
 use Rattle.lvm_words.proofs.parser.parse.Goals as goal

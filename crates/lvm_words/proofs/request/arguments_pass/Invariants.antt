@@ -1,5 +1,5 @@
 use Rattle.std.proofs.Common.{◌≡◌, drop}
-use Rattle.lvm_script.specs.Options.{words_in}
+use Rattle.command_table.specs.Options.{words_in}
 use Rattle.lvm_words.specs.Parser.{arguments_pass}
 use Rattle.lvm_words.proofs.request.arguments_pass.Given as goal
 

@@ -1,6 +1,6 @@
 use Rattle.std.proofs.Common.{◌≡◌, take}
 use Rattle.clap.specs.Walk.{texts}
-use Rattle.lvm_script.specs.Options.{words_in}
+use Rattle.command_table.specs.Options.{words_in}
 use Rattle.lvm_words.proofs.request.bytes_of.Given as goal
 
 abbrev pub invariant-loop-word : goal.invariant-loop-word

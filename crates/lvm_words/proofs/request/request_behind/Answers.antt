@@ -1,6 +1,6 @@
 use Rattle.std.proofs.Common.{◌∙◌, sym}
 use Rattle.std.proofs.lemmas.Result.{IfOk-weaker}
-use Rattle.lvm_script.specs.Options.{words_of}
+use Rattle.command_table.specs.Options.{words_of}
 use Rattle.lvm_words.proofs.Requests.{named_words}
 use Rattle.lvm_words.proofs.request.request_behind.Goals as goal
 

@@ -3,8 +3,8 @@ use Rattle.std.proofs.lemmas.Result.{IfOk-weaker}
 use Rattle.std.specs.List.{list_all}
 use Rattle.clap.specs.Matches.{found_of}
 use Rattle.clap.specs.Walk.{rows_of}
-use Rattle.lvm_script.specs.Options.{words_in}
-use Rattle.lvm_script.specs.Table.{options_of}
+use Rattle.command_table.specs.Options.{words_in}
+use Rattle.command_table.specs.Table.{options_of}
 use Rattle.lvm_words.specs.Parser.{arguments_pass, pairs_of, values_pass}
 use Rattle.lvm_words.proofs.Requests.{request_alike}
 use Rattle.lvm_words.proofs.request.request_in.Goals as goal

@@ -4,9 +4,9 @@ use Rattle.clap.specs.Matches.{found_of}
 use Rattle.clap.specs.Values.{kind_of}
 use Rattle.clap.specs.Walk.{rows_of}
 use Rattle.clap.specs.declared.error.kind.ErrorKind.TheVariants as kind
-use Rattle.lvm_script.specs.Options.{words_of}
-use Rattle.lvm_script.specs.Table.{options_of}
-use Rattle.lvm_script.specs.Words.{is_complete, nothing_split}
+use Rattle.command_table.specs.Options.{words_of}
+use Rattle.command_table.specs.Table.{options_of}
+use Rattle.command_table.specs.Words.{is_complete, nothing_split}
 use Rattle.lvm_words.specs.Parser.{Lists, no_stray, split_of}
 use Rattle.lvm_words.proofs.Requests.{matches_ask, open_means_nothing, strays_mean_nothing}
 use Rattle.lvm_words.proofs.request.request_parsed.Goals as goal

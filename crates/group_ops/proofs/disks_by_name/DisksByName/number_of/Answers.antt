@@ -1,6 +1,6 @@
 use Rattle.std.proofs.Common.{◌<◌, ℕ, Option, length, subst, sym, ap, ◌∙◌}
 use Rattle.std.specs.Prelude.{IfSome}
-use Rattle.lvm_script.specs.Options.{number_named}
+use Rattle.command_table.specs.Options.{number_named}
 use Rattle.group_ops.proofs.ByNames.{number_named-below}
 use Rattle.group_ops.proofs.disks_by_name.DisksByName.number_of.Goals as goal
 

@@ -1,7 +1,7 @@
 use Rattle.std.proofs.Common.{ap, refl, sym, true, subst, ◌∙◌}
+use Rattle.command_table.specs.Options.{number_named}
 use Rattle.disk_contents.specs.Causes.{IsReadCause}
 use Rattle.disk_contents.specs.declared.read_refusal.ReadRefusal.TheVariants.{NoMemory, ReadFailed}
-use Rattle.lvm_script.specs.Options.{number_named}
 use Rattle.lvm_run.proofs.Checking.{meets_read_failed, meets_reported, meets_unknown, meets_without_memory}
 use Rattle.lvm_run.proofs.commands.pvck.run_pvck.Goals as goal
 

@@ -1,0 +1,6 @@
+pub mod Commands
+pub mod Meaning
+pub mod Options
+pub mod Table
+pub mod Values
+pub mod Words

@@ -1,0 +1,349 @@
+//! A function for each command: from its options and arguments to what it means.
+ghost use Rattle.std.specs.Prelude.{◌≡◌, [], IfOk, option_map};
+ghost use Rattle.command_table.specs.declared.command.Command.TheVariants.{Pvck, Vgremove, Vgcfgbackup, Vgcfgrestore, Lvremove, Resync};
+ghost use Rattle.command_table.specs.Meaning.{alone, amount_of, fill_words, given_by, goes_together, lvcreate, lvextend, lvreduce, lvrename, new_volume, number_or, one_path, one_word, path_in, pvcreate, pvmove, read_words, vgcreate, vgextend, vgreduce, vgrename, write_words};
+ghost use Rattle.command_table.specs.Options.{words_in};
+
+use crate::given::Given;
+use crate::values::{halves, number_of};
+use crate::{Command, Moving, Names, NewVolume, OptionKey, Path};
+use sector_base::{ItemList, Text};
+use std::alloc::{AllocError, Global};
+
+/// What a function here answers: the command, or that the words are too few, too many or don't go together.
+type Meant = Result<Option<Command>, AllocError>;
+
+pub fn pvcreate(alloc: Global, given: &Given, arguments: &[&[u8]]) -> Meant
+    ensures { IfOk result (λ command. command ≡ pvcreate (given_by given.now) (words_in arguments.now)) }
+{
+    match arguments {
+        [pv] => Ok(Some(Command::Pvcreate {
+            pv: text_of(alloc, pv)?,
+            metadata_copies: given.number(OptionKey::MetadataCopies).unwrap_or(1),
+        })),
+        _ => Ok(None),
+    }
+}
+
+pub fn pvmove(alloc: Global, given: &Given, arguments: &[&[u8]]) -> Meant
+    ensures { IfOk result (λ command. command ≡ pvmove (given_by given.now) (words_in arguments.now)) }
+{
+    let aborts = given.value(OptionKey::Abort).is_some();
+    match arguments {
+        [] if aborts => Ok(Some(Command::Pvmove(Moving::Abort))),
+        [] => Ok(Some(Command::Pvmove(Moving::GoOn))),
+        [pv, onto @ ..] if !aborts => Ok(Some(Command::Pvmove(Moving::From {
+            pv: text_of(alloc, pv)?,
+            onto: names_of(alloc, onto)?,
+        }))),
+        _ => Ok(None),
+    }
+}
+
+pub fn vgcreate(alloc: Global, given: &Given, arguments: &[&[u8]]) -> Meant
+    ensures { IfOk result (λ command. command ≡ vgcreate (given_by given.now) (words_in arguments.now)) }
+{
+    match arguments {
+        [vg, pvs @ ..] if !pvs.is_empty() => Ok(Some(Command::Vgcreate {
+            vg: text_of(alloc, vg)?,
+            extent_size: given
+                .size(OptionKey::PhysicalExtentSize, 2_048)
+                .unwrap_or(8_192),
+            pvs: names_of(alloc, pvs)?,
+        })),
+        _ => Ok(None),
+    }
+}
+
+pub fn lvcreate(alloc: Global, given: &Given, arguments: &[&[u8]]) -> Meant
+    ensures { IfOk result (λ command. command ≡ lvcreate (given_by given.now) (words_in arguments.now)) }
+{
+    match arguments {
+        [vg, pvs @ ..] if goes_together(given) => new_volume(alloc, given, vg, pvs),
+        _ => Ok(None),
+    }
+}
+
+// Whether the options of lvcreate go together: `-m` excludes `-i`, and `-I` needs an `-i` above 1.
+fn goes_together(given: &Given) -> bool
+    ensures { result ≡ goes_together (given_by given.now) }
+{
+    let excludes = given.has(OptionKey::Mirrors) && given.has(OptionKey::Stripes);
+    !excludes && (!given.has(OptionKey::StripeSize) || stripes_of(given) > 1)
+}
+
+fn stripes_of(given: &Given) -> u64
+    ensures { result ≡ number_or (given_by given.now) OptionKey.Stripes 1 }
+{
+    given.number(OptionKey::Stripes).unwrap_or(1)
+}
+
+// What lvcreate makes in this group.
+fn new_volume(alloc: Global, given: &Given, vg: &[u8], pvs: &[&[u8]]) -> Meant
+    ensures { IfOk result (λ command. command ≡ new_volume (given_by given.now) (given_by given.now OptionKey.Name) (amount_of (given_by given.now)) vg.now (words_in pvs.now)) }
+{
+    let (Some(lv), Some(amount)) = (given.value(OptionKey::Name), given.amount()) else {
+        return Ok(None);
+    };
+    Ok(Some(Command::Lvcreate(NewVolume {
+        vg: text_of(alloc, vg)?,
+        lv: text_of(alloc, lv)?,
+        amount,
+        stripes: stripes_of(given),
+        stripe_size: given.size(OptionKey::StripeSize, 2).unwrap_or(128),
+        mirrors: given.number(OptionKey::Mirrors).unwrap_or(0),
+        contiguous: given.value(OptionKey::Alloc) == Some(b"contiguous".as_slice()),
+        pvs: names_of(alloc, pvs)?,
+    })))
+}
+
+pub fn lvextend(alloc: Global, given: &Given, arguments: &[&[u8]]) -> Meant
+    ensures { IfOk result (λ command. command ≡ lvextend (given_by given.now) (words_in arguments.now)) }
+{
+    let [word, pvs @ ..] = arguments else {
+        return Ok(None);
+    };
+    let Some(growth) = given.growth() else {
+        return Ok(None);
+    };
+    match path_of(alloc, word)? {
+        Some(path) => Ok(Some(Command::Lvextend {
+            path,
+            growth,
+            pvs: names_of(alloc, pvs)?,
+        })),
+        None => Ok(None),
+    }
+}
+
+pub fn lvreduce(alloc: Global, given: &Given, arguments: &[&[u8]]) -> Meant
+    ensures { IfOk result (λ command. command ≡ lvreduce (given_by given.now) (words_in arguments.now)) }
+{
+    let Some(amount) = given.amount() else {
+        return Ok(None);
+    };
+    match one_path(alloc, arguments)? {
+        Some(path) => Ok(Some(Command::Lvreduce { path, amount })),
+        None => Ok(None),
+    }
+}
+
+pub fn vgextend(alloc: Global, arguments: &[&[u8]]) -> Meant
+    ensures { IfOk result (λ command. command ≡ vgextend (words_in arguments.now)) }
+{
+    match arguments {
+        [vg, pvs @ ..] if !pvs.is_empty() => Ok(Some(Command::Vgextend {
+            vg: text_of(alloc, vg)?,
+            pvs: names_of(alloc, pvs)?,
+        })),
+        _ => Ok(None),
+    }
+}
+
+pub fn vgreduce(alloc: Global, arguments: &[&[u8]]) -> Meant
+    ensures { IfOk result (λ command. command ≡ vgreduce (words_in arguments.now)) }
+{
+    match arguments {
+        [vg, pv] => Ok(Some(Command::Vgreduce {
+            vg: text_of(alloc, vg)?,
+            pv: text_of(alloc, pv)?,
+        })),
+        _ => Ok(None),
+    }
+}
+
+pub fn vgrename(alloc: Global, arguments: &[&[u8]]) -> Meant
+    ensures { IfOk result (λ command. command ≡ vgrename (words_in arguments.now)) }
+{
+    match arguments {
+        [vg, new] => Ok(Some(Command::Vgrename {
+            vg: text_of(alloc, vg)?,
+            new: text_of(alloc, new)?,
+        })),
+        _ => Ok(None),
+    }
+}
+
+pub fn lvrename(alloc: Global, arguments: &[&[u8]]) -> Meant
+    ensures { IfOk result (λ command. command ≡ lvrename (words_in arguments.now)) }
+{
+    match arguments {
+        [vg, old, new] => Ok(Some(Command::Lvrename {
+            vg: text_of(alloc, vg)?,
+            old: text_of(alloc, old)?,
+            new: text_of(alloc, new)?,
+        })),
+        _ => Ok(None),
+    }
+}
+
+/// The bytes of the one argument. None where there is none, or another.
+pub fn one_word(alloc: Global, arguments: &[&[u8]]) -> Result<Option<Text>, AllocError>
+    ensures { IfOk result (λ word. word ≡ one_word (words_in arguments.now)) }
+{
+    match arguments {
+        [word] => Ok(Some(text_of(alloc, word)?)),
+        _ => Ok(None),
+    }
+}
+
+// The volume that the one argument names. None where there is none, or another.
+fn one_path(alloc: Global, arguments: &[&[u8]]) -> Result<Option<Path>, AllocError>
+    ensures { IfOk result (λ path. path ≡ one_path (words_in arguments.now)) }
+{
+    match arguments {
+        [word] => path_of(alloc, word),
+        _ => Ok(None),
+    }
+}
+
+pub fn pvck(alloc: Global, arguments: &[&[u8]]) -> Meant
+    ensures { IfOk result (λ command. command ≡ option_map Pvck (one_word (words_in arguments.now))) }
+{
+    match one_word(alloc, arguments)? {
+        Some(pv) => Ok(Some(Command::Pvck { pv })),
+        None => Ok(None),
+    }
+}
+
+pub fn vgremove(alloc: Global, arguments: &[&[u8]]) -> Meant
+    ensures { IfOk result (λ command. command ≡ option_map Vgremove (one_word (words_in arguments.now))) }
+{
+    match one_word(alloc, arguments)? {
+        Some(vg) => Ok(Some(Command::Vgremove { vg })),
+        None => Ok(None),
+    }
+}
+
+pub fn vgcfgbackup(alloc: Global, arguments: &[&[u8]]) -> Meant
+    ensures { IfOk result (λ command. command ≡ option_map Vgcfgbackup (one_word (words_in arguments.now))) }
+{
+    match one_word(alloc, arguments)? {
+        Some(vg) => Ok(Some(Command::Vgcfgbackup { vg })),
+        None => Ok(None),
+    }
+}
+
+pub fn lvremove(alloc: Global, arguments: &[&[u8]]) -> Meant
+    ensures { IfOk result (λ command. command ≡ option_map Lvremove (one_path (words_in arguments.now))) }
+{
+    match one_path(alloc, arguments)? {
+        Some(path) => Ok(Some(Command::Lvremove { path })),
+        None => Ok(None),
+    }
+}
+
+pub fn resync(alloc: Global, arguments: &[&[u8]]) -> Meant
+    ensures { IfOk result (λ command. command ≡ option_map Resync (one_path (words_in arguments.now))) }
+{
+    match one_path(alloc, arguments)? {
+        Some(path) => Ok(Some(Command::Resync { path })),
+        None => Ok(None),
+    }
+}
+
+pub fn vgcfgrestore(alloc: Global, arguments: &[&[u8]]) -> Meant
+    ensures { IfOk result (λ command. command ≡ option_map (λ vg. Vgcfgrestore vg []) (one_word (words_in arguments.now))) }
+{
+    match one_word(alloc, arguments)? {
+        Some(vg) => Ok(Some(Command::Vgcfgrestore {
+            vg,
+            text: Text::from_vec(Vec::new(alloc)),
+        })),
+        None => Ok(None),
+    }
+}
+
+/// This command, where there is no argument.
+pub fn alone(command: Command, arguments: &[&[u8]]) -> Option<Command>
+    ensures { result ≡ alone command (words_in arguments.now) }
+{
+    if arguments.is_empty() {
+        Some(command)
+    } else {
+        None
+    }
+}
+
+pub fn read(alloc: Global, arguments: &[&[u8]]) -> Meant
+    ensures { IfOk result (λ command. command ≡ read_words (words_in arguments.now)) }
+{
+    let [path, start, count] = arguments else {
+        return Ok(None);
+    };
+    match (path_of(alloc, path)?, number_of(start), number_of(count)) {
+        (Some(path), Some(start), Some(count)) => Ok(Some(Command::Read { path, start, count })),
+        _ => Ok(None),
+    }
+}
+
+pub fn fill(alloc: Global, arguments: &[&[u8]]) -> Meant
+    ensures { IfOk result (λ command. command ≡ fill_words (words_in arguments.now)) }
+{
+    let [path, start, count, value] = arguments else {
+        return Ok(None);
+    };
+    let (Some(start), Some(count), Some(value)) = (
+        number_of(start),
+        number_of(count),
+        number_of(value),
+    ) else {
+        return Ok(None);
+    };
+    match path_of(alloc, path)? {
+        Some(path) => Ok(Some(Command::Fill {
+            path,
+            start,
+            count,
+            value,
+        })),
+        None => Ok(None),
+    }
+}
+
+pub fn write(alloc: Global, arguments: &[&[u8]]) -> Meant
+    ensures { IfOk result (λ command. command ≡ write_words (words_in arguments.now)) }
+{
+    let [path, start, hex] = arguments else {
+        return Ok(None);
+    };
+    match (path_of(alloc, path)?, number_of(start)) {
+        (Some(path), Some(start)) => Ok(Some(Command::Write {
+            path,
+            start,
+            hex: text_of(alloc, hex)?,
+        })),
+        _ => Ok(None),
+    }
+}
+
+// The volume that a word VG/LV names. None where it has no `/`.
+fn path_of(alloc: Global, word: &[u8]) -> Result<Option<Path>, AllocError>
+    ensures { IfOk result (λ path. path ≡ path_in word.now) }
+{
+    match halves(word) {
+        Some((vg, lv)) => Ok(Some(Path {
+            vg: text_of(alloc, vg)?,
+            lv: text_of(alloc, lv)?,
+        })),
+        None => Ok(None),
+    }
+}
+
+// The bytes of a word.
+fn text_of(alloc: Global, word: &[u8]) -> Result<Text, AllocError>
+    ensures { IfOk result (λ text. text ≡ word.now) }
+{
+    Ok(Text::from_vec(Vec::from_slice(alloc, word)?))
+}
+
+// The bytes of each of these words.
+fn names_of(alloc: Global, words: &[&[u8]]) -> Result<Names, AllocError>
+    ensures { IfOk result (λ names. names ≡ words_in words.now) }
+{
+    let mut names = Vec::with_capacity(alloc, words.len())?;
+    for word in words {
+        names.push(text_of(alloc, word)?)?;
+    }
+    Ok(ItemList::from_vec(names))
+}

@@ -1,0 +1,3 @@
+mod AnswerRows
+pub mod HexDigits
+pub mod NamesFound
