@@ -34,29 +34,29 @@ use Rattle.group_edits.specs.RenamedVolume.{renamed_volume}
 use Rattle.group_edits.specs.Removing.{without_volume}
 use Rattle.group_edits.specs.ShortenedVolume.{MayKeep, kept_of}
 use Rattle.group_edits.specs.Visible.{visible_named}
-use Rattle.group_ops.proofs.CreatedVolume.{Creates, creates}
-use Rattle.group_ops.proofs.Chained.{back_passes, front_passes, none_both}
-use Rattle.group_ops.proofs.Extending.{few_segments, grows_by}
-use Rattle.group_ops.proofs.Reducing.{may_be_cut, some_extents}
-use Rattle.group_ops.proofs.Rows.{none_holds}
-use Rattle.group_ops.proofs.RowsOnVolume.{name_free, not_locked, seqno_left}
-use Rattle.group_ops.specs.Added.{added_of}
-use Rattle.group_ops.specs.Allocating.{Takes}
-use Rattle.group_ops.specs.Committing.{length_row, named_rows, no_area_row, no_change, version_change, zeroing_change}
-use Rattle.group_ops.specs.Judging.{first_refusal}
-use Rattle.group_ops.specs.Lvcreate.{create_change, created_group, lvcreate_change, zeroed_at}
-use Rattle.group_ops.specs.Lvextend.{extend_asks, extend_in_rows, extend_lv_rows, lengthen_rows, volume_asks}
-use Rattle.group_ops.specs.Lvreduce.{reduce_change, reduce_in_rows, reduce_lv_rows, reduced_group}
-use Rattle.group_ops.specs.Lvremove.{remove_change, remove_in_rows, remove_lv_rows}
-use Rattle.group_ops.specs.Lvrename.{rename_in_rows, rename_lv_rows}
-use Rattle.group_ops.specs.NewGroup.{change_with, extended}
+use Rattle.group_plan.proofs.Chained.{back_passes, front_passes, none_both}
+use Rattle.group_plan.proofs.Rows.{none_holds, seqno_left}
+use Rattle.group_plan.specs.Added.{added_of}
+use Rattle.group_plan.specs.Committing.{length_row, named_rows, no_area_row, no_change, version_change, zeroing_change}
+use Rattle.group_plan.specs.Judging.{first_refusal}
+use Rattle.group_plan.specs.NewGroup.{change_with, extended}
+use Rattle.group_plan.specs.State.{IsState}
+use Rattle.group_plan.specs.declared.state.Change.{Change}
+use Rattle.group_plan.specs.declared.state.GroupState.{GroupState}
+use Rattle.vg_plans.specs.Vgrename.{rename_rows}
+use Rattle.lv_plans.proofs.CreatedVolume.{Creates, creates}
+use Rattle.lv_plans.proofs.Extending.{few_segments, grows_by}
+use Rattle.lv_plans.proofs.Reducing.{may_be_cut, some_extents}
+use Rattle.lv_plans.proofs.RowsOnVolume.{name_free, not_locked}
+use Rattle.lv_plans.specs.Allocating.{Takes}
+use Rattle.lv_plans.specs.Lvcreate.{create_change, created_group, lvcreate_change, zeroed_at}
+use Rattle.lv_plans.specs.Lvextend.{extend_asks, extend_in_rows, extend_lv_rows, lengthen_rows, volume_asks}
+use Rattle.lv_plans.specs.Lvreduce.{reduce_change, reduce_in_rows, reduce_lv_rows, reduced_group}
+use Rattle.lv_plans.specs.Lvremove.{remove_change, remove_in_rows, remove_lv_rows}
+use Rattle.lv_plans.specs.Lvrename.{rename_in_rows, rename_lv_rows}
+use Rattle.lv_plans.specs.Sizes.{IsAmount, IsGrowth, extents_for}
+use Rattle.lv_plans.specs.Volumes.{rows_on}
 use Rattle.group_ops.specs.Planning.{IsPlanned, asks_of, change_of, refusal_of}
-use Rattle.group_ops.specs.Sizes.{IsAmount, IsGrowth, extents_for}
-use Rattle.group_ops.specs.State.{IsState}
-use Rattle.group_ops.specs.Vgrename.{rename_rows}
-use Rattle.group_ops.specs.Volumes.{rows_on}
-use Rattle.group_ops.specs.declared.state.Change.{Change}
-use Rattle.group_ops.specs.declared.state.GroupState.{GroupState}
 
 -- the change commits a next version of the group in force to its own disks
 pub record CommitsNext (state : GroupState) (change : Change) (now : ℕ) : Type 0 where

@@ -9,13 +9,14 @@ use Rattle.command_table.specs.declared.command.Command.TheVariants.{Lvcreate, L
 use Rattle.command_table.specs.declared.command.NewVolume.{NewVolume}
 use Rattle.meta_model.specs.declared.group.Group.{Group}
 use Rattle.extent_alloc.specs.declared.part.Part.{Part}
+use Rattle.group_plan.specs.Committing.{no_change}
+use Rattle.group_plan.specs.declared.state.Change.{Change}
+use Rattle.group_plan.specs.declared.state.GroupState.{GroupState}
+use Rattle.vg_plans.proofs.Restoring.{restore_holds}
+use Rattle.vg_plans.specs.Vgextend.{extend_by}
+use Rattle.lv_plans.specs.Lvcreate.{create_change}
 use Rattle.group_ops.proofs.NextVersions.{next_holds}
-use Rattle.group_ops.proofs.Restoring.{restore_holds}
-use Rattle.group_ops.specs.Committing.{no_change}
-use Rattle.group_ops.specs.Lvcreate.{create_change}
-use Rattle.group_ops.specs.Planning.{IsPlanned, change_of, extend_by}
-use Rattle.group_ops.specs.declared.state.Change.{Change}
-use Rattle.group_ops.specs.declared.state.GroupState.{GroupState}
+use Rattle.group_ops.specs.Planning.{IsPlanned, change_of}
 
 -- the commands whose lines clear disks
 abbrev pub clears : Command → Bool

@@ -12,20 +12,22 @@ use Rattle.lvm_script.specs.declared.line.Line.{Line}
 use Rattle.meta_model.specs.declared.group.Group.{Group}
 use Rattle.extent_alloc.specs.declared.part.Part.{Part}
 use Rattle.vg_found.specs.declared.disk.Disk.{Disk}
+use Rattle.group_plan.specs.Committing.{no_change}
+use Rattle.group_plan.specs.Plans.{Plans}
+use Rattle.group_plan.specs.Members.{pv_named}
+use Rattle.group_plan.specs.Zeroing.{AreWithin}
+use Rattle.group_plan.specs.declared.refusal.PlanRefusal.{PlanRefusal}
+use Rattle.group_plan.specs.declared.state.Change.{Change}
+use Rattle.group_plan.specs.declared.state.GroupState.{GroupState}
+use Rattle.vg_plans.specs.Vgextend.{extend_by}
+use Rattle.vg_plans.proofs.Restoring.{restore_holds}
+use Rattle.vg_plans.specs.Vgcfgrestore.{vgcfgrestore_change}
+use Rattle.vg_plans.specs.Vgreduce.{leaving_change, reduce_change}
+use Rattle.lv_plans.specs.Allocating.{Asking, PlansWith}
+use Rattle.lv_plans.specs.Lvextend.{lvextend_asks, lvextend_change, lvextend_rows}
+use Rattle.lv_plans.proofs.GivenParts.{plans_within}
 use Rattle.group_ops.proofs.NextVersions.{no_zero, zeroes}
-use Rattle.group_ops.specs.Allocating.{Asking}
-use Rattle.group_ops.specs.Committing.{no_change}
-use Rattle.group_ops.specs.Lvextend.{lvextend_asks, lvextend_change, lvextend_rows}
-use Rattle.group_ops.specs.Planning.{IsPlanned, Plans, PlansWith, change_of, extend_by, rows_of}
-use Rattle.group_ops.specs.Committing.{no_change}
-use Rattle.group_ops.proofs.Restoring.{restore_holds}
-use Rattle.group_ops.specs.Vgcfgrestore.{vgcfgrestore_change}
-use Rattle.group_ops.specs.Members.{pv_named}
-use Rattle.group_ops.specs.Vgreduce.{leaving_change, reduce_change}
-use Rattle.group_ops.specs.Zeroing.{AreWithin}
-use Rattle.group_ops.specs.declared.refusal.PlanRefusal.{PlanRefusal}
-use Rattle.group_ops.specs.declared.state.Change.{Change}
-use Rattle.group_ops.specs.declared.state.GroupState.{GroupState}
+use Rattle.group_ops.specs.Planning.{IsPlanned, change_of, rows_of}
 
 pub extend_none : (state : GroupState) (pvs : List (List ℕ)) (o : Option Group) → (extend_by state o pvs).zero ≡ []
 extend_none state pvs None = refl
@@ -59,11 +61,6 @@ none_zeroed state number id (Lvrename vg old new) now given planned other = no_z
 none_zeroed state number id command now given planned other = absurd planned
 
 -- ---- plans
-
--- of a change whose zeros lie in the disks
-pub plans_within : (disks : List Disk) (rows : List (Option OpRefusal)) (wanted : Change) (result : Result Change PlanRefusal) → Plans rows wanted result → AreWithin disks wanted.zero → IfOk result (λ change. AreWithin disks change.zero)
-plans_within disks rows wanted (Ok change) plans within = subst (λ (c : Change). AreWithin disks c.zero) (sym plans.1) within
-plans_within disks rows wanted (Err refusal) plans within = tt
 
 -- and of one that zeroes nothing
 plans_none : (disks : List Disk) (rows : List (Option OpRefusal)) (wanted : Change) (result : Result Change PlanRefusal) → Plans rows wanted result → wanted.zero ≡ [] → IfOk result (λ change. AreWithin disks change.zero)

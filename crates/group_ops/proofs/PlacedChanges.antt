@@ -18,24 +18,25 @@ use Rattle.group_edits.specs.RenamedGroup.{renamed_group}
 use Rattle.group_edits.specs.RenamedVolume.{renamed_volume}
 use Rattle.group_edits.specs.Removing.{without_volume}
 use Rattle.group_edits.specs.Visible.{visible_named}
-use Rattle.group_ops.proofs.PlacedAgain.{reduced_placed, restored_placed}
-use Rattle.group_ops.proofs.PlacedVolumes.{IsPlacedOn, added_placed, none_misplaced}
-use Rattle.group_ops.specs.Committing.{no_change, version_change, rows_where_found}
-use Rattle.group_ops.specs.Lvcreate.{create_change}
-use Rattle.group_ops.specs.Lvreduce.{reduce_change, reduced_group}
-use Rattle.group_ops.specs.Lvremove.{remove_change}
+use Rattle.group_plan.proofs.PlacedVolumes.{IsPlacedOn, added_placed, none_misplaced}
+use Rattle.group_plan.specs.Committing.{no_change, version_change, rows_where_found}
+use Rattle.group_plan.specs.State.{IsState}
+use Rattle.group_plan.specs.declared.state.GroupState.{GroupState}
+use Rattle.group_plan.proofs.Rows.{none_holds}
+use Rattle.group_plan.specs.Judging.{first_refusal}
+use Rattle.group_plan.specs.declared.backup.Backup.{Backup}
+use Rattle.group_plan.specs.declared.backup.Backup.TheVariants.{Broken, Sound, Unread}
+use Rattle.group_plan.specs.Members.{pv_named}
+use Rattle.vg_plans.proofs.PlacedAgain.{reduced_placed, restored_placed}
+use Rattle.vg_plans.specs.Vgextend.{extend_by}
+use Rattle.vg_plans.specs.Vgcreate.{empty_group}
+use Rattle.vg_plans.specs.Vgcfgrestore.{backup_change, restore_rows}
+use Rattle.vg_plans.specs.Vgreduce.{leaving_change, reduce_change as leave_change}
+use Rattle.lv_plans.specs.Lvcreate.{create_change}
+use Rattle.lv_plans.specs.Lvreduce.{reduce_change, reduced_group}
+use Rattle.lv_plans.specs.Lvremove.{remove_change}
 use Rattle.group_ops.specs.Laws.{ArePlaced, ChangeIsPlaced}
-use Rattle.group_ops.specs.Planning.{change_of, extend_by, refusal_of}
-use Rattle.group_ops.specs.State.{IsState}
-use Rattle.group_ops.specs.Vgcreate.{empty_group}
-use Rattle.group_ops.specs.declared.state.GroupState.{GroupState}
-use Rattle.group_ops.proofs.Rows.{none_holds}
-use Rattle.group_ops.specs.Judging.{first_refusal}
-use Rattle.group_ops.specs.Vgcfgrestore.{backup_change, restore_rows}
-use Rattle.group_ops.specs.declared.backup.Backup.{Backup}
-use Rattle.group_ops.specs.declared.backup.Backup.TheVariants.{Broken, Sound, Unread}
-use Rattle.group_ops.specs.Members.{pv_named}
-use Rattle.group_ops.specs.Vgreduce.{leaving_change, reduce_change as leave_change}
+use Rattle.group_ops.specs.Planning.{change_of, refusal_of}
 
 empty_on : (id name : List ℕ) (extent_size : ℕ) (pv : Option PvOf) → unwrap_or (option_map (λ (found : PvOf). false) pv) false ≡ false
 empty_on id name extent_size None = refl

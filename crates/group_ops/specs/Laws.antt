@@ -10,10 +10,10 @@ use Rattle.vg_found.specs.Disks.{shapes}
 use Rattle.vg_found.specs.Shape.{HasShape}
 use Rattle.vg_found.specs.Whole.{IsWhole}
 use Rattle.vg_found.specs.declared.found.Found.{Found}
+use Rattle.group_plan.specs.State.{IsState}
+use Rattle.group_plan.specs.declared.backup.Backup.{Backup}
+use Rattle.group_plan.specs.declared.state.GroupState.{GroupState}
 use Rattle.group_ops.specs.Planning.{change_of, refusal_of}
-use Rattle.group_ops.specs.State.{IsState}
-use Rattle.group_ops.specs.declared.backup.Backup.{Backup}
-use Rattle.group_ops.specs.declared.state.GroupState.{GroupState}
 
 -- what was found, with names for the disks, and what the text of the line gives, if it has one to restore a group from
 abbrev pub state_in : Found → List (List ℕ) → Option Backup → GroupState

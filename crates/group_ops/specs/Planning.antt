@@ -1,35 +1,32 @@
 -- How a line is answered: by its first refusal, or by its change.
-use Rattle.std.specs.Prelude.{◌≡◌, ◌≤◌, ◌%◌, ◌^◌, ℕ, List, [], Option, None, Some, unwrap_or, Result, Err, MatchResult, IsSomeAnd}
+use Rattle.std.specs.Prelude.{◌≡◌, ◌≤◌, ◌%◌, ◌^◌, ℕ, List, [], Option, None, unwrap_or, IsSomeAnd}
 use Rattle.lvm_id.specs.LvmId.{IsId}
 use Rattle.lvm_name.specs.Names.{group_name_refusal, volume_name_refusal}
 use Rattle.command_table.specs.declared.command.Command.{Command}
 use Rattle.command_table.specs.declared.command.Command.TheVariants.{Lvcreate, Lvextend, Lvreduce, Lvremove, Lvrename, Pvcreate, Vgcfgrestore, Vgcreate, Vgextend, Vgrename, Vgreduce, Vgremove}
 use Rattle.line_answers.specs.declared.op_refusal.OpRefusal.{OpRefusal}
 use Rattle.lvm_script.specs.declared.line.Line.{Line}
-use Rattle.meta_model.specs.declared.group.Group.{Group}
 use Rattle.extent_alloc.specs.declared.part.Part.{Part}
-use Rattle.group_ops.specs.Allocating.{Asking, Takes}
-use Rattle.group_ops.specs.Backup.{IsBackup}
-use Rattle.group_ops.specs.Committing.{no_change}
-use Rattle.group_ops.specs.Judging.{IsRefusedBy, first_refusal}
-use Rattle.group_ops.specs.Lvcreate.{IsNewVolume, lvcreate_asks, lvcreate_change, lvcreate_rows}
-use Rattle.group_ops.specs.Lvextend.{lvextend_asks, lvextend_change, lvextend_rows}
-use Rattle.group_ops.specs.Lvreduce.{lvreduce_change, lvreduce_rows}
-use Rattle.group_ops.specs.Lvremove.{lvremove_change, lvremove_rows}
-use Rattle.group_ops.specs.Lvrename.{lvrename_change, lvrename_rows}
-use Rattle.group_ops.specs.Pvcreate.{pvcreate_change, pvcreate_rows}
-use Rattle.group_ops.specs.Sizes.{IsAmount, IsGrowth}
-use Rattle.group_ops.specs.Vgcfgrestore.{vgcfgrestore_change, vgcfgrestore_rows}
-use Rattle.group_ops.specs.Vgcreate.{empty_group, vgcreate_change, vgcreate_rows}
-use Rattle.group_ops.specs.Vgextend.{vgextend_change, vgextend_rows}
-use Rattle.group_ops.specs.Vgreduce.{vgreduce_change, vgreduce_rows}
-use Rattle.group_ops.specs.Vgremove.{vgremove_change, vgremove_rows}
-use Rattle.group_ops.specs.Vgrename.{vgrename_change, vgrename_rows}
-use Rattle.group_ops.specs.declared.backup.Backup.{Backup}
-use Rattle.group_ops.specs.declared.refusal.PlanRefusal.{PlanRefusal}
-use Rattle.group_ops.specs.declared.refusal.PlanRefusal.TheVariants.{NoMemory}
-use Rattle.group_ops.specs.declared.state.Change.{Change}
-use Rattle.group_ops.specs.declared.state.GroupState.{GroupState}
+use Rattle.group_plan.specs.Backup.{IsBackup}
+use Rattle.group_plan.specs.Committing.{no_change}
+use Rattle.group_plan.specs.Judging.{first_refusal}
+use Rattle.group_plan.specs.declared.backup.Backup.{Backup}
+use Rattle.group_plan.specs.declared.state.Change.{Change}
+use Rattle.group_plan.specs.declared.state.GroupState.{GroupState}
+use Rattle.pv_plans.specs.Pvcreate.{pvcreate_change, pvcreate_rows}
+use Rattle.vg_plans.specs.Vgcfgrestore.{vgcfgrestore_change, vgcfgrestore_rows}
+use Rattle.vg_plans.specs.Vgcreate.{empty_group, vgcreate_change, vgcreate_rows}
+use Rattle.vg_plans.specs.Vgextend.{vgextend_rows}
+use Rattle.vg_plans.specs.Vgreduce.{vgreduce_change, vgreduce_rows}
+use Rattle.vg_plans.specs.Vgremove.{vgremove_change, vgremove_rows}
+use Rattle.vg_plans.specs.Vgrename.{vgrename_change, vgrename_rows}
+use Rattle.lv_plans.specs.Allocating.{Asking}
+use Rattle.lv_plans.specs.Lvcreate.{IsNewVolume, lvcreate_asks, lvcreate_change, lvcreate_rows}
+use Rattle.lv_plans.specs.Lvextend.{lvextend_asks, lvextend_change, lvextend_rows}
+use Rattle.lv_plans.specs.Lvreduce.{lvreduce_change, lvreduce_rows}
+use Rattle.lv_plans.specs.Lvremove.{lvremove_change, lvremove_rows}
+use Rattle.lv_plans.specs.Lvrename.{lvrename_change, lvrename_rows}
+use Rattle.lv_plans.specs.Sizes.{IsAmount, IsGrowth}
 
 -- the id that a line has drawn
 abbrev pub drawn : Line → List ℕ
@@ -90,11 +87,6 @@ rows_of state line now given = by line.command
 abbrev pub refusal_of : GroupState → Line → ℕ → List Part → Option OpRefusal
 refusal_of state line now given = first_refusal (rows_of state line now given)
 
--- the group, where there is one, has these too
-abbrev pub extend_by : GroupState → Option Group → List (List ℕ) → Change
-extend_by state None pvs = no_change state
-extend_by state (Some group) pvs = vgextend_change state group pvs
-
 -- its change then, where nothing refuses it
 abbrev pub change_of : GroupState → Line → ℕ → List Part → Change
 change_of state line now given = by line.command
@@ -113,13 +105,3 @@ change_of state line now given = by line.command
     by (Lvremove path) = lvremove_change state path.lv
     by (Lvrename vg old new) = lvrename_change state old new
     by _ = no_change state
-
--- the change is this one, where no row refuses, or the first refusal of the rows is answered
-abbrev pub Plans : List (Option OpRefusal) → Change → Result Change PlanRefusal → Type 0
-Plans rows wanted result = MatchResult result (λ change. (first_refusal rows ≡ None) × (change ≡ wanted)) (IsRefusedBy (first_refusal rows))
-
--- so with some parts that may be taken, where a line asks for extents, and with none where it doesn't
-abbrev pub PlansWith : Option Asking → (List Part → List (Option OpRefusal)) → (List Part → Change) → Result Change PlanRefusal → Type 0
-PlansWith None rows wanted result = Plans (rows []) (wanted []) result
-PlansWith (Some asking) rows wanted (Err NoMemory) = Unit {0}
-PlansWith (Some asking) rows wanted result = (given : List Part) × Takes (Some asking) given × Plans (rows given) (wanted given) result

@@ -1,27 +1,21 @@
 //! Judging a line.
 ghost use Rattle.std.specs.Prelude.{◌≡◌, ◌<◌, ◌^◌, [], IfOk, IsSomeAnd, unwrap_or};
 ghost use Rattle.lvm_id.specs.LvmId.{IsId};
-ghost use Rattle.group_ops.specs.Planning.{IsBackupOf, IsPlanned, PlansWith, asks_of, change_of, rows_of};
-ghost use Rattle.group_ops.specs.State.{IsState};
-ghost use Rattle.group_ops.specs.Zeroing.{AreWithin};
+ghost use Rattle.group_plan.specs.State.{IsState};
+ghost use Rattle.group_plan.specs.Zeroing.{AreWithin};
+ghost use Rattle.lv_plans.specs.Allocating.{PlansWith};
+ghost use Rattle.group_ops.specs.Planning.{IsBackupOf, IsPlanned, asks_of, change_of, rows_of};
 
-use crate::lvcreate::plan_lvcreate;
-use crate::lvextend::plan_lvextend;
-use crate::lvreduce::plan_lvreduce;
-use crate::lvremove::plan_lvremove;
-use crate::lvrename::plan_lvrename;
-use crate::pvcreate::plan_pvcreate;
-use crate::vgcfgrestore::plan_vgcfgrestore;
-use crate::vgcreate::plan_vgcreate;
-use crate::vgextend::plan_vgextend;
-use crate::vgreduce::plan_vgreduce;
-use crate::vgremove::plan_vgremove;
-use crate::vgrename::plan_vgrename;
-use crate::{Change, GroupState, PlanRefusal};
 use command_table::Command;
+use group_plan::{Change, GroupState, PlanRefusal};
+use lv_plans::{plan_lvcreate, plan_lvextend, plan_lvreduce, plan_lvremove, plan_lvrename};
 use lvm_id::LvmId;
 use lvm_script::Line;
+use pv_plans::plan_pvcreate;
 use std::alloc::Global;
+use vg_plans::{
+    plan_vgcfgrestore, plan_vgcreate, plan_vgextend, plan_vgreduce, plan_vgremove, plan_vgrename,
+};
 
 /// What the line changes at this time, in seconds since 1970, by lvm2's rules for its command. Sizes and extents are counted
 /// in sectors of 512 bytes, but for a header's numbers, which are bytes.

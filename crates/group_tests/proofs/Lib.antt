@@ -1,1 +1,5 @@
 mod BareDisks
+mod Examples
+mod GroupExamples
+mod LvExamples
+mod RefusedExamples

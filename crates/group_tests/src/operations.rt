@@ -1,11 +1,12 @@
 //! A line that is planned on one disk, and a text that gives a group.
 ghost use Rattle.std.specs.Prelude.{◌≡◌, [], ◌∷◌, codes, IfOk};
 ghost use Rattle.lvm_id.specs.LvmId.{IsId};
-ghost use Rattle.group_ops.specs.State.{IsState};
+ghost use Rattle.group_plan.specs.State.{IsState};
 
 use command_table::Command;
 use disk_contents::PvFound;
-use group_ops::{Backup, Change, GroupState, PlanRefusal, copied_header, plan, read_backup};
+use group_ops::plan;
+use group_plan::{Backup, Change, GroupState, PlanRefusal, copied_header, read_backup};
 use line_answers::DiskNames;
 use lvm_id::{LvmId, parse_plain};
 use lvm_script::Line;

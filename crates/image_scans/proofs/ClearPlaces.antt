@@ -7,23 +7,24 @@ use Rattle.std.proofs.lemmas.Bool.{false_from_ne_true}
 use Rattle.std.proofs.lemmas.List.Elements.{All-filter}
 use Rattle.sector_base.specs.Spans.{covers}
 use Rattle.sector_base.specs.declared.places.At.{At}
-use Rattle.disk_batch.specs.InTurn.{HasFirstBatches}
-use Rattle.disk_model.specs.Steps.{Image}
-use Rattle.extent_alloc.specs.declared.part.Part.{Part}
 use Rattle.lvm_script.specs.declared.line.Line.{Line}
+use Rattle.disk_model.specs.Steps.{Image}
 use Rattle.mda_header.specs.declared.header.Locn.{Locn}
 use Rattle.mda_ring.specs.Areas.{CanTake}
 use Rattle.mda_ring.specs.declared.area.Area.{Area}
 use Rattle.mda_ring.proofs.SpanLaws.{covers_tells}
 use Rattle.meta_model.specs.declared.group.Group.{Group}
-use Rattle.scan_rules.specs.Decision.{first_misplaced}
 use Rattle.volume_view.specs.Places.{primary}
 use Rattle.volume_view.specs.View.{at_place}
-use Rattle.vg_commit.specs.Written.{header_span}
+use Rattle.extent_alloc.specs.declared.part.Part.{Part}
+use Rattle.scan_rules.specs.Decision.{first_misplaced}
+use Rattle.disk_batch.specs.InTurn.{HasFirstBatches}
 use Rattle.vg_found.specs.declared.found.Found.{Found}
 use Rattle.vg_found.specs.Disks.{disks_of, shapes}
-use Rattle.group_ops.specs.Cleared.{unused_labels}
-use Rattle.group_ops.specs.Judging.{lies_on}
+use Rattle.vg_commit.specs.Written.{header_span}
+use Rattle.group_plan.specs.Cleared.{unused_labels}
+use Rattle.group_plan.specs.Judging.{lies_on}
+use Rattle.group_plan.specs.declared.backup.Backup.{Backup}
 use Rattle.group_ops.specs.Laws.{state_in}
 use Rattle.group_ops.specs.Planning.{change_of}
 use Rattle.vg_change.specs.Batches.{clears_of}
@@ -37,7 +38,6 @@ use Rattle.image_scans.proofs.CommitCommands.{none_missing_of, old_whole}
 use Rattle.image_scans.proofs.CommitLine.{is_state, settled}
 use Rattle.image_scans.proofs.FoundAreas.{IsHeldOn, all_held}
 use Rattle.image_scans.proofs.Placed.{IsPlaceOn, place_beside}
-use Rattle.group_ops.specs.declared.backup.Backup.{Backup}
 
 module _ (base : Image) (sizes : List ℕ) (found : Found) (names : List (List ℕ)) (backup : Option Backup) (line : Line) (now : ℕ) (given : List Part) (p : CanCarryOut base sizes found names backup line now given) (group : Group) (is_group : found.group ≡ Some group) where
   abbrev cleared_of_line : FinSet nat_cmp

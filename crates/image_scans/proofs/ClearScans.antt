@@ -5,27 +5,28 @@ use Rattle.std.specs.FinSet as set
 use Rattle.std.proofs.lemmas.Bool.{cases_Bool, true≢false}
 use Rattle.std.proofs.lemmas.List.Elements.{filter_passes}
 use Rattle.std.proofs.lemmas.Option.{same_Some}
-use Rattle.disk_model.specs.Steps.{Image}
-use Rattle.disk_batch.specs.InTurn.{HasFirstBatches, with_batches}
-use Rattle.extent_alloc.specs.declared.part.Part.{Part}
 use Rattle.lvm_script.specs.declared.line.Line.{Line}
+use Rattle.disk_model.specs.Steps.{Image}
 use Rattle.mda_header.specs.declared.header.Locn.{Locn}
 use Rattle.mda_ring.specs.declared.area.Area.{Area}
 use Rattle.conf_text.specs.Printed.{printed}
-use Rattle.meta_print.specs.Layout.{tree_of}
 use Rattle.meta_model.specs.declared.group.Group.{Group}
+use Rattle.meta_print.specs.Layout.{tree_of}
+use Rattle.extent_alloc.specs.declared.part.Part.{Part}
 use Rattle.scan_rules.specs.Decision.{AreaReading, Copy, Reading, lists}
-use Rattle.vg_commit.proofs.Disks.{no_area}
-use Rattle.vg_commit.specs.SectorReading.{ShowsBy, new_reading}
-use Rattle.vg_commit.specs.Showing.{HasBytes, Names, Shows, sectors_of}
+use Rattle.disk_batch.specs.InTurn.{HasFirstBatches, with_batches}
 use Rattle.vg_found.specs.declared.disk.Disk.{Disk}
 use Rattle.vg_found.specs.declared.found.Found.{Found}
 use Rattle.vg_scan.specs.Readings.{IsDiskReading}
-use Rattle.group_ops.specs.Judging.{lies_on as is_on, set_of}
+use Rattle.vg_commit.proofs.Disks.{no_area}
+use Rattle.vg_commit.specs.SectorReading.{ShowsBy, new_reading}
+use Rattle.vg_commit.specs.Showing.{HasBytes, Names, Shows, sectors_of}
+use Rattle.group_plan.specs.Judging.{lies_on as is_on, set_of}
+use Rattle.group_plan.specs.declared.state.Change.{Change}
+use Rattle.group_plan.specs.declared.state.GroupState.{GroupState}
+use Rattle.group_plan.specs.declared.backup.Backup.{Backup}
 use Rattle.group_ops.specs.Laws.{state_in}
 use Rattle.group_ops.specs.Planning.{change_of}
-use Rattle.group_ops.specs.declared.state.Change.{Change}
-use Rattle.group_ops.specs.declared.state.GroupState.{GroupState}
 use Rattle.vg_change.specs.Batches.{areas_of, batches_of, clears_of}
 use Rattle.vg_change.specs.Building.{AreScanned}
 use Rattle.vg_change.specs.Laws.{HoldsAfter}
@@ -40,7 +41,6 @@ use Rattle.image_scans.proofs.CommitScans.{IsNext}
 use Rattle.image_scans.proofs.DiskAgain.{AllAgain, DiskAgain, all_again}
 use Rattle.image_scans.proofs.Lines.{LineMakes, line_makes, makes_nothing, makes_pv, makes_version}
 use Rattle.image_scans.proofs.MadeGroup.{MakesGroup}
-use Rattle.group_ops.specs.declared.backup.Backup.{Backup}
 
 -- an area whose sectors are as in another image shows the same
 shows_same : (image other : Image) (area : Area) (entry : Option Locn) (bytes : List ℕ) → ((sector : ℕ) → image area.pv sector ≡ other area.pv sector) → Shows area entry bytes other → Shows area entry bytes image

@@ -8,31 +8,31 @@ use Rattle.std.proofs.lemmas.Bool.{false≢true, true≢false}
 use Rattle.std.proofs.lemmas.List.Elements.{All-filter, filter_passes, recursion_from_All}
 use Rattle.std.proofs.lemmas.Option.{same_Some}
 use Rattle.disk_model.specs.Steps.{Image}
-use Rattle.disk_batch.specs.InTurn.{HasFirstBatches}
-use Rattle.disk_batch.specs.Writes.{IsWrittenBy}
+use Rattle.pv_label.specs.Label.{IsLabel}
+use Rattle.pv_header.specs.PvHeader.{IsPvHeader}
+use Rattle.pv_header.specs.declared.header.PvHeader.{PvHeader}
 use Rattle.mda_header.specs.declared.header.Locn.{Locn}
 use Rattle.mda_ring.specs.Areas.{CanTake}
 use Rattle.mda_ring.specs.declared.area.Area.{Area}
 use Rattle.meta_model.specs.declared.group.Group.{Group}
-use Rattle.pv_header.specs.PvHeader.{IsPvHeader}
-use Rattle.pv_header.specs.declared.header.PvHeader.{PvHeader}
-use Rattle.pv_label.specs.Label.{IsLabel}
+use Rattle.scan_rules.specs.Decision.{Area as AreaOf, AreaReading, Copy, Found as PvOf, Reading}
+use Rattle.disk_batch.specs.InTurn.{HasFirstBatches}
+use Rattle.disk_batch.specs.Writes.{IsWrittenBy}
 use Rattle.disk_contents.specs.declared.contents.AreaFound.{AreaFound}
 use Rattle.disk_contents.specs.declared.contents.PvFound.{PvFound}
 use Rattle.disk_contents.specs.declared.contents.PvFound.TheVariants.{NoLabel, NoHeader, Whole}
 use Rattle.disk_contents.specs.Standing.{area_on}
-use Rattle.scan_rules.specs.Decision.{Area as AreaOf, AreaReading, Copy, Found as PvOf, Reading}
-use Rattle.vg_commit.proofs.Disks.{no_area}
-use Rattle.vg_commit.specs.SectorReading.{IsSized, ShowsBy, old_reading}
 use Rattle.vg_found.specs.declared.disk.Disk.{Disk}
 use Rattle.vg_found.specs.Disks.{areas_on, held_area, held_areas, header_on}
 use Rattle.vg_found.specs.Shape.{ContentsCanStand}
 use Rattle.vg_scan.specs.Readings.{IsDiskReading}
 use Rattle.vg_scan.specs.Texts.{IsCopyOf}
-use Rattle.group_ops.specs.Added.{pv_in}
-use Rattle.group_ops.specs.Cleared.{cleared_areas, unused_labels}
-use Rattle.group_ops.specs.Judging.{lies_on}
-use Rattle.group_ops.specs.declared.state.NewLabel.{NewLabel}
+use Rattle.vg_commit.proofs.Disks.{no_area}
+use Rattle.vg_commit.specs.SectorReading.{IsSized, ShowsBy, old_reading}
+use Rattle.group_plan.specs.Added.{pv_in}
+use Rattle.group_plan.specs.Cleared.{cleared_areas, unused_labels}
+use Rattle.group_plan.specs.Judging.{lies_on}
+use Rattle.group_plan.specs.declared.state.NewLabel.{NewLabel}
 use Rattle.vg_change.specs.Batches.{batch_if, clear_batches, clear_put, label_bytes, label_put}
 use Rattle.vg_change.specs.Building.{AreScanned}
 use Rattle.vg_change.specs.Laws.{ClearsImages, ShowsEntries, text_in}

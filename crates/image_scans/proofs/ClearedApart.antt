@@ -26,15 +26,15 @@ use Rattle.vg_found.specs.Disks.{disk_with, disks_of, header_on, shapes}
 use Rattle.vg_found.specs.Shape.{HasShape}
 use Rattle.vg_found.specs.Whole.{IsWhole as FoundIsWhole}
 use Rattle.group_edits.specs.ReducedGroup.{reduced_group}
-use Rattle.group_ops.proofs.Leaving.{LeavesNext, leaves_next}
+use Rattle.group_plan.specs.Judging.{set_of}
+use Rattle.group_plan.specs.declared.state.Change.{Change}
+use Rattle.group_plan.specs.declared.state.GroupState.{GroupState}
+use Rattle.group_plan.specs.declared.backup.Backup.{Backup}
+use Rattle.vg_plans.proofs.Leaving.{LeavesNext, leaves_next}
+use Rattle.vg_plans.specs.Vgreduce.{vgreduce_change}
 use Rattle.group_ops.proofs.NoClears.{clears, none_cleared}
-use Rattle.group_ops.specs.Judging.{set_of}
 use Rattle.group_ops.specs.Laws.{state_in}
 use Rattle.group_ops.specs.Planning.{IsPlanned, change_of, refusal_of}
-use Rattle.group_ops.specs.Vgreduce.{vgreduce_change}
-use Rattle.group_ops.specs.declared.state.Change.{Change}
-use Rattle.group_ops.specs.declared.state.GroupState.{GroupState}
-use Rattle.group_ops.specs.declared.backup.Backup.{Backup}
 use Rattle.vg_change.proofs.DiskSets.{of_set}
 use Rattle.image_scans.proofs.Again.{all_there}
 use Rattle.image_scans.proofs.CommitCommands.{none_missing_of, old_whole}

@@ -9,9 +9,9 @@ use Rattle.std.proofs.lemmas.List.Elements.{All-cons, All-nil}
 use Rattle.std.proofs.lemmas.Option.{same_Some}
 use Rattle.pv_header.specs.declared.header.PvHeader.{PvHeader}
 use Rattle.vg_found.specs.declared.disk.Disk.{Disk}
-use Rattle.group_ops.specs.Added.{pv_in}
-use Rattle.group_ops.specs.Cleared.{unused, unused_label, unused_labels}
-use Rattle.group_ops.specs.declared.state.NewLabel.{NewLabel}
+use Rattle.group_plan.specs.Added.{pv_in}
+use Rattle.group_plan.specs.Cleared.{unused, unused_label, unused_labels}
+use Rattle.group_plan.specs.declared.state.NewLabel.{NewLabel}
 use Rattle.image_scans.proofs.Labels.{IsSameHeader}
 
 -- each is that of the physical volume that was found on its disk

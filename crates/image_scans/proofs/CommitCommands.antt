@@ -26,21 +26,21 @@ use Rattle.group_edits.proofs.Whole.{IsWhole}
 use Rattle.group_edits.proofs.ReducedRules.{all_without, map-remove}
 use Rattle.group_edits.specs.ReducedGroup.{reduced_group}
 use Rattle.group_edits.specs.NextVersion.{next_version}
-use Rattle.group_ops.proofs.Accepted.{created, next_is_whole}
+use Rattle.group_plan.specs.Added.{added_of}
+use Rattle.group_plan.specs.Committing.{version_change_on}
+use Rattle.group_plan.specs.Judging.{first_refusal, set_of}
+use Rattle.group_plan.specs.NewGroup.{change_with, extended, text_row}
+use Rattle.group_plan.specs.State.{IsState}
+use Rattle.group_plan.specs.declared.state.Change.{Change}
+use Rattle.group_plan.specs.declared.state.GroupState.{GroupState}
+use Rattle.group_plan.proofs.Rows.{none_holds}
+use Rattle.group_plan.specs.declared.backup.Backup.{Backup}
+use Rattle.vg_plans.proofs.Accepted.{created, next_is_whole}
+use Rattle.vg_plans.proofs.Leaving.{LeavesNext}
+use Rattle.vg_plans.specs.Vgcreate.{create_rows, empty_group, new_rows}
+use Rattle.vg_plans.specs.Vgextend.{extend_rows, found_rows}
 use Rattle.group_ops.proofs.NextVersions.{CommitsNext, version_is}
-use Rattle.group_ops.specs.Added.{added_of}
-use Rattle.group_ops.proofs.Leaving.{LeavesNext}
-use Rattle.group_ops.specs.Committing.{version_change_on}
-use Rattle.group_ops.specs.Judging.{first_refusal, set_of}
 use Rattle.group_ops.specs.Laws.{state_in}
-use Rattle.group_ops.specs.NewGroup.{change_with, extended, text_row}
-use Rattle.group_ops.specs.State.{IsState}
-use Rattle.group_ops.specs.Vgcreate.{create_rows, empty_group, new_rows}
-use Rattle.group_ops.specs.Vgextend.{extend_rows, found_rows}
-use Rattle.group_ops.specs.declared.state.Change.{Change}
-use Rattle.group_ops.specs.declared.state.GroupState.{GroupState}
-use Rattle.group_ops.proofs.Rows.{none_holds}
-use Rattle.group_ops.specs.declared.backup.Backup.{Backup}
 use Rattle.vg_change.proofs.Sound.{version_on}
 use Rattle.image_scans.proofs.Again.{all_there}
 use Rattle.image_scans.proofs.CommitScans.{IsNext}

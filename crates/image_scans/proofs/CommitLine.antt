@@ -3,32 +3,33 @@ use Rattle.std.proofs.Common.{◌≡◌, ◌<◌, ◌⊎◌, ℕ, ◌+◌, ◌^�
 use Rattle.std.specs.Prelude.{All, slice_get}
 use Rattle.std.proofs.lemmas.List.{take_all}
 use Rattle.std.proofs.lemmas.List.Elements.{All-filter, filter_passes}
-use Rattle.conf_text.specs.Printed.{printed}
-use Rattle.disk_batch.specs.InTurn.{HasFirstBatches, Put, with_batches}
-use Rattle.disk_batch.proofs.InTurn.{of_submitted}
-use Rattle.disk_model.specs.Steps.{Image}
-use Rattle.extent_alloc.specs.declared.part.Part.{Part}
 use Rattle.lvm_script.specs.declared.line.Line.{Line}
+use Rattle.disk_model.specs.Steps.{Image}
 use Rattle.mda_header.specs.declared.header.Locn.{Locn}
 use Rattle.mda_ring.specs.declared.area.Area.{Area}
+use Rattle.conf_text.specs.Printed.{printed}
 use Rattle.meta_model.specs.declared.group.Group.{Group}
 use Rattle.meta_print.specs.Layout.{tree_of}
+use Rattle.extent_alloc.specs.declared.part.Part.{Part}
 use Rattle.scan_rules.specs.Decision.{AreaReading, Copy, Reading, SameHeaders, decide_scan, first_misplaced, is_held, lists}
-use Rattle.vg_commit.proofs.Disks.{no_area}
-use Rattle.vg_commit.specs.SectorReading.{ShowsBy, new_reading, old_reading}
+use Rattle.disk_batch.specs.InTurn.{HasFirstBatches, Put, with_batches}
+use Rattle.disk_batch.proofs.InTurn.{of_submitted}
 use Rattle.vg_found.specs.declared.disk.Disk.{Disk}
 use Rattle.vg_found.specs.declared.found.Found.{Found}
 use Rattle.vg_found.specs.Disks.{shapes}
 use Rattle.vg_scan.specs.Readings.{IsDiskReading}
 use Rattle.vg_scan.specs.Texts.{IsCopyOf}
+use Rattle.vg_commit.proofs.Disks.{no_area}
+use Rattle.vg_commit.specs.SectorReading.{ShowsBy, new_reading, old_reading}
+use Rattle.group_plan.specs.Judging.{lies_on as is_on, set_of}
+use Rattle.group_plan.specs.State.{IsState}
+use Rattle.group_plan.specs.declared.state.Change.{Change}
+use Rattle.group_plan.specs.declared.state.GroupState.{GroupState}
+use Rattle.group_plan.specs.declared.backup.Backup.{Backup}
 use Rattle.group_ops.proofs.PlacedChanges.{change_is_placed}
 use Rattle.group_ops.proofs.WholeState.{whole_is_state}
-use Rattle.group_ops.specs.Judging.{lies_on as is_on, set_of}
 use Rattle.group_ops.specs.Laws.{ArePlaced, state_in}
 use Rattle.group_ops.specs.Planning.{change_of}
-use Rattle.group_ops.specs.State.{IsState}
-use Rattle.group_ops.specs.declared.state.Change.{Change}
-use Rattle.group_ops.specs.declared.state.GroupState.{GroupState}
 use Rattle.vg_change.specs.Batches.{areas_of, batch_if, batches_of, commit_batches, label_put, new_area_puts}
 use Rattle.vg_change.specs.CarryingOut.{sizes_of}
 use Rattle.vg_change.specs.Laws.{AreasKeptBy, HasLabel, HoldsAfter, IsKeptOrNew, ShowsEntries, text_in}
@@ -49,7 +50,6 @@ use Rattle.image_scans.proofs.MadeGroup.{IsListedOn, MakesGroup}
 use Rattle.image_scans.proofs.OneArea.{printed_copy}
 use Rattle.image_scans.proofs.ReadingShapes.{gives_at, readings_shaped}
 use Rattle.image_scans.proofs.SettledBase.{IsSettledScan, settled_read, settled_scan}
-use Rattle.group_ops.specs.declared.backup.Backup.{Backup}
 
 -- the image with all batches is the last on the way
 pub all_written : (batches : List (List Put)) (base : Image) → HasFirstBatches batches base (with_batches batches base)

@@ -8,38 +8,38 @@ use Rattle.std.proofs.lemmas.Bool.{cases_Bool, true≢false}
 use Rattle.std.proofs.lemmas.List.Elements.{All-cons, All-filter, All-map, All-nil, filter_passes, recursion_from_All}
 use Rattle.std.proofs.lemmas.Option.{same_Some}
 use Rattle.disk_model.specs.Steps.{Image}
-use Rattle.disk_batch.specs.InTurn.{HasFirstBatches, Put, with_batches}
-use Rattle.disk_batch.specs.Writes.{IsWrittenBy}
-use Rattle.disk_batch.proofs.InTurn.{batches_append}
+use Rattle.pv_label.specs.Label.{IsLabel}
+use Rattle.pv_header.specs.PvHeader.{IsPvHeader}
+use Rattle.pv_header.specs.declared.header.PvHeader.{PvHeader}
 use Rattle.mda_header.specs.declared.header.Locn.{Locn}
 use Rattle.mda_ring.specs.declared.area.Area.{Area}
 use Rattle.mda_ring.specs.Ring.{need, room}
 use Rattle.meta_model.specs.declared.group.Group.{Group}
-use Rattle.pv_header.specs.PvHeader.{IsPvHeader}
-use Rattle.pv_header.specs.declared.header.PvHeader.{PvHeader}
-use Rattle.pv_label.specs.Label.{IsLabel}
+use Rattle.scan_rules.specs.Decision.{AreaReading, Copy, Reading, lists}
+use Rattle.disk_batch.specs.InTurn.{HasFirstBatches, Put, with_batches}
+use Rattle.disk_batch.specs.Writes.{IsWrittenBy}
+use Rattle.disk_batch.proofs.InTurn.{batches_append}
 use Rattle.disk_contents.specs.declared.contents.AreaFound.{AreaFound}
 use Rattle.disk_contents.specs.declared.contents.PvFound.{PvFound}
 use Rattle.disk_contents.specs.declared.contents.PvFound.TheVariants.{NoLabel, NoHeader, Whole}
 use Rattle.disk_contents.specs.Standing.{area_on}
-use Rattle.scan_rules.specs.Decision.{AreaReading, Copy, Reading, lists}
-use Rattle.vg_commit.proofs.Disks.{no_area}
-use Rattle.vg_commit.specs.Written.{area_writes, headers_of, publish_of, texts_of}
-use Rattle.vg_commit.proofs.AreasCommit.{rooms}
 use Rattle.vg_found.specs.declared.disk.Disk.{Disk}
 use Rattle.vg_found.specs.Disks.{areas_on, held_area, header_on}
 use Rattle.vg_found.specs.Shape.{ContentsCanStand}
 use Rattle.vg_scan.specs.Readings.{IsDiskReading}
 use Rattle.vg_scan.specs.Texts.{IsCopyOf}
-use Rattle.group_ops.proofs.Passed.{absent}
-use Rattle.group_ops.proofs.StateFacts.{areas_take}
-use Rattle.group_ops.specs.Added.{disks_added, label_of, pv_in}
-use Rattle.group_ops.specs.Judging.{lies_on, set_of}
-use Rattle.group_ops.specs.State.{IsState}
-use Rattle.group_ops.specs.declared.added.Added.{Added}
-use Rattle.group_ops.specs.declared.state.Change.{Change}
-use Rattle.group_ops.specs.declared.state.GroupState.{GroupState}
-use Rattle.group_ops.specs.declared.state.NewLabel.{NewLabel}
+use Rattle.vg_commit.proofs.Disks.{no_area}
+use Rattle.vg_commit.specs.Written.{area_writes, headers_of, publish_of, texts_of}
+use Rattle.vg_commit.proofs.AreasCommit.{rooms}
+use Rattle.group_plan.proofs.Passed.{absent}
+use Rattle.group_plan.proofs.StateFacts.{areas_take}
+use Rattle.group_plan.specs.Added.{disks_added, label_of, pv_in}
+use Rattle.group_plan.specs.Judging.{lies_on, set_of}
+use Rattle.group_plan.specs.State.{IsState}
+use Rattle.group_plan.specs.declared.added.Added.{Added}
+use Rattle.group_plan.specs.declared.state.Change.{Change}
+use Rattle.group_plan.specs.declared.state.GroupState.{GroupState}
+use Rattle.group_plan.specs.declared.state.NewLabel.{NewLabel}
 use Rattle.vg_change.specs.Batches.{areas_of, batch_if, label_bytes, label_put}
 use Rattle.vg_change.specs.Laws.{HasLabel, IsKeptOrNew}
 use Rattle.vg_change.specs.Sound.{CanLabel, CanTakeText}

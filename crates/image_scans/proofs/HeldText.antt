@@ -6,6 +6,7 @@ use Rattle.std.proofs.lemmas.Bool.{or_left, or_right}
 use Rattle.std.proofs.lemmas.Option.{same_Some}
 use Rattle.std.proofs.lemmas.List.Elements.{All-head, All-tail}
 use Rattle.disk_model.specs.Steps.{Image}
+use Rattle.pv_header.specs.declared.header.PvHeader.{PvHeader}
 use Rattle.mda_header.specs.declared.entry.Entry.{Entry}
 use Rattle.mda_header.specs.declared.entry.Entry.TheVariants.{Text}
 use Rattle.mda_header.specs.declared.header.Locn.{Locn}
@@ -15,22 +16,21 @@ use Rattle.mda_ring.specs.declared.area.Area.{Area}
 use Rattle.mda_ring.specs.Texts.{without_zero}
 use Rattle.mda_ring.proofs.TextBytes.{without_zero-zero}
 use Rattle.meta_model.specs.declared.group.Group.{Group}
-use Rattle.pv_header.specs.declared.header.PvHeader.{PvHeader}
+use Rattle.scan_rules.specs.Decision.{Area as AreaOf, AreaReading, Copy, Found as PvOf, HoldsNone, Reading, Refused, gives, holds, is_held, is_listed, lists, same_bytes}
+use Rattle.scan_rules.proofs.Scanning.{same_bytes_tells, same_bytes_to}
 use Rattle.disk_contents.specs.declared.contents.AreaFound.{AreaFound}
 use Rattle.disk_contents.specs.declared.contents.PvFound.{PvFound}
 use Rattle.disk_contents.specs.declared.contents.PvFound.TheVariants.{NoLabel, NoHeader, Whole}
 use Rattle.disk_contents.specs.Contents.{IsAreaFound}
 use Rattle.disk_contents.specs.Standing.{area_on}
-use Rattle.scan_rules.specs.Decision.{Area as AreaOf, AreaReading, Copy, Found as PvOf, HoldsNone, Reading, Refused, gives, holds, is_held, is_listed, lists, same_bytes}
-use Rattle.scan_rules.proofs.Scanning.{same_bytes_tells, same_bytes_to}
-use Rattle.vg_commit.specs.SectorReading.{ShowsBy, new_reading}
-use Rattle.vg_commit.specs.Showing.{sectors_of}
-use Rattle.vg_commit.specs.Written.{new_entry, stored}
 use Rattle.vg_found.specs.declared.disk.Disk.{Disk}
 use Rattle.vg_found.specs.Disks.{areas_on, has_header_id, header_on}
 use Rattle.vg_scan.specs.Readings.{AreAreaReadings, IsAreaReading, IsContents, IsDiskReading, IsGiven, IsPvReading}
 use Rattle.vg_scan.specs.Texts.{IsStored, stored_bytes}
-use Rattle.group_ops.proofs.Disks.{has_own}
+use Rattle.vg_commit.specs.SectorReading.{ShowsBy, new_reading}
+use Rattle.vg_commit.specs.Showing.{sectors_of}
+use Rattle.vg_commit.specs.Written.{new_entry, stored}
+use Rattle.group_plan.proofs.Disks.{has_own}
 use Rattle.image_scans.proofs.AreaAgain.{NotRefused}
 use Rattle.image_scans.proofs.DiskAgain.{IsThereAt}
 use Rattle.image_scans.proofs.FoundAreas.{IsHeldOn, entry_kept}

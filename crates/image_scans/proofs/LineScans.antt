@@ -1,19 +1,20 @@
 -- What a scan finds of the base, in every image on the way of a line, and once all is written.
 use Rattle.std.proofs.Common.{◌≡◌, ◌<◌, ℕ, List, [], ◌++◌, length, map, take, Option, Some, None, refl, sym, subst, ◌∙◌}
+use Rattle.lvm_script.specs.declared.line.Line.{Line}
+use Rattle.disk_model.specs.Steps.{Image}
+use Rattle.meta_model.specs.declared.group.Group.{Group}
+use Rattle.extent_alloc.specs.declared.part.Part.{Part}
 use Rattle.disk_batch.specs.InTurn.{HasFirstBatches, Put, with_batches}
 use Rattle.disk_batch.proofs.FrontBatches.{none_front}
-use Rattle.disk_model.specs.Steps.{Image}
-use Rattle.extent_alloc.specs.declared.part.Part.{Part}
-use Rattle.lvm_script.specs.declared.line.Line.{Line}
 use Rattle.vg_found.specs.declared.found.Found.{Found}
 use Rattle.vg_found.specs.Whole.{IsWhole}
 use Rattle.vg_scan.specs.Scans.{IsScanOf}
-use Rattle.meta_model.specs.declared.group.Group.{Group}
+use Rattle.group_plan.specs.declared.state.Change.{Change}
+use Rattle.group_plan.specs.declared.state.GroupState.{GroupState}
+use Rattle.group_plan.specs.declared.state.NewLabel.{NewLabel}
+use Rattle.group_plan.specs.declared.backup.Backup.{Backup}
 use Rattle.group_ops.specs.Laws.{state_in}
 use Rattle.group_ops.specs.Planning.{change_of}
-use Rattle.group_ops.specs.declared.state.Change.{Change}
-use Rattle.group_ops.specs.declared.state.GroupState.{GroupState}
-use Rattle.group_ops.specs.declared.state.NewLabel.{NewLabel}
 use Rattle.vg_change.specs.Batches.{areas_of, batch_if, batches_of, commit_batches, label_put, new_area_puts}
 use Rattle.image_scans.specs.Laws.{CanCarryOut, FindsAtEnd, FindsOnTheWay, is_labelled, none_out}
 use Rattle.image_scans.specs.Versions.{FindsVersion, version_in}
@@ -22,7 +23,6 @@ use Rattle.image_scans.proofs.CommitScans.{none_unread}
 use Rattle.image_scans.proofs.Lines.{LineMakes, line_makes, makes_nothing, makes_pv, makes_version}
 use Rattle.image_scans.proofs.NewPv.{without_disk}
 use Rattle.image_scans.proofs.NewPvEnd.{with_new_disk}
-use Rattle.group_ops.specs.declared.backup.Backup.{Backup}
 
 -- the image that was scanned
 pub base_scans : (base : Image) (sizes : List ℕ) (found : Found) → IsScanOf base sizes found → IsWhole found → FindsVersion sizes base none_out (version_in found)

@@ -18,25 +18,25 @@ use Rattle.vg_found.specs.declared.disk.Disk.{Disk}
 use Rattle.vg_found.specs.declared.found.Found.{Found}
 use Rattle.vg_found.specs.Shape.{HasShape}
 use Rattle.vg_found.specs.Whole.{IsWhole}
-use Rattle.group_ops.proofs.Leaving.{leaves_next}
+use Rattle.group_plan.proofs.Passed.{both_false}
+use Rattle.group_plan.specs.Judging.{first_refusal, stands_on_disk}
+use Rattle.group_plan.specs.State.{IsState}
+use Rattle.group_plan.specs.declared.state.Change.{Change}
+use Rattle.group_plan.specs.declared.state.GroupState.{GroupState}
+use Rattle.group_plan.proofs.Rows.{none_holds, test_fails}
+use Rattle.group_plan.specs.declared.backup.Backup.{Backup}
+use Rattle.group_plan.specs.declared.backup.Backup.TheVariants.{Sound}
+use Rattle.group_plan.specs.Backup.{IsBackup}
+use Rattle.pv_plans.specs.Pvcreate.{disk_rows, fewest_sectors, group_has, is_listed, new_label, pvcreate_change}
+use Rattle.vg_plans.proofs.Leaving.{leaves_next}
+use Rattle.vg_plans.specs.Vgextend.{extend_by, found_rows}
+use Rattle.vg_plans.specs.Vgreduce.{vgreduce_change}
+use Rattle.vg_plans.proofs.Restoring.{Restores, restores, sound_tree}
+use Rattle.vg_plans.specs.Vgcfgrestore.{vgcfgrestore_change, vgcfgrestore_rows}
+use Rattle.lv_plans.specs.Allocating.{Takes}
 use Rattle.group_ops.proofs.NextVersions.{commits_next, is_next}
-use Rattle.group_ops.proofs.Passed.{both_false}
-use Rattle.group_ops.specs.Allocating.{Takes}
-use Rattle.group_ops.specs.Judging.{first_refusal, stands_on_disk}
 use Rattle.group_ops.specs.Laws.{state_in}
-use Rattle.group_ops.specs.Planning.{IsBackupOf, IsPlanned, asks_of, change_of, extend_by, refusal_of}
-use Rattle.group_ops.specs.Pvcreate.{disk_rows, fewest_sectors, group_has, is_listed, new_label, pvcreate_change}
-use Rattle.group_ops.specs.State.{IsState}
-use Rattle.group_ops.specs.Vgextend.{found_rows}
-use Rattle.group_ops.specs.Vgreduce.{vgreduce_change}
-use Rattle.group_ops.specs.declared.state.Change.{Change}
-use Rattle.group_ops.specs.declared.state.GroupState.{GroupState}
-use Rattle.group_ops.proofs.Rows.{none_holds, test_fails}
-use Rattle.group_ops.specs.declared.backup.Backup.{Backup}
-use Rattle.group_ops.specs.declared.backup.Backup.TheVariants.{Sound}
-use Rattle.group_ops.proofs.Restoring.{Restores, restores, sound_tree}
-use Rattle.group_ops.specs.Backup.{IsBackup}
-use Rattle.group_ops.specs.Vgcfgrestore.{vgcfgrestore_change, vgcfgrestore_rows}
+use Rattle.group_ops.specs.Planning.{IsBackupOf, IsPlanned, asks_of, change_of, refusal_of}
 use Rattle.image_scans.specs.Laws.{CanCarryOut}
 use Rattle.image_scans.proofs.CommitCommands.{Commits, leaves_commits, next_commits, vgcreate_commits, vgextend_commits}
 use Rattle.image_scans.proofs.CommitLine.{is_state, settled}

@@ -3,18 +3,18 @@ use Rattle.std.proofs.Common.{◌≡◌, ℕ, true, false, List, ◌++◌, map, 
 use Rattle.std.specs.Prelude.{All, slice_get}
 use Rattle.std.specs.List.{AllByRecursion as Each}
 use Rattle.std.specs.Option.{option_and_then}
+use Rattle.pv_header.specs.declared.header.PvHeader.{PvHeader}
 use Rattle.meta_model.specs.declared.group.Group.{Group}
 use Rattle.meta_model.specs.declared.pv.Pv.{Pv}
-use Rattle.pv_header.specs.declared.header.PvHeader.{PvHeader}
 use Rattle.scan_rules.specs.Decision.{lists}
 use Rattle.scan_rules.specs.Found.{is_missing}
 use Rattle.vg_found.specs.declared.disk.Disk.{Disk}
 use Rattle.vg_found.specs.Disks.{disks_of, header_on, shapes}
 use Rattle.group_edits.proofs.Whole.{IsWhole}
-use Rattle.group_ops.specs.Added.{disks_added, label_of, pv_in}
-use Rattle.group_ops.specs.declared.added.Added.{Added}
-use Rattle.group_ops.specs.declared.state.Change.{Change}
-use Rattle.group_ops.specs.declared.state.GroupState.{GroupState}
+use Rattle.group_plan.specs.Added.{disks_added, label_of, pv_in}
+use Rattle.group_plan.specs.declared.added.Added.{Added}
+use Rattle.group_plan.specs.declared.state.Change.{Change}
+use Rattle.group_plan.specs.declared.state.GroupState.{GroupState}
 
 -- it is the physical volume that was found on its disk
 pub record IsAddedOn (disks : List Disk) (added : Added) : Type 0 where

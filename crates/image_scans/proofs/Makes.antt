@@ -20,12 +20,12 @@ use Rattle.vg_found.specs.declared.disk.Disk.{Disk}
 use Rattle.vg_found.specs.Disks.{disk_shape, disk_with, disks_of, has_header_id, header_on, pv_shape, shapes}
 use Rattle.vg_found.proofs.KeptLists.{all_kept}
 use Rattle.group_edits.proofs.Whole.{IsWhole}
-use Rattle.group_ops.proofs.Disks.{disk_with_own}
-use Rattle.group_ops.specs.Added.{added_at, added_named, added_of, added_on, disks_added, pv_in, pv_of}
-use Rattle.group_ops.specs.NewGroup.{change_with, extended, free_number, names_in, pv_name, with_added}
-use Rattle.group_ops.specs.State.{IsState}
-use Rattle.group_ops.specs.declared.added.Added.{Added}
-use Rattle.group_ops.specs.declared.state.GroupState.{GroupState}
+use Rattle.group_plan.proofs.Disks.{disk_with_own}
+use Rattle.group_plan.specs.Added.{added_at, added_named, added_of, added_on, disks_added, pv_in, pv_of}
+use Rattle.group_plan.specs.NewGroup.{change_with, extended, free_number, names_in, pv_name, with_added}
+use Rattle.group_plan.specs.State.{IsState}
+use Rattle.group_plan.specs.declared.added.Added.{Added}
+use Rattle.group_plan.specs.declared.state.GroupState.{GroupState}
 use Rattle.image_scans.proofs.MadeGroup.{IsAddedOn, IsListedOn, MakesGroup}
 
 -- ---- the physical volumes that were found

@@ -7,30 +7,31 @@ use Rattle.std.specs.Option.{option_map_or}
 use Rattle.std.specs.Ordering.{nat_cmp}
 use Rattle.std.proofs.lemmas.Bool.{cases_Bool, eqb-true, eq-eqb, true≢false}
 use Rattle.std.proofs.lemmas.List.Elements.{All-append, All-cons, All-nil}
-use Rattle.disk_batch.specs.InTurn.{HasFirstBatches, Put}
-use Rattle.disk_batch.proofs.FrontBatches.{KeepsSector, front_kept}
-use Rattle.disk_model.specs.Steps.{Image}
-use Rattle.extent_alloc.specs.declared.part.Part.{Part}
 use Rattle.lvm_script.specs.declared.line.Line.{Line}
+use Rattle.disk_model.specs.Steps.{Image}
+use Rattle.pv_header.specs.declared.header.PvHeader.{PvHeader}
 use Rattle.meta_model.specs.declared.group.Group.{Group}
 use Rattle.meta_model.specs.declared.pv.Pv.{Pv}
-use Rattle.pv_header.specs.declared.header.PvHeader.{PvHeader}
+use Rattle.extent_alloc.specs.declared.part.Part.{Part}
 use Rattle.scan_rules.specs.Decision.{AreaReading, Copy, Found as PvOf, HoldsNone, Reading, Refused, SamePv, first_duplicate, ids_from, is_listed, is_something, lists, same_bytes}
 use Rattle.scan_rules.proofs.Scanning.{same_bytes_tells, same_bytes_to}
 use Rattle.scan_rules.proofs.SameShape.{ids_same}
+use Rattle.disk_batch.specs.InTurn.{HasFirstBatches, Put}
+use Rattle.disk_batch.proofs.FrontBatches.{KeepsSector, front_kept}
 use Rattle.vg_found.specs.declared.disk.Disk.{Disk}
 use Rattle.vg_found.specs.declared.found.Found.{Found}
 use Rattle.vg_found.specs.Disks.{disk_with, disks_of, has_header_id, header_on, pv_shape, shapes}
 use Rattle.vg_scan.specs.Readings.{IsDiskReading}
-use Rattle.group_ops.proofs.Disks.{disk_with_own}
-use Rattle.group_ops.proofs.Passed.{absent, both_false}
-use Rattle.group_ops.specs.Judging.{set_of}
+use Rattle.group_plan.proofs.Disks.{disk_with_own}
+use Rattle.group_plan.proofs.Passed.{absent, both_false}
+use Rattle.group_plan.specs.Judging.{set_of}
+use Rattle.group_plan.specs.declared.state.Change.{Change}
+use Rattle.group_plan.specs.declared.state.GroupState.{GroupState}
+use Rattle.group_plan.specs.declared.state.NewLabel.{NewLabel}
+use Rattle.group_plan.specs.declared.backup.Backup.{Backup}
+use Rattle.pv_plans.specs.Pvcreate.{new_label}
 use Rattle.group_ops.specs.Laws.{state_in}
 use Rattle.group_ops.specs.Planning.{change_of}
-use Rattle.group_ops.specs.Pvcreate.{new_label}
-use Rattle.group_ops.specs.declared.state.Change.{Change}
-use Rattle.group_ops.specs.declared.state.GroupState.{GroupState}
-use Rattle.group_ops.specs.declared.state.NewLabel.{NewLabel}
 use Rattle.vg_change.specs.Batches.{area_puts, areas_of, batch_if, batches_of, commit_batches, label_put, new_area_puts}
 use Rattle.vg_change.proofs.LabelPuts.{all_if, labels_keep_other}
 use Rattle.vg_change.proofs.LineLabels.{new_labels_are, new_near}
@@ -44,7 +45,6 @@ use Rattle.image_scans.proofs.Quiet.{IsNewId, IsQuiet, one_apart, one_quiet}
 use Rattle.image_scans.proofs.QuietVersion.{SameDisks, quiet_version}
 use Rattle.image_scans.proofs.ReadingShapes.{gives_at, gives_on, pv_shaped}
 use Rattle.image_scans.proofs.SettledBase.{IsSettledScan, settled_none, settled_some}
-use Rattle.group_ops.specs.declared.backup.Backup.{Backup}
 
 -- ---- a disk that isn't listed
 

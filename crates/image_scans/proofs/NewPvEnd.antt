@@ -7,37 +7,38 @@ use Rattle.std.specs.Option.{option_and_then}
 use Rattle.std.proofs.lemmas.Bool.{true≢false}
 use Rattle.std.proofs.lemmas.Bool.Decides.{nat_tests}
 use Rattle.std.proofs.lemmas.List.Elements.{All-append, All-cons, All-from_recursion, All-head, All-nil, recursion_from_All}
-use Rattle.disk_batch.specs.InTurn.{HasFirstBatches, with_batches}
-use Rattle.disk_batch.proofs.FrontBatches.{KeepsSector, front_kept, keeps_sector}
-use Rattle.disk_model.specs.Steps.{Image}
-use Rattle.extent_alloc.specs.declared.part.Part.{Part}
 use Rattle.lvm_script.specs.declared.line.Line.{Line}
-use Rattle.mda_header.specs.declared.entry.Entry.TheVariants.{Nothing}
-use Rattle.mda_header.specs.Header.{IsHeader}
-use Rattle.meta_model.specs.declared.group.Group.{Group}
+use Rattle.disk_model.specs.Steps.{Image}
+use Rattle.pv_label.specs.Label.{IsFirstLabel, IsLabel}
+use Rattle.pv_label.specs.LabelSectors.{first_four}
 use Rattle.pv_header.specs.declared.extent_list.Extent.{Extent}
 use Rattle.pv_header.specs.declared.header.PvHeader.{PvHeader}
 use Rattle.pv_header.specs.Areas.{CanLie, end_of, first_overlap, is_outside, next_start, shares_byte}
-use Rattle.pv_label.specs.Label.{IsFirstLabel, IsLabel}
-use Rattle.pv_label.specs.LabelSectors.{first_four}
+use Rattle.mda_header.specs.declared.entry.Entry.TheVariants.{Nothing}
+use Rattle.mda_header.specs.Header.{IsHeader}
+use Rattle.meta_model.specs.declared.group.Group.{Group}
+use Rattle.extent_alloc.specs.declared.part.Part.{Part}
+use Rattle.scan_rules.specs.Decision.{Area as AreaOf, Found as PvOf, HoldsNone, Reading, has_id, lists, same_bytes}
+use Rattle.disk_batch.specs.InTurn.{HasFirstBatches, with_batches}
+use Rattle.disk_batch.proofs.FrontBatches.{KeepsSector, front_kept, keeps_sector}
 use Rattle.disk_contents.specs.declared.contents.AreaFound.{AreaFound}
 use Rattle.disk_contents.specs.declared.contents.PvFound.{PvFound}
 use Rattle.disk_contents.specs.declared.contents.PvFound.TheVariants.{NoLabel, NoHeader, Whole}
 use Rattle.disk_contents.specs.Contents.{IsAreaFound, IsFound}
-use Rattle.scan_rules.specs.Decision.{Area as AreaOf, Found as PvOf, HoldsNone, Reading, has_id, lists, same_bytes}
-use Rattle.vg_commit.specs.Showing.{sectors_of}
 use Rattle.vg_found.specs.declared.disk.Disk.{Disk}
 use Rattle.vg_found.specs.declared.found.Found.{Found}
 use Rattle.vg_found.specs.Disks.{has_header_id, header_on, pv_shape, shapes}
 use Rattle.vg_scan.specs.Readings.{AreAreaReadings, IsContents, IsDiskReading}
-use Rattle.group_ops.proofs.Passed.{both_false}
-use Rattle.group_ops.specs.Ids.{has_other_id, has_pv_id}
+use Rattle.vg_commit.specs.Showing.{sectors_of}
+use Rattle.group_plan.proofs.Passed.{both_false}
+use Rattle.group_plan.specs.Ids.{has_other_id, has_pv_id}
+use Rattle.group_plan.specs.declared.state.Change.{Change}
+use Rattle.group_plan.specs.declared.state.GroupState.{GroupState}
+use Rattle.group_plan.specs.declared.state.NewLabel.{NewLabel}
+use Rattle.group_plan.specs.declared.backup.Backup.{Backup}
+use Rattle.pv_plans.specs.Pvcreate.{group_has, label_in, new_label}
 use Rattle.group_ops.specs.Laws.{state_in}
 use Rattle.group_ops.specs.Planning.{change_of}
-use Rattle.group_ops.specs.Pvcreate.{group_has, label_in, new_label}
-use Rattle.group_ops.specs.declared.state.Change.{Change}
-use Rattle.group_ops.specs.declared.state.GroupState.{GroupState}
-use Rattle.group_ops.specs.declared.state.NewLabel.{NewLabel}
 use Rattle.vg_change.specs.Batches.{area_puts, areas_of, batch_if, batches_of, commit_batches, empty_area, label_put, new_area_puts}
 use Rattle.vg_change.specs.Laws.{HasLabel, HoldsAfter}
 use Rattle.vg_change.proofs.LabelPuts.{all_if, label_where}
@@ -53,7 +54,6 @@ use Rattle.image_scans.proofs.Lines.{MakesPv}
 use Rattle.image_scans.proofs.NewPv.{OtherIds, each_other, quiet_before, with_disk}
 use Rattle.image_scans.proofs.OneArea.{entry_nothing}
 use Rattle.image_scans.proofs.Quiet.{IsQuiet}
-use Rattle.group_ops.specs.declared.backup.Backup.{Backup}
 
 -- ---- empty areas
 

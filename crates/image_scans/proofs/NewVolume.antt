@@ -16,16 +16,16 @@ use Rattle.vg_found.specs.Whole.{IsWhole}
 use Rattle.vg_found.specs.declared.found.Found.{Found}
 use Rattle.group_edits.proofs.FirstSectors.{Beginning, beginning}
 use Rattle.group_edits.specs.NewVolume.{MayHave}
-use Rattle.group_ops.proofs.CreatedVolume.{Creates, creates}
-use Rattle.group_ops.proofs.Creating.{zeroed_is}
-use Rattle.group_ops.specs.Allocating.{Takes}
-use Rattle.group_ops.specs.Judging.{first_refusal}
+use Rattle.group_plan.specs.Judging.{first_refusal}
+use Rattle.group_plan.specs.State.{IsState}
+use Rattle.group_plan.specs.declared.state.Change.{Change}
+use Rattle.group_plan.specs.declared.state.GroupState.{GroupState}
+use Rattle.group_plan.specs.declared.backup.Backup.{Backup}
+use Rattle.lv_plans.proofs.CreatedVolume.{Creates, creates}
+use Rattle.lv_plans.proofs.Creating.{zeroed_is}
+use Rattle.lv_plans.specs.Allocating.{Takes}
+use Rattle.lv_plans.specs.Lvcreate.{IsNewVolume, create_asks, create_in_rows, eight_from, kind_for, lvcreate_change, zeroed_at}
 use Rattle.group_ops.specs.Laws.{state_in}
-use Rattle.group_ops.specs.Lvcreate.{IsNewVolume, create_asks, create_in_rows, eight_from, kind_for, lvcreate_change, zeroed_at}
-use Rattle.group_ops.specs.State.{IsState}
-use Rattle.group_ops.specs.declared.state.Change.{Change}
-use Rattle.group_ops.specs.declared.state.GroupState.{GroupState}
-use Rattle.group_ops.specs.declared.backup.Backup.{Backup}
 use Rattle.image_scans.specs.Laws.{IsFree, ZeroesLie, in_spans}
 use Rattle.image_scans.proofs.NewPlaces.{first_free}
 use Rattle.image_scans.proofs.NoWrites.{found_listed, found_placed, found_there}

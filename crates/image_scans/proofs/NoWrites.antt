@@ -7,44 +7,46 @@ use Rattle.std.specs.Option.{option_map_or}
 use Rattle.std.proofs.lemmas.List.Elements.{All-append, All-cons, All-filter, All-nil}
 use Rattle.std.proofs.lemmas.Option.{same_Some}
 use Rattle.sector_base.specs.declared.places.At.{At}
-use Rattle.conf_text.specs.Printed.{printed}
-use Rattle.disk_batch.specs.InTurn.{HasFirstBatches, Put}
-use Rattle.disk_batch.specs.Writes.{IsWrittenBy}
-use Rattle.disk_batch.proofs.FrontBatches.{KeepsSector, front_kept, keeps_sector}
-use Rattle.disk_model.specs.Steps.{Image}
-use Rattle.extent_alloc.specs.declared.part.Part.{Part}
 use Rattle.lvm_script.specs.declared.line.Line.{Line}
+use Rattle.disk_model.specs.Steps.{Image}
+use Rattle.pv_header.specs.declared.extent_list.Extent.{Extent}
 use Rattle.mda_header.specs.declared.header.Locn.{Locn}
 use Rattle.mda_ring.specs.declared.area.Area.{Area}
+use Rattle.conf_text.specs.Printed.{printed}
 use Rattle.meta_model.specs.declared.group.Group.{Group}
 use Rattle.meta_model.specs.declared.lv.Lv.{Lv}
 use Rattle.meta_model.specs.declared.pv.Pv.{Pv}
 use Rattle.meta_print.specs.Layout.{tree_of}
-use Rattle.pv_header.specs.declared.extent_list.Extent.{Extent}
-use Rattle.disk_contents.specs.declared.contents.AreaFound.{AreaFound}
-use Rattle.disk_contents.specs.declared.contents.PvFound.{PvFound}
-use Rattle.disk_contents.specs.Standing.{area_on}
-use Rattle.scan_rules.specs.Decision.{first_misplaced}
-use Rattle.scan_rules.specs.Found.{missing_of}
 use Rattle.volume_rules.specs.Extents.{extents_of}
 use Rattle.volume_rules.specs.Rules.{IsAccepted}
 use Rattle.volume_view.specs.Places.{primary}
 use Rattle.volume_view.specs.View.{at_place, view}
 use Rattle.volume_view.proofs.Views.{view_reads_primaries}
+use Rattle.extent_alloc.specs.declared.part.Part.{Part}
+use Rattle.scan_rules.specs.Decision.{first_misplaced}
+use Rattle.scan_rules.specs.Found.{missing_of}
+use Rattle.disk_batch.specs.InTurn.{HasFirstBatches, Put}
+use Rattle.disk_batch.specs.Writes.{IsWrittenBy}
+use Rattle.disk_batch.proofs.FrontBatches.{KeepsSector, front_kept, keeps_sector}
+use Rattle.disk_contents.specs.declared.contents.AreaFound.{AreaFound}
+use Rattle.disk_contents.specs.declared.contents.PvFound.{PvFound}
+use Rattle.disk_contents.specs.Standing.{area_on}
 use Rattle.vg_found.specs.declared.disk.Disk.{Disk}
 use Rattle.vg_found.specs.declared.found.Found.{Found}
 use Rattle.vg_found.specs.Disks.{areas_on, disk_with, disks_of, shapes}
 use Rattle.vg_found.specs.Shape.{ContentsCanStand, HasShape}
 use Rattle.vg_found.specs.Whole.{IsWhole}
 use Rattle.vg_found.proofs.KeptLists.{all_kept}
-use Rattle.group_ops.proofs.Passed.{absent}
-use Rattle.group_ops.specs.Judging.{lies_on as is_on, set_of}
+use Rattle.vg_commit.proofs.Disks.{no_area}
+use Rattle.group_plan.proofs.Passed.{absent}
+use Rattle.group_plan.specs.Judging.{lies_on as is_on, set_of}
+use Rattle.group_plan.specs.declared.state.Change.{Change}
+use Rattle.group_plan.specs.declared.state.GroupState.{GroupState}
+use Rattle.group_plan.specs.declared.state.NewLabel.{NewLabel}
+use Rattle.group_plan.specs.declared.backup.Backup.{Backup}
+use Rattle.pv_plans.specs.Pvcreate.{new_label}
 use Rattle.group_ops.specs.Laws.{state_in}
 use Rattle.group_ops.specs.Planning.{change_of}
-use Rattle.group_ops.specs.Pvcreate.{new_label}
-use Rattle.group_ops.specs.declared.state.Change.{Change}
-use Rattle.group_ops.specs.declared.state.GroupState.{GroupState}
-use Rattle.group_ops.specs.declared.state.NewLabel.{NewLabel}
 use Rattle.vg_change.specs.Batches.{area_puts, areas_of, batch_if, batches_of, commit_batches, label_put, new_area_puts}
 use Rattle.vg_change.proofs.LabelPuts.{all_if, label_where, labels_keep_other}
 use Rattle.vg_change.proofs.LineLabels.{new_labels_are, new_near}
@@ -57,9 +59,7 @@ use Rattle.image_scans.proofs.FoundAreas.{IsHeldOn, all_held, entry_kept}
 use Rattle.image_scans.proofs.Front.{AnyWrites}
 use Rattle.image_scans.proofs.Lines.{LineMakes, MakesPv, line_makes, makes_nothing, makes_pv, makes_version}
 use Rattle.image_scans.proofs.Placed.{IsPlaceOn, extent_beside, primary_in_extents}
-use Rattle.vg_commit.proofs.Disks.{no_area}
 use Rattle.image_scans.proofs.SettledBase.{IsSettledScan, settled_none, settled_some}
-use Rattle.group_ops.specs.declared.backup.Backup.{Backup}
 
 -- ---- lists
 

@@ -8,6 +8,8 @@ use Rattle.std.proofs.lemmas.Bool.{cases_Bool, false≢true, or_cases}
 use Rattle.std.proofs.lemmas.List.Elements.{recursion_from_All}
 use Rattle.std.proofs.lemmas.Option.{same_Some}
 use Rattle.disk_model.specs.Steps.{Image}
+use Rattle.pv_header.specs.declared.extent_list.Extent.{Extent}
+use Rattle.pv_header.specs.declared.header.PvHeader.{PvHeader}
 use Rattle.mda_header.proofs.OneEntry.{one_entry}
 use Rattle.mda_header.specs.Header.{IsEntry}
 use Rattle.mda_header.specs.declared.entry.Entry.{Entry}
@@ -16,25 +18,23 @@ use Rattle.mda_header.specs.declared.header.Locn.{Locn}
 use Rattle.mda_ring.specs.declared.area.Area.{Area}
 use Rattle.meta_model.specs.declared.group.Group.{Group}
 use Rattle.meta_model.specs.declared.pv.Pv.{Pv}
-use Rattle.pv_header.specs.declared.extent_list.Extent.{Extent}
-use Rattle.pv_header.specs.declared.header.PvHeader.{PvHeader}
+use Rattle.scan_rules.specs.Decision.{Area as AreaOf, AreaReading, Found as PvOf, HoldsNone, Reading, gives, holds, is_held, is_listed, lists, same_bytes}
+use Rattle.scan_rules.proofs.Scanning.{same_bytes_tells}
 use Rattle.disk_contents.specs.Contents.{IsAreaFound}
 use Rattle.disk_contents.specs.declared.contents.AreaFound.{AreaFound}
 use Rattle.disk_contents.specs.declared.contents.PvFound.{PvFound}
 use Rattle.disk_contents.specs.declared.contents.PvFound.TheVariants.{NoLabel, NoHeader, Whole}
 use Rattle.disk_contents.specs.Standing.{area_on}
-use Rattle.scan_rules.specs.Decision.{Area as AreaOf, AreaReading, Found as PvOf, HoldsNone, Reading, gives, holds, is_held, is_listed, lists, same_bytes}
-use Rattle.scan_rules.proofs.Scanning.{same_bytes_tells}
 use Rattle.vg_found.specs.declared.disk.Disk.{Disk}
 use Rattle.vg_found.specs.Disks.{areas_on, disk_with, disks_of, held_area, held_areas, header_on}
+use Rattle.vg_scan.specs.Readings.{AreAreaReadings, AreDiskReadings, IsAreaReading, IsContents, IsDiskReading, IsGiven, IsPvReading}
 use Rattle.vg_commit.specs.Showing.{sectors_of}
 use Rattle.vg_commit.specs.Written.{header_of}
-use Rattle.group_ops.proofs.Passed.{absent}
-use Rattle.group_ops.specs.Cleared.{cleared_areas}
-use Rattle.group_ops.specs.Judging.{lies_on, set_of}
+use Rattle.group_plan.proofs.Passed.{absent}
+use Rattle.group_plan.specs.Cleared.{cleared_areas}
+use Rattle.group_plan.specs.Judging.{lies_on, set_of}
 use Rattle.vg_change.proofs.Filtered.{each_of_filtered}
 use Rattle.vg_change.specs.Laws.{IsEmpty}
-use Rattle.vg_scan.specs.Readings.{AreAreaReadings, AreDiskReadings, IsAreaReading, IsContents, IsDiskReading, IsGiven, IsPvReading}
 use Rattle.image_scans.proofs.Again.{AreasAgain, DisksAgain, GivesAgain, PvAgain}
 use Rattle.image_scans.proofs.ClearedAgain.{any_bare}
 use Rattle.image_scans.proofs.FoundAreas.{entry_kept, of_held}

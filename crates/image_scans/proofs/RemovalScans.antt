@@ -27,14 +27,14 @@ use Rattle.vg_found.specs.Shape.{HasShape}
 use Rattle.vg_found.specs.Whole.{IsWhole}
 use Rattle.vg_scan.specs.Scans.{IsFoundBy, IsScanOf}
 use Rattle.vg_scan.specs.Texts.{IsCopyOf}
-use Rattle.group_ops.specs.Committing.{rows_where_found}
-use Rattle.group_ops.specs.Judging.{first_refusal, set_of}
+use Rattle.group_plan.specs.Committing.{rows_where_found}
+use Rattle.group_plan.specs.Judging.{first_refusal, set_of}
+use Rattle.group_plan.specs.declared.state.GroupState.{GroupState}
+use Rattle.group_plan.proofs.Disks.{disk_with_own}
+use Rattle.group_plan.specs.declared.backup.Backup.{Backup}
+use Rattle.vg_plans.specs.Vgremove.{remove_rows}
 use Rattle.group_ops.specs.Laws.{state_in}
 use Rattle.group_ops.specs.Planning.{change_of, refusal_of as line_refusal}
-use Rattle.group_ops.specs.Vgremove.{remove_rows}
-use Rattle.group_ops.specs.declared.state.GroupState.{GroupState}
-use Rattle.group_ops.proofs.Disks.{disk_with_own}
-use Rattle.group_ops.specs.declared.backup.Backup.{Backup}
 use Rattle.vg_change.proofs.ClearedAreas.{state_scanned}
 use Rattle.vg_change.specs.Batches.{clear_batches, clears_of}
 use Rattle.vg_change.specs.Building.{AreScanned}

@@ -5,19 +5,19 @@ use Rattle.std.proofs.lemmas.List.Elements.{recursion_from_All}
 use Rattle.meta_model.specs.Standing.{HasTree}
 use Rattle.meta_model.specs.declared.group.Group.{Group}
 use Rattle.meta_model.specs.declared.pv.Pv.{Pv}
+use Rattle.volume_rules.specs.Rules.{IsAccepted}
 use Rattle.scan_rules.specs.Decision.{Reading, has_id}
 use Rattle.scan_rules.specs.Found.{is_missing}
-use Rattle.volume_rules.specs.Rules.{IsAccepted}
 use Rattle.vg_found.specs.Disks.{disk_shape, disk_with, disks_of, has_header_id, header_on, shapes}
 use Rattle.vg_found.specs.declared.disk.Disk.{Disk}
 use Rattle.vg_found.specs.declared.found.Found.{Found}
 use Rattle.group_edits.specs.RestoredGroup.{found_pv, restored_group}
-use Rattle.group_ops.proofs.Restoring.{Restores}
-use Rattle.group_ops.specs.Added.{added_of}
-use Rattle.group_ops.specs.NewGroup.{change_with, extended}
-use Rattle.group_ops.specs.State.{IsState}
-use Rattle.group_ops.specs.declared.state.Change.{Change}
-use Rattle.group_ops.specs.declared.state.GroupState.{GroupState}
+use Rattle.group_plan.specs.Added.{added_of}
+use Rattle.group_plan.specs.NewGroup.{change_with, extended}
+use Rattle.group_plan.specs.State.{IsState}
+use Rattle.group_plan.specs.declared.state.Change.{Change}
+use Rattle.group_plan.specs.declared.state.GroupState.{GroupState}
+use Rattle.vg_plans.proofs.Restoring.{Restores}
 use Rattle.vg_change.proofs.Sound.{version_on}
 use Rattle.image_scans.proofs.CommitCommands.{Commits, old_whole}
 use Rattle.image_scans.proofs.CommitScans.{IsNext}

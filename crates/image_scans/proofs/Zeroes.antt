@@ -29,14 +29,14 @@ use Rattle.vg_found.specs.Shape.{HasShape}
 use Rattle.vg_found.specs.Whole.{IsWhole}
 use Rattle.vg_scan.specs.Scans.{IsScanOf}
 use Rattle.vg_commit.specs.Showing.{Names}
+use Rattle.group_plan.specs.State.{IsState}
+use Rattle.group_plan.specs.declared.state.Change.{Change}
+use Rattle.group_plan.specs.declared.backup.Backup.{Backup}
+use Rattle.lv_plans.specs.Allocating.{Takes}
 use Rattle.group_ops.proofs.NextVersions.{drawn_is, zeroes}
 use Rattle.group_ops.proofs.NoZeros.{none_zeroed}
 use Rattle.group_ops.specs.Laws.{state_in}
-use Rattle.group_ops.specs.Allocating.{Takes}
 use Rattle.group_ops.specs.Planning.{IsPlanned, asks_of, change_of, refusal_of}
-use Rattle.group_ops.specs.State.{IsState}
-use Rattle.group_ops.specs.declared.state.Change.{Change}
-use Rattle.group_ops.specs.declared.backup.Backup.{Backup}
 use Rattle.vg_change.specs.Batches.{batch_if, batches_of, zero_put, zeros_of}
 use Rattle.vg_change.specs.Laws.{ShowsEntries}
 use Rattle.image_scans.specs.Laws.{CanCarryOut, LiesInExtents, ZeroesLie, in_spans}

@@ -40,31 +40,32 @@ use Rattle.group_edits.specs.ShortenedVolume.{shortened, shortened_volume}
 use Rattle.group_edits.specs.Visible.{visible_named}
 use Rattle.group_edits.specs.ReducedGroup.{has_leg_on_pv, reduced_group as without_pv}
 use Rattle.group_edits.specs.RestoredGroup.{restored_group}
-use Rattle.group_ops.specs.Added.{added_of, disks_added, pv_of}
-use Rattle.group_ops.specs.Allocating.{Takes}
-use Rattle.group_ops.specs.Committing.{named_rows, no_change, version_change}
-use Rattle.group_ops.specs.Judging.{first_refusal}
+use Rattle.group_plan.specs.Added.{added_of, disks_added, pv_of}
+use Rattle.group_plan.specs.Committing.{named_rows, no_change, version_change}
+use Rattle.group_plan.specs.Judging.{first_refusal}
+use Rattle.group_plan.specs.NewGroup.{extended, free_number, names_in, pv_name, with_added}
+use Rattle.group_plan.specs.declared.added.Added.{Added}
+use Rattle.group_plan.specs.declared.state.Change.{Change}
+use Rattle.group_plan.specs.declared.state.GroupState.{GroupState}
+use Rattle.group_plan.specs.declared.backup.Backup.{Backup}
+use Rattle.vg_plans.specs.Vgextend.{extend_by}
+use Rattle.vg_plans.specs.Vgcreate.{empty_group}
+use Rattle.vg_plans.proofs.Leaving.{LeavesNext, leaves_next}
+use Rattle.vg_plans.specs.Vgreduce.{vgreduce_change}
+use Rattle.vg_plans.proofs.Restoring.{Restores, restores, sound_tree}
+use Rattle.vg_plans.specs.Vgcfgrestore.{vgcfgrestore_change}
+use Rattle.lv_plans.specs.Allocating.{Takes}
+use Rattle.lv_plans.proofs.CreatedVolume.{Creates, creates}
+use Rattle.lv_plans.specs.Lvcreate.{created_group, kind_for}
+use Rattle.lv_plans.specs.Lvextend.{extend_in_rows, extend_lv_rows, lengthen_rows}
+use Rattle.lv_plans.specs.Sizes.{kept_by}
+use Rattle.lv_plans.specs.Lvreduce.{reduce_change, reduce_in_rows, reduce_lv_rows, reduced_group}
+use Rattle.lv_plans.specs.Lvremove.{remove_change, remove_in_rows, remove_lv_rows}
+use Rattle.lv_plans.specs.Lvrename.{rename_in_rows, rename_lv_rows}
+use Rattle.lv_plans.specs.Volumes.{rows_on}
 use Rattle.group_ops.specs.Laws.{state_in}
-use Rattle.group_ops.proofs.CreatedVolume.{Creates, creates}
 use Rattle.group_ops.proofs.NextVersions.{drawn_is}
-use Rattle.group_ops.specs.Lvcreate.{created_group, kind_for}
-use Rattle.group_ops.specs.Lvextend.{extend_in_rows, extend_lv_rows, lengthen_rows}
-use Rattle.group_ops.specs.Sizes.{kept_by}
-use Rattle.group_ops.specs.Lvreduce.{reduce_change, reduce_in_rows, reduce_lv_rows, reduced_group}
-use Rattle.group_ops.specs.Lvremove.{remove_change, remove_in_rows, remove_lv_rows}
-use Rattle.group_ops.specs.Lvrename.{rename_in_rows, rename_lv_rows}
-use Rattle.group_ops.specs.NewGroup.{extended, free_number, names_in, pv_name, with_added}
-use Rattle.group_ops.specs.Planning.{IsBackupOf, IsPlanned, asks_of, change_of, extend_by, refusal_of}
-use Rattle.group_ops.specs.Vgcreate.{empty_group}
-use Rattle.group_ops.specs.Volumes.{rows_on}
-use Rattle.group_ops.specs.declared.added.Added.{Added}
-use Rattle.group_ops.specs.declared.state.Change.{Change}
-use Rattle.group_ops.specs.declared.state.GroupState.{GroupState}
-use Rattle.group_ops.proofs.Leaving.{LeavesNext, leaves_next}
-use Rattle.group_ops.specs.Vgreduce.{vgreduce_change}
-use Rattle.group_ops.specs.declared.backup.Backup.{Backup}
-use Rattle.group_ops.proofs.Restoring.{Restores, restores, sound_tree}
-use Rattle.group_ops.specs.Vgcfgrestore.{vgcfgrestore_change}
+use Rattle.group_ops.specs.Planning.{IsBackupOf, IsPlanned, asks_of, change_of, refusal_of}
 use Rattle.image_scans.specs.Laws.{CanCarryOut, version_of}
 use Rattle.image_scans.specs.Versions.{Version, version_in}
 use Rattle.image_scans.proofs.CommitLine.{settled}

@@ -8,35 +8,35 @@ use Rattle.std.proofs.lemmas.Bool.{cases_Bool, false_from_ne_true, true≢false}
 use Rattle.std.proofs.lemmas.List.{length-map}
 use Rattle.std.proofs.lemmas.List.Elements.{All-contains, All-from_recursion, recursion_from_All}
 use Rattle.std.proofs.lemmas.Option.{same_Some, slice_get_within}
-use Rattle.conf_text.specs.Printed.{printed}
-use Rattle.disk_batch.specs.InTurn.{HasFirstBatches, with_batches}
-use Rattle.disk_model.specs.Steps.{Image}
-use Rattle.disk_contents.specs.Standing.{area_on}
-use Rattle.disk_contents.specs.declared.contents.AreaFound.{AreaFound}
-use Rattle.extent_alloc.specs.declared.part.Part.{Part}
 use Rattle.lvm_script.specs.declared.line.Line.{Line}
+use Rattle.disk_model.specs.Steps.{Image}
 use Rattle.mda_header.specs.declared.header.Locn.{Locn}
 use Rattle.mda_ring.specs.declared.area.Area.{Area}
+use Rattle.conf_text.specs.Printed.{printed}
 use Rattle.meta_model.specs.declared.group.Group.{Group}
 use Rattle.meta_print.specs.Layout.{tree_of}
+use Rattle.extent_alloc.specs.declared.part.Part.{Part}
 use Rattle.scan_rules.specs.Decision.{AreaReading, Copy, Reading, lists}
-use Rattle.vg_commit.specs.SectorReading.{ShowsBy, new_reading}
+use Rattle.disk_batch.specs.InTurn.{HasFirstBatches, with_batches}
+use Rattle.disk_contents.specs.Standing.{area_on}
+use Rattle.disk_contents.specs.declared.contents.AreaFound.{AreaFound}
 use Rattle.vg_found.specs.Disks.{areas_on, held_area}
 use Rattle.vg_found.specs.declared.disk.Disk.{Disk}
 use Rattle.vg_found.specs.declared.found.Found.{Found}
 use Rattle.vg_scan.specs.Readings.{IsDiskReading}
 use Rattle.vg_scan.specs.Scans.{IsScanOf}
 use Rattle.vg_scan.specs.Texts.{IsCopyOf}
-use Rattle.group_ops.specs.Judging.{lies_on as is_on, set_of}
+use Rattle.vg_commit.specs.SectorReading.{ShowsBy, new_reading}
+use Rattle.group_plan.specs.Judging.{lies_on as is_on, set_of}
+use Rattle.group_plan.specs.declared.backup.Backup.{Backup}
+use Rattle.group_plan.specs.declared.state.Change.{Change}
+use Rattle.group_plan.specs.declared.state.GroupState.{GroupState}
+use Rattle.group_plan.proofs.Passed.{absent}
 use Rattle.group_ops.specs.Laws.{state_in}
 use Rattle.group_ops.specs.Planning.{change_of}
-use Rattle.group_ops.specs.declared.backup.Backup.{Backup}
-use Rattle.group_ops.specs.declared.state.Change.{Change}
-use Rattle.group_ops.specs.declared.state.GroupState.{GroupState}
 use Rattle.vg_change.specs.Batches.{batches_of, clears_of}
 use Rattle.vg_change.specs.Building.{AreScanned}
 use Rattle.vg_change.specs.Laws.{HoldsAfter}
-use Rattle.group_ops.proofs.Passed.{absent}
 use Rattle.vg_change.proofs.ClearedAreas.{state_scanned}
 use Rattle.vg_change.proofs.KeptImages.{of_passed}
 use Rattle.image_scans.proofs.ClearedAgain.{others_same}

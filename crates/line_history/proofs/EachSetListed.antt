@@ -24,20 +24,21 @@ use Rattle.vg_found.specs.Shape.{HasShape}
 use Rattle.vg_found.specs.declared.disk.Disk.{Disk}
 use Rattle.vg_found.specs.declared.found.Found.{Found}
 use Rattle.vg_scan.specs.Readings.{IsDiskReading, IsPvReading}
-use Rattle.group_ops.proofs.Disks.{disk_with_own}
-use Rattle.group_ops.proofs.Leaving.{LeavesNext, leaves_next}
+use Rattle.group_plan.proofs.Disks.{disk_with_own}
+use Rattle.group_plan.proofs.Passed.{absent}
+use Rattle.group_plan.specs.Added.{added_of, disks_added}
+use Rattle.group_plan.specs.Judging.{first_refusal, set_of}
+use Rattle.group_plan.specs.declared.backup.Backup.{Backup}
+use Rattle.group_plan.specs.declared.state.Change.{Change}
+use Rattle.group_plan.specs.declared.state.GroupState.{GroupState}
+use Rattle.vg_plans.proofs.Leaving.{LeavesNext, leaves_next}
+use Rattle.vg_plans.proofs.Restoring.{Restores, restores}
+use Rattle.vg_plans.specs.Vgextend.{extend_by}
+use Rattle.vg_plans.specs.Vgcfgrestore.{vgcfgrestore_change, vgcfgrestore_rows}
+use Rattle.lv_plans.specs.Allocating.{Takes}
 use Rattle.group_ops.proofs.NextVersions.{append_nil, commits_next, is_next}
-use Rattle.group_ops.proofs.Passed.{absent}
-use Rattle.group_ops.proofs.Restoring.{Restores, restores}
-use Rattle.group_ops.specs.Added.{added_of, disks_added}
-use Rattle.group_ops.specs.Allocating.{Takes}
-use Rattle.group_ops.specs.Judging.{first_refusal, set_of}
 use Rattle.group_ops.specs.Laws.{state_in}
-use Rattle.group_ops.specs.Planning.{IsBackupOf, IsPlanned, asks_of, change_of, extend_by, refusal_of}
-use Rattle.group_ops.specs.Vgcfgrestore.{vgcfgrestore_change, vgcfgrestore_rows}
-use Rattle.group_ops.specs.declared.backup.Backup.{Backup}
-use Rattle.group_ops.specs.declared.state.Change.{Change}
-use Rattle.group_ops.specs.declared.state.GroupState.{GroupState}
+use Rattle.group_ops.specs.Planning.{IsBackupOf, IsPlanned, asks_of, change_of, refusal_of}
 use Rattle.vg_change.proofs.DiskSets.{of_set}
 use Rattle.image_scans.proofs.CommitLine.{settled}
 use Rattle.image_scans.proofs.Given.{IsNone, IsSettled, PvGives, pv_weaker}

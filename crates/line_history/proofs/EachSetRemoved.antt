@@ -19,14 +19,14 @@ use Rattle.vg_found.specs.declared.found.Found.{Found}
 use Rattle.vg_scan.specs.Readings.{IsDiskReading}
 use Rattle.vg_scan.specs.Scans.{IsScanOf}
 use Rattle.vg_scan.specs.Texts.{IsCopyOf}
-use Rattle.group_ops.proofs.Passed.{absent}
-use Rattle.group_ops.specs.Committing.{rows_where_found}
-use Rattle.group_ops.specs.Judging.{first_refusal, set_of}
+use Rattle.group_plan.proofs.Passed.{absent}
+use Rattle.group_plan.specs.Committing.{rows_where_found}
+use Rattle.group_plan.specs.Judging.{first_refusal, set_of}
+use Rattle.group_plan.specs.declared.backup.Backup.{Backup}
+use Rattle.group_plan.specs.declared.state.GroupState.{GroupState}
+use Rattle.vg_plans.specs.Vgremove.{remove_rows}
 use Rattle.group_ops.specs.Laws.{state_in}
 use Rattle.group_ops.specs.Planning.{change_of, refusal_of}
-use Rattle.group_ops.specs.Vgremove.{remove_rows}
-use Rattle.group_ops.specs.declared.backup.Backup.{Backup}
-use Rattle.group_ops.specs.declared.state.GroupState.{GroupState}
 use Rattle.vg_change.specs.Batches.{clears_of}
 use Rattle.vg_change.specs.Building.{AreScanned}
 use Rattle.vg_change.proofs.ClearedAreas.{state_scanned}

@@ -11,18 +11,18 @@ use Rattle.scan_rules.proofs.Scanning.{same_bytes_tells}
 use Rattle.scan_rules.specs.Decision.{lists, same_bytes}
 use Rattle.vg_found.specs.Disks.{disks_of}
 use Rattle.group_edits.specs.RestoredGroup.{restored_group}
-use Rattle.group_ops.proofs.Chained.{back_passes, front_passes}
-use Rattle.group_ops.proofs.Passed.{both_false}
-use Rattle.group_ops.proofs.Restoring.{Restores}
-use Rattle.group_ops.proofs.Rows.{none_holds, test_fails}
-use Rattle.group_ops.proofs.SoundBackup.{no_least, no_some}
-use Rattle.group_ops.specs.Committing.{length_row_on, named_rows, rows_where_found}
-use Rattle.group_ops.specs.Ids.{has_pv_id}
-use Rattle.group_ops.specs.Judging.{first_refusal}
-use Rattle.group_ops.specs.Vgcfgrestore.{id_lacked, ids_lacked, least_of, restore_rows, sound_rows, sound_tests, vgcfgrestore_change, vgcfgrestore_rows}
-use Rattle.group_ops.specs.declared.backup.Backup.{Backup}
-use Rattle.group_ops.specs.declared.backup.Backup.TheVariants.{Sound}
-use Rattle.group_ops.specs.declared.state.GroupState.{GroupState}
+use Rattle.group_plan.proofs.Chained.{back_passes, front_passes}
+use Rattle.group_plan.proofs.Passed.{both_false}
+use Rattle.group_plan.proofs.Rows.{none_holds, test_fails}
+use Rattle.group_plan.specs.Committing.{length_row_on, named_rows, rows_where_found}
+use Rattle.group_plan.specs.Ids.{has_pv_id}
+use Rattle.group_plan.specs.Judging.{first_refusal}
+use Rattle.group_plan.specs.declared.backup.Backup.{Backup}
+use Rattle.group_plan.specs.declared.backup.Backup.TheVariants.{Sound}
+use Rattle.group_plan.specs.declared.state.GroupState.{GroupState}
+use Rattle.vg_plans.proofs.Restoring.{Restores}
+use Rattle.vg_plans.proofs.SoundBackup.{no_least, no_some}
+use Rattle.vg_plans.specs.Vgcfgrestore.{id_lacked, ids_lacked, least_of, restore_rows, sound_rows, sound_tests, vgcfgrestore_change, vgcfgrestore_rows}
 
 -- ---- no id is lacked
 

@@ -17,10 +17,10 @@ use Rattle.disk_model.specs.Steps.{Told, steps_on}
 use Rattle.meta_model.specs.declared.group.Group.{Group}
 use Rattle.extent_alloc.specs.declared.part.Part.{Part}
 use Rattle.disk_batch.specs.InTurn.{Put, WritesInTurn}
+use Rattle.group_plan.specs.declared.state.GroupState.{GroupState}
 use Rattle.group_ops.proofs.NoClears.{clears}
 use Rattle.group_ops.specs.Laws.{state_in}
 use Rattle.group_ops.specs.Planning.{IsPlanned, change_of}
-use Rattle.group_ops.specs.declared.state.GroupState.{GroupState}
 use Rattle.vg_change.specs.Batches.{batch_if, zero_put}
 use Rattle.vg_repair.proofs.RepairedSizes.{repaired_count}
 use Rattle.vg_repair.specs.Repaired.{repaired_of}

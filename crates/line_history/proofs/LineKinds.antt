@@ -22,20 +22,20 @@ use Rattle.vg_found.specs.declared.disk.Disk.{Disk}
 use Rattle.group_edits.specs.ReducedGroup.{reduced_group as without_pv}
 use Rattle.group_edits.specs.RestoredGroup.{restored_group}
 use Rattle.group_edits.specs.NextVersion.{next_version}
-use Rattle.group_ops.proofs.Leaving.{leaves_next}
+use Rattle.group_plan.specs.Added.{added_of}
+use Rattle.group_plan.specs.Judging.{first_refusal}
+use Rattle.group_plan.specs.NewGroup.{extended}
+use Rattle.group_plan.specs.declared.state.Change.{Change}
+use Rattle.group_plan.specs.declared.state.GroupState.{GroupState}
+use Rattle.group_plan.specs.declared.state.NewLabel.{NewLabel}
+use Rattle.pv_plans.specs.Pvcreate.{disk_rows, label_in, label_sector, new_areas, new_label, pvcreate_change}
+use Rattle.vg_plans.proofs.Leaving.{leaves_next}
+use Rattle.vg_plans.proofs.Restoring.{restores}
+use Rattle.vg_plans.specs.Vgextend.{extend_by, found_rows}
+use Rattle.vg_plans.specs.Vgcreate.{empty_group}
+use Rattle.lv_plans.specs.Allocating.{Takes}
 use Rattle.group_ops.proofs.NextVersions.{commits_next, is_next}
-use Rattle.group_ops.proofs.Restoring.{restores}
-use Rattle.group_ops.specs.Added.{added_of}
-use Rattle.group_ops.specs.Allocating.{Takes}
-use Rattle.group_ops.specs.Judging.{first_refusal}
-use Rattle.group_ops.specs.NewGroup.{extended}
-use Rattle.group_ops.specs.Planning.{IsBackupOf, IsPlanned, asks_of, change_of, extend_by, refusal_of}
-use Rattle.group_ops.specs.Pvcreate.{disk_rows, label_in, label_sector, new_areas, new_label, pvcreate_change}
-use Rattle.group_ops.specs.Vgcreate.{empty_group}
-use Rattle.group_ops.specs.Vgextend.{found_rows}
-use Rattle.group_ops.specs.declared.state.Change.{Change}
-use Rattle.group_ops.specs.declared.state.GroupState.{GroupState}
-use Rattle.group_ops.specs.declared.state.NewLabel.{NewLabel}
+use Rattle.group_ops.specs.Planning.{IsBackupOf, IsPlanned, asks_of, change_of, refusal_of}
 use Rattle.volume_history.proofs.Bits.{and_both, eq_to, lt_true}
 use Rattle.volume_history.specs.Commands.{created_disk, is_created_at, is_created_sector}
 use Rattle.line_history.proofs.ReadBackups.{some_backup}

@@ -13,9 +13,9 @@ use Rattle.disk_model.specs.Steps.{Image, Step, Told, now_after, steps_on}
 use Rattle.meta_model.specs.declared.group.Group.{Group}
 use Rattle.disk_batch.specs.InTurn.{WritesInTurn, with_batches}
 use Rattle.vg_scan.specs.Scans.{IsScanOf}
+use Rattle.group_plan.specs.declared.state.Change.{Change}
 use Rattle.group_ops.specs.Laws.{state_in}
 use Rattle.group_ops.specs.Planning.{change_of}
-use Rattle.group_ops.specs.declared.state.Change.{Change}
 use Rattle.vg_repair.specs.Repaired.{repaired_of}
 use Rattle.image_scans.proofs.CommitScans.{none_unread}
 use Rattle.image_scans.proofs.LineScans.{images_scan, last_scans, unpublished_scans}

@@ -1,22 +1,22 @@
 -- A line that makes a new physical volume: its disk is left out once it was written, until the line is done.
 use Rattle.std.proofs.Common.{◌≡◌, ◌≤◌, ℕ, ◌+◌, ◌-◌, ◌==◌, ◌&&◌, ◌||◌, Bool, true, false, List, [], ◌∷◌, ◌++◌, length, map, take, Option, Some, None, refl, sym, ap, subst, ◌∙◌, arith}
 use Rattle.sector_base.specs.declared.spans.Span.{Span}
-use Rattle.disk_batch.proofs.InTurn.{of_submitted, turns_both}
-use Rattle.disk_batch.specs.InTurn.{Put, WritesInTurn}
 use Rattle.disk_model.specs.CrashValues.{IsImage}
 use Rattle.disk_model.specs.Durability.{IsBase}
 use Rattle.disk_model.specs.Moments.{at_moment}
 use Rattle.disk_model.specs.Order.{WritesNothing}
 use Rattle.disk_model.specs.Since.{writes_submitted}
 use Rattle.disk_model.specs.Steps.{Image, Step, Told, steps_on}
-use Rattle.group_ops.specs.declared.state.NewLabel.{NewLabel}
+use Rattle.meta_model.specs.declared.group.Group.{Group}
+use Rattle.disk_batch.proofs.InTurn.{of_submitted, turns_both}
+use Rattle.disk_batch.specs.InTurn.{Put, WritesInTurn}
+use Rattle.group_plan.specs.declared.state.NewLabel.{NewLabel}
+use Rattle.vg_change.specs.Batches.{areas_of, batch_if, commit_batches, label_put, new_area_puts, zero_put}
+use Rattle.vg_repair.specs.Repaired.{repaired_of}
 use Rattle.image_scans.proofs.LineScans.{images_scan}
 use Rattle.image_scans.specs.Laws.{FindsAtEnd, FindsOnTheWay, is_labelled, none_out}
 use Rattle.image_scans.specs.Versions.{FindsVersion, Version, version_in}
-use Rattle.meta_model.specs.declared.group.Group.{Group}
-use Rattle.vg_change.specs.Batches.{areas_of, batch_if, commit_batches, label_put, new_area_puts, zero_put}
 use Rattle.repair_scans.specs.Laws.{RepairedScans}
-use Rattle.vg_repair.specs.Repaired.{repaired_of}
 use Rattle.volume_history.proofs.Bits.{eq_of}
 use Rattle.volume_history.proofs.Phases.{finds_with}
 use Rattle.volume_history.specs.Chronicles.{has_written, steps_upto}

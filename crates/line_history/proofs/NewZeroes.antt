@@ -21,17 +21,17 @@ use Rattle.vg_found.specs.Shape.{HasShape}
 use Rattle.vg_found.specs.declared.found.Found.{Found}
 use Rattle.group_edits.proofs.FirstSectors.{Beginning, beginning, first_sectors}
 use Rattle.group_edits.specs.NewVolume.{MayHave, new_lv}
-use Rattle.group_ops.proofs.CreatedVolume.{Creates, creates}
-use Rattle.group_ops.proofs.Creating.{zeroed_is}
+use Rattle.group_plan.specs.State.{IsState}
+use Rattle.group_plan.specs.declared.state.Change.{Change}
+use Rattle.group_plan.specs.declared.state.GroupState.{GroupState}
+use Rattle.group_plan.specs.declared.backup.Backup.{Backup}
+use Rattle.lv_plans.proofs.CreatedVolume.{Creates, creates}
+use Rattle.lv_plans.proofs.Creating.{zeroed_is}
+use Rattle.lv_plans.specs.Allocating.{Takes}
+use Rattle.lv_plans.specs.Lvcreate.{created_group, eight_from, kind_for, zeroed_at}
 use Rattle.group_ops.proofs.NextVersions.{drawn_is, zeroes}
-use Rattle.group_ops.specs.Allocating.{Takes}
 use Rattle.group_ops.specs.Laws.{state_in}
-use Rattle.group_ops.specs.Lvcreate.{created_group, eight_from, kind_for, zeroed_at}
 use Rattle.group_ops.specs.Planning.{IsPlanned, asks_of, change_of, refusal_of}
-use Rattle.group_ops.specs.State.{IsState}
-use Rattle.group_ops.specs.declared.state.Change.{Change}
-use Rattle.group_ops.specs.declared.state.GroupState.{GroupState}
-use Rattle.group_ops.specs.declared.backup.Backup.{Backup}
 use Rattle.image_scans.specs.Laws.{in_spans, version_of}
 use Rattle.image_scans.specs.Versions.{Version, version_in}
 use Rattle.volume_history.specs.Candidates.{place_at}

@@ -4,13 +4,13 @@ use Rattle.std.proofs.lemmas.Bool.{true≢false}
 use Rattle.std.specs.Prelude.{flat_map}
 use Rattle.std.specs.List.{AllByRecursion as Each}
 use Rattle.sector_base.specs.declared.spans.Span.{Span}
-use Rattle.disk_batch.specs.InTurn.{Put}
 use Rattle.disk_model.specs.Order.{WritesNothing}
 use Rattle.disk_model.specs.Puts.{one_sector}
 use Rattle.disk_model.specs.Since.{writes_submitted}
 use Rattle.disk_model.specs.Steps.{Completed, Flushing, Reading, Step, Submitted, Writing}
-use Rattle.group_ops.specs.declared.state.NewLabel.{NewLabel}
 use Rattle.pv_header.specs.declared.extent_list.Extent.{Extent}
+use Rattle.disk_batch.specs.InTurn.{Put}
+use Rattle.group_plan.specs.declared.state.NewLabel.{NewLabel}
 use Rattle.vg_change.specs.Batches.{area_put, area_puts, batch_if, label_put}
 use Rattle.volume_history.specs.Chronicles.{has_written}
 

@@ -20,13 +20,13 @@ use Rattle.disk_batch.proofs.FrontBatches.{none_front}
 use Rattle.disk_batch.specs.InTurn.{HasFirstBatches, Put, WritesInTurn, with_batches}
 use Rattle.vg_found.specs.Disks.{disks_of}
 use Rattle.vg_found.specs.declared.disk.Disk.{Disk}
-use Rattle.group_ops.proofs.Chained.{front_passes}
+use Rattle.group_plan.proofs.Chained.{front_passes}
+use Rattle.group_plan.specs.Committing.{named_rows, rows_where_found}
+use Rattle.group_plan.specs.Judging.{first_refusal}
+use Rattle.vg_plans.specs.Vgremove.{remove_rows, volume_row}
 use Rattle.group_ops.proofs.NextVersions.{zeroes}
-use Rattle.group_ops.specs.Committing.{named_rows, rows_where_found}
-use Rattle.group_ops.specs.Judging.{first_refusal}
 use Rattle.group_ops.specs.Laws.{state_in}
 use Rattle.group_ops.specs.Planning.{change_of, refusal_of}
-use Rattle.group_ops.specs.Vgremove.{remove_rows, volume_row}
 use Rattle.vg_change.specs.Batches.{batch_if, batches_of, zero_put}
 use Rattle.vg_repair.specs.Repaired.{repaired_of}
 use Rattle.image_scans.proofs.RemovalScans.{removal_ends, removal_scans}

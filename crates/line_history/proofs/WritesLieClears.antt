@@ -2,11 +2,11 @@
 use Rattle.std.proofs.Common.{ℕ, List, map, ⊎_elim}
 use Rattle.std.specs.Ordering.{nat_cmp}
 use Rattle.std.specs.FinSet.{FinSet}
-use Rattle.extent_alloc.specs.declared.part.Part.{Part}
 use Rattle.lvm_script.specs.declared.line.Line.{Line}
-use Rattle.group_ops.specs.Cleared.{cleared_areas, unused_labels}
+use Rattle.extent_alloc.specs.declared.part.Part.{Part}
+use Rattle.group_plan.specs.Cleared.{cleared_areas, unused_labels}
+use Rattle.group_plan.specs.declared.state.GroupState.{GroupState}
 use Rattle.group_ops.specs.Planning.{change_of}
-use Rattle.group_ops.specs.declared.state.GroupState.{GroupState}
 use Rattle.vg_change.specs.Batches.{batch_if, clear_put, clears_of, label_put}
 use Rattle.image_scans.proofs.Front.{any_append, any_if, written_of}
 use Rattle.line_history.specs.Places.{AtCleared, AtUnused, BatchesWrite, IsClearPlace}

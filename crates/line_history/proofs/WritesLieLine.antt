@@ -2,23 +2,24 @@
 use Rattle.std.proofs.Common.{◌≡◌, ℕ, ◌/◌, List, [], ◌++◌, map, Option, None, ⊎_elim, subst}
 use Rattle.std.specs.Prelude.{flat_map}
 use Rattle.std.specs.List.{list_any}
-use Rattle.conf_text.specs.Printed.{printed}
 use Rattle.sector_base.specs.Spans.{covers}
-use Rattle.disk_batch.specs.InTurn.{Put}
-use Rattle.disk_batch.specs.Writes.{IsWrittenBy}
+use Rattle.lvm_script.specs.declared.line.Line.{Line}
 use Rattle.disk_model.specs.Puts.{one_sector}
 use Rattle.disk_model.specs.Steps.{Image}
-use Rattle.extent_alloc.specs.declared.part.Part.{Part}
-use Rattle.lvm_script.specs.declared.line.Line.{Line}
+use Rattle.pv_header.specs.declared.extent_list.Extent.{Extent}
+use Rattle.conf_text.specs.Printed.{printed}
 use Rattle.meta_model.specs.declared.group.Group.{Group}
 use Rattle.meta_print.specs.Layout.{tree_of}
-use Rattle.pv_header.specs.declared.extent_list.Extent.{Extent}
+use Rattle.extent_alloc.specs.declared.part.Part.{Part}
+use Rattle.disk_batch.specs.InTurn.{Put}
+use Rattle.disk_batch.specs.Writes.{IsWrittenBy}
 use Rattle.vg_found.specs.declared.found.Found.{Found}
+use Rattle.group_plan.specs.declared.state.Change.{Change}
+use Rattle.group_plan.specs.declared.state.GroupState.{GroupState}
+use Rattle.group_plan.specs.declared.state.NewLabel.{NewLabel}
+use Rattle.group_plan.specs.declared.backup.Backup.{Backup}
 use Rattle.group_ops.specs.Laws.{state_in}
 use Rattle.group_ops.specs.Planning.{change_of}
-use Rattle.group_ops.specs.declared.state.Change.{Change}
-use Rattle.group_ops.specs.declared.state.GroupState.{GroupState}
-use Rattle.group_ops.specs.declared.state.NewLabel.{NewLabel}
 use Rattle.vg_change.specs.Batches.{area_put, area_puts, areas_of, batch_if, batches_of, commit_batches, label_put, new_area_puts}
 use Rattle.image_scans.specs.Laws.{CanCarryOut}
 use Rattle.image_scans.proofs.CommitCommands.{Commits}
@@ -28,7 +29,6 @@ use Rattle.image_scans.proofs.Front.{AnyWrites, any_append, any_if, written_of}
 use Rattle.image_scans.proofs.Lines.{LineMakes, line_makes, makes_nothing, makes_pv, makes_version}
 use Rattle.line_history.specs.Places.{BatchesWrite, AtHeader, AtLabel, InArea, IsLinePlace}
 use Rattle.line_history.proofs.WritesLieAny.{any_writes, area_write, written_of_flat}
-use Rattle.group_ops.specs.declared.backup.Backup.{Backup}
 
 module _ (base : Image) (sizes : List ℕ) (found : Found) (names : List (List ℕ)) (backup : Option Backup) (line : Line) (now : ℕ) (given : List Part) (p : CanCarryOut base sizes found names backup line now given) (pv sector : ℕ) where
   abbrev state : GroupState

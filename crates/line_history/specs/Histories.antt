@@ -16,9 +16,9 @@ use Rattle.line_table.specs.declared.journal.JournalEntry.{JournalEntry}
 use Rattle.disk_batch.specs.InTurn.{Put}
 use Rattle.vg_found.specs.declared.found.Found.{Found}
 use Rattle.vg_scan.specs.Scans.{IsScanOf}
-use Rattle.group_ops.specs.Allocating.{Takes}
+use Rattle.group_plan.specs.declared.backup.Backup.{Backup}
+use Rattle.lv_plans.specs.Allocating.{Takes}
 use Rattle.group_ops.specs.Laws.{state_in}
-use Rattle.group_ops.specs.declared.backup.Backup.{Backup}
 use Rattle.group_ops.specs.Planning.{IsBackupOf, asks_of, change_of}
 use Rattle.vg_change.specs.Batches.{batches_of, clears_of, zeros_of}
 use Rattle.vg_repair.specs.Batches.{repair_batches}

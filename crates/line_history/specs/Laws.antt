@@ -1,17 +1,18 @@
 -- What a line and the images on its way give of histories.
 use Rattle.std.specs.Prelude.{◌≡◌, ℕ, List, Some, Option}
 use Rattle.sector_base.specs.declared.places.At.{At}
+use Rattle.lvm_script.specs.declared.line.Line.{Line}
 use Rattle.disk_model.specs.CrashValues.{IsImage}
 use Rattle.disk_model.specs.Record.{IsRecord}
 use Rattle.disk_model.specs.Steps.{Image, Told}
-use Rattle.extent_alloc.specs.declared.part.Part.{Part}
-use Rattle.lvm_script.specs.declared.line.Line.{Line}
 use Rattle.meta_model.specs.declared.group.Group.{Group}
 use Rattle.volume_view.specs.Places.{primary}
 use Rattle.volume_view.specs.View.{at_place}
+use Rattle.extent_alloc.specs.declared.part.Part.{Part}
 use Rattle.vg_found.specs.Shape.{HasShape}
 use Rattle.vg_found.specs.declared.found.Found.{Found}
 use Rattle.vg_scan.specs.Scans.{IsScanOf}
+use Rattle.group_plan.specs.declared.backup.Backup.{Backup}
 use Rattle.group_ops.specs.Laws.{state_in}
 use Rattle.group_ops.specs.Planning.{change_of}
 use Rattle.image_scans.specs.Laws.{CanCarryOut, version_of}
@@ -19,7 +20,6 @@ use Rattle.image_scans.specs.Versions.{version_in}
 use Rattle.volume_history.specs.Placed.{volumes_of}
 use Rattle.volume_history.specs.Quiet.{AllUntouched}
 use Rattle.volume_history.specs.Changing.{ChangesVolumes}
-use Rattle.group_ops.specs.declared.backup.Backup.{Backup}
 
 -- the version that a line commits has the volumes that its command makes of those that were found
 abbrev pub CommitChangesVolumes : Type 0

@@ -14,9 +14,9 @@ use Rattle.vg_found.specs.Shape.{HasShape}
 use Rattle.vg_found.specs.Whole.{IsWhole}
 use Rattle.vg_found.specs.declared.found.Found.{Found}
 use Rattle.vg_scan.specs.Scans.{IsScanOf}
-use Rattle.group_ops.specs.Allocating.{Takes}
+use Rattle.group_plan.specs.declared.backup.Backup.{Backup}
+use Rattle.lv_plans.specs.Allocating.{Takes}
 use Rattle.group_ops.specs.Laws.{state_in}
-use Rattle.group_ops.specs.declared.backup.Backup.{Backup}
 use Rattle.group_ops.specs.Planning.{IsBackupOf, IsPlanned, asks_of, refusal_of}
 use Rattle.vg_change.specs.Batches.{batches_of, clears_of, zeros_of}
 use Rattle.vg_change.specs.CarryingOut.{KeepsImages}

@@ -4,32 +4,32 @@ use Rattle.std.specs.FinSet as set
 use Rattle.std.specs.List.{list_any}
 use Rattle.std.specs.Ordering.{nat_cmp}
 use Rattle.sector_base.specs.Spans.{covers}
-use Rattle.disk_batch.specs.InTurn.{Put}
-use Rattle.disk_batch.specs.Writes.{write_work}
+use Rattle.lvm_script.specs.declared.line.Line.{Line}
 use Rattle.disk_model.specs.Puts.{one_sector}
 use Rattle.disk_model.specs.Steps.{Image}
 use Rattle.disk_model.specs.Submitting.{writes_at}
-use Rattle.extent_alloc.specs.declared.part.Part.{Part}
-use Rattle.lvm_script.specs.declared.line.Line.{Line}
+use Rattle.pv_header.specs.declared.extent_list.Extent.{Extent}
 use Rattle.mda_header.specs.declared.header.Locn.{Locn}
 use Rattle.mda_ring.specs.declared.area.Area.{Area}
 use Rattle.meta_model.specs.declared.group.Group.{Group}
-use Rattle.pv_header.specs.declared.extent_list.Extent.{Extent}
-use Rattle.vg_commit.specs.Written.{header_span, in_areas}
+use Rattle.extent_alloc.specs.declared.part.Part.{Part}
+use Rattle.disk_batch.specs.InTurn.{Put}
+use Rattle.disk_batch.specs.Writes.{write_work}
 use Rattle.vg_found.specs.declared.disk.Disk.{Disk}
 use Rattle.vg_found.specs.declared.found.Found.{Found}
-use Rattle.group_ops.specs.Cleared.{cleared_areas, unused_labels}
+use Rattle.vg_commit.specs.Written.{header_span, in_areas}
+use Rattle.group_plan.specs.Cleared.{cleared_areas, unused_labels}
+use Rattle.group_plan.specs.declared.state.Change.{Change}
+use Rattle.group_plan.specs.declared.state.GroupState.{GroupState}
+use Rattle.group_plan.specs.declared.state.NewLabel.{NewLabel}
+use Rattle.group_plan.specs.declared.backup.Backup.{Backup}
 use Rattle.group_ops.specs.Laws.{state_in}
 use Rattle.group_ops.specs.Planning.{change_of}
-use Rattle.group_ops.specs.declared.state.Change.{Change}
-use Rattle.group_ops.specs.declared.state.GroupState.{GroupState}
-use Rattle.group_ops.specs.declared.state.NewLabel.{NewLabel}
 use Rattle.vg_change.specs.Batches.{areas_of, batches_of, clears_of, zeros_of}
 use Rattle.vg_repair.specs.Batches.{repair_batches, stray_areas, stray_labels}
 use Rattle.vg_repair.specs.Stale.{stale_areas}
 use Rattle.image_scans.specs.Laws.{CanCarryOut, IsFree}
 use Rattle.repair_scans.specs.Laws.{CanRepair}
-use Rattle.group_ops.specs.declared.backup.Backup.{Backup}
 
 -- a write of one of the batches covers this sector of this disk
 abbrev pub BatchesWrite : List (List Put) → ℕ → ℕ → Type 0

@@ -38,8 +38,8 @@ use Rattle.lvm_words.proofs.FaultFree.{all_pass, fault_free, given_passes, kind_
 use Rattle.lvm_words.proofs.Spellings.{same_key}
 use Rattle.volume_rules.specs.Rules.{IsPowerOfTwo}
 use Rattle.vg_check.proofs.OneBit.{power_from_ones}
-use Rattle.group_ops.specs.Lvcreate.{IsNewVolume}
-use Rattle.group_ops.specs.Sizes.{IsAmount, IsGrowth}
+use Rattle.lv_plans.specs.Lvcreate.{IsNewVolume}
+use Rattle.lv_plans.specs.Sizes.{IsAmount, IsGrowth}
 
 -- from 8 sectors to 2^31, and a multiple of 8
 abbrev IsExtentSize : ℕ → Type 0

@@ -16,12 +16,12 @@ use Rattle.vg_found.specs.Shape.{HasShape}
 use Rattle.vg_found.specs.Whole.{IsWhole}
 use Rattle.vg_found.specs.declared.found.Found.{Found}
 use Rattle.vg_scan.specs.Scans.{AreFewReads}
-use Rattle.group_ops.specs.Allocating.{Takes}
+use Rattle.group_plan.specs.declared.backup.Backup.{Backup}
+use Rattle.group_plan.specs.declared.state.Change.{Change}
+use Rattle.group_plan.specs.declared.state.GroupState.{GroupState}
+use Rattle.lv_plans.specs.Allocating.{Takes}
 use Rattle.group_ops.specs.Laws.{state_in}
 use Rattle.group_ops.specs.Planning.{IsBackupOf, asks_of, change_of, refusal_of}
-use Rattle.group_ops.specs.declared.backup.Backup.{Backup}
-use Rattle.group_ops.specs.declared.state.Change.{Change}
-use Rattle.group_ops.specs.declared.state.GroupState.{GroupState}
 use Rattle.vg_change.specs.Batches.{batches_of, clears_of, zeros_of}
 use Rattle.vg_change.specs.CarryingOut.{HasJudged, IsCarried}
 use Rattle.vg_change.specs.declared.fault.ChangeFault.{ChangeFault}

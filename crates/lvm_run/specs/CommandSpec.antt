@@ -11,7 +11,7 @@ use Rattle.meta_model.specs.declared.group.Group.{Group}
 use Rattle.extent_alloc.specs.declared.part.Part.{Part}
 use Rattle.disk_batch.specs.InTurn.{Put}
 use Rattle.vg_found.specs.declared.found.Found.{Found}
-use Rattle.group_ops.specs.declared.backup.Backup.{Backup}
+use Rattle.group_plan.specs.declared.backup.Backup.{Backup}
 use Rattle.lvm_run.specs.declared.scan_refusal.ScanRefusal.{ScanRefusal}
 
 -- what a line is judged against, beside what a scan finds

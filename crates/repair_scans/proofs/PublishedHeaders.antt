@@ -4,33 +4,33 @@ use Rattle.std.proofs.lemmas.Bool.{or_left, or_right, true≢false}
 use Rattle.std.proofs.lemmas.List.Elements.{filter_passes}
 use Rattle.std.specs.FinSet.{contains}
 use Rattle.sector_base.specs.Spans.{covers}
-use Rattle.disk_batch.specs.InTurn.{Put, with_batches, with_writes}
-use Rattle.disk_batch.specs.Writes.{IsWrittenBy, write_work}
-use Rattle.disk_batch.proofs.InTurn.{batches_append}
-use Rattle.disk_batch.proofs.WritesOnImages.{written_or_kept}
 use Rattle.disk_model.specs.Steps.{Image}
 use Rattle.disk_model.specs.Submitting.{writes_at}
 use Rattle.mda_header.specs.HeaderBytes.{header_bytes}
 use Rattle.mda_header.specs.declared.header.Locn.{Locn}
 use Rattle.mda_ring.specs.declared.area.Area.{Area}
+use Rattle.disk_batch.specs.InTurn.{Put, with_batches, with_writes}
+use Rattle.disk_batch.specs.Writes.{IsWrittenBy, write_work}
+use Rattle.disk_batch.proofs.InTurn.{batches_append}
+use Rattle.disk_batch.proofs.WritesOnImages.{written_or_kept}
+use Rattle.vg_found.specs.declared.found.Found.{Found}
 use Rattle.vg_commit.proofs.Disks.{no_area}
 use Rattle.vg_commit.specs.Written.{area_writes, header_after, header_span, headers_of, publish_of, texts_of}
 use Rattle.vg_commit.proofs.AreasCommit.{header_covers, one_area}
-use Rattle.vg_found.specs.declared.found.Found.{Found}
-use Rattle.group_ops.specs.Judging.{lies_on}
+use Rattle.group_plan.specs.Judging.{lies_on}
 use Rattle.vg_change.specs.Batches.{batch_if, clear_put, label_put}
 use Rattle.vg_change.proofs.LabelPuts.{label_where, one_covers, one_tells, one_value}
+use Rattle.vg_change.specs.Building.{AreHeld}
 use Rattle.vg_repair.specs.Batches.{repair_batches, stray_areas, stray_labels, text_batches}
 use Rattle.vg_repair.specs.Stale.{stale_areas, text_of}
 use Rattle.vg_repair.proofs.HeldAreas.{stale_held}
 use Rattle.vg_repair.proofs.StaleOthers.{stale_elsewhere}
 use Rattle.vg_repair.proofs.StrayLabels.{labels_can}
-use Rattle.repair_scans.specs.Laws.{CanRepair}
 use Rattle.image_scans.proofs.Front.{any_if, batches_or}
-use Rattle.repair_scans.proofs.RepairOnTheWay.{some_label, stale_far}
 use Rattle.image_scans.proofs.ClearWrites.{IsClearWrite, clear_write}
+use Rattle.repair_scans.specs.Laws.{CanRepair}
+use Rattle.repair_scans.proofs.RepairOnTheWay.{some_label, stale_far}
 use Rattle.repair_scans.proofs.StraysApart.{strays_apart}
-use Rattle.vg_change.specs.Building.{AreHeld}
 
 -- ---- the third batch of a commit
 

@@ -7,36 +7,36 @@ use Rattle.std.specs.Option.{option_and_then}
 use Rattle.std.proofs.lemmas.Bool.{and_from, and_parts, cases_Bool, cases_lt, eq-eqb, eqb-true, or_cases, or_left, true≢false}
 use Rattle.std.proofs.lemmas.List.Elements.{All-filter, filter_passes, recursion_from_All}
 use Rattle.std.proofs.lemmas.Option.{same_Some}
-use Rattle.disk_batch.specs.InTurn.{HasFirstBatches, with_batches}
-use Rattle.disk_batch.specs.Writes.{IsWrittenBy}
-use Rattle.disk_batch.proofs.InTurn.{batches_append}
 use Rattle.disk_model.specs.Steps.{Image}
+use Rattle.pv_label.specs.Label.{IsFirstLabel, IsLabel, IsLabelRefusal}
+use Rattle.pv_header.specs.PvHeader.{IsPvHeader}
+use Rattle.pv_header.specs.declared.header.PvHeader.{PvHeader}
+use Rattle.pv_header.specs.PvRefusal.{Refuses}
 use Rattle.mda_header.specs.declared.header.Locn.{Locn}
 use Rattle.mda_ring.specs.declared.area.Area.{Area}
 use Rattle.mda_ring.specs.Areas.{CanTake}
 use Rattle.mda_ring.specs.Ring.{need, room}
 use Rattle.meta_model.specs.declared.group.Group.{Group}
-use Rattle.pv_header.specs.PvHeader.{IsPvHeader}
-use Rattle.pv_header.specs.declared.header.PvHeader.{PvHeader}
-use Rattle.pv_header.specs.PvRefusal.{Refuses}
-use Rattle.pv_label.specs.Label.{IsFirstLabel, IsLabel, IsLabelRefusal}
+use Rattle.scan_rules.specs.Decision.{Area as AreaOf, AreaReading, Copy, Found as PvOf, HoldsNone, Reading, Refused, gives, lists}
+use Rattle.disk_batch.specs.InTurn.{HasFirstBatches, with_batches}
+use Rattle.disk_batch.specs.Writes.{IsWrittenBy}
+use Rattle.disk_batch.proofs.InTurn.{batches_append}
 use Rattle.disk_contents.specs.declared.contents.AreaFound.{AreaFound}
 use Rattle.disk_contents.specs.declared.contents.PvFound.{PvFound}
 use Rattle.disk_contents.specs.declared.contents.PvFound.TheVariants.{NoLabel, NoHeader, Whole}
 use Rattle.disk_contents.specs.Contents.{IsFound}
 use Rattle.disk_contents.specs.Standing.{area_on}
-use Rattle.scan_rules.specs.Decision.{Area as AreaOf, AreaReading, Copy, Found as PvOf, HoldsNone, Reading, Refused, gives, lists}
-use Rattle.vg_commit.proofs.Disks.{no_area}
-use Rattle.vg_commit.specs.SectorReading.{IsSized, ShowsBy, old_reading}
 use Rattle.vg_found.specs.declared.disk.Disk.{Disk}
 use Rattle.vg_found.specs.declared.found.Found.{Found}
 use Rattle.vg_found.specs.Disks.{areas_on, held_area, held_areas, header_on}
 use Rattle.vg_found.specs.Shape.{ContentsCanStand, IsDisk}
 use Rattle.vg_scan.specs.Readings.{IsContents, IsDiskReading, IsPvReading}
 use Rattle.vg_scan.specs.Texts.{IsCopyOf}
-use Rattle.group_ops.specs.Added.{pv_in}
-use Rattle.group_ops.specs.Judging.{lies_on}
-use Rattle.group_ops.specs.declared.state.NewLabel.{NewLabel}
+use Rattle.vg_commit.proofs.Disks.{no_area}
+use Rattle.vg_commit.specs.SectorReading.{IsSized, ShowsBy, old_reading}
+use Rattle.group_plan.specs.Added.{pv_in}
+use Rattle.group_plan.specs.Judging.{lies_on}
+use Rattle.group_plan.specs.declared.state.NewLabel.{NewLabel}
 use Rattle.vg_change.specs.Batches.{batch_if, clear_batches, clear_put, label_bytes, label_put}
 use Rattle.vg_change.specs.Laws.{HasLabel, IsKeptOrNew, ShowsEntries, text_in}
 use Rattle.vg_change.specs.Sound.{CanLabel}
@@ -50,7 +50,6 @@ use Rattle.vg_repair.specs.Stale.{stale_areas, text_of}
 use Rattle.vg_repair.proofs.HeldAreas.{each_far, stale_all, stale_held}
 use Rattle.vg_repair.proofs.RepairedShape.{rooms}
 use Rattle.vg_repair.proofs.StrayLabels.{labels_can, labels_differ}
-use Rattle.repair_scans.specs.Laws.{CanRepair}
 use Rattle.image_scans.proofs.AreaAgain.{HasHeader, IsCleared, IsKnown, IsOnTheWay, MayBeRefused, kept_or_made}
 use Rattle.image_scans.proofs.BaseEntries.{entries_shown}
 use Rattle.image_scans.proofs.CommitWrites.{IsAreaWrite, commit_writes}
@@ -62,6 +61,7 @@ use Rattle.image_scans.proofs.Labels.{IsSameHeader, four_same}
 use Rattle.image_scans.proofs.MetAreas.{all_placed, area_met, header_met}
 use Rattle.image_scans.proofs.ClearWrites.{IsClearWrite, clear_write}
 use Rattle.image_scans.proofs.ClearedLabels.{IsLabelOn, labels_on as labels_stand_on}
+use Rattle.repair_scans.specs.Laws.{CanRepair}
 
 -- ---- an area among others
 

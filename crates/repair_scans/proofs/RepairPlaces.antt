@@ -5,31 +5,31 @@ use Rattle.std.proofs.lemmas.Bool.{false_from_ne_true}
 use Rattle.std.proofs.lemmas.List.Elements.{All-filter}
 use Rattle.sector_base.specs.Spans.{covers}
 use Rattle.sector_base.specs.declared.places.At.{At}
-use Rattle.disk_batch.specs.InTurn.{HasFirstBatches}
 use Rattle.disk_model.specs.Steps.{Image}
 use Rattle.mda_header.specs.declared.header.Locn.{Locn}
 use Rattle.mda_ring.specs.declared.area.Area.{Area}
 use Rattle.mda_ring.specs.Areas.{CanTake}
 use Rattle.mda_ring.proofs.SpanLaws.{covers_tells}
 use Rattle.meta_model.specs.declared.group.Group.{Group}
-use Rattle.scan_rules.specs.Decision.{first_misplaced}
-use Rattle.scan_rules.specs.Found.{missing_of}
 use Rattle.volume_view.specs.Places.{primary}
 use Rattle.volume_view.specs.View.{at_place}
-use Rattle.vg_commit.specs.Written.{area_span, header_span}
+use Rattle.scan_rules.specs.Decision.{first_misplaced}
+use Rattle.scan_rules.specs.Found.{missing_of}
+use Rattle.disk_batch.specs.InTurn.{HasFirstBatches}
 use Rattle.vg_found.specs.declared.disk.Disk.{Disk}
 use Rattle.vg_found.specs.declared.found.Found.{Found}
 use Rattle.vg_found.specs.Disks.{disks_of, shapes}
 use Rattle.vg_found.specs.Shape.{IsDisk}
-use Rattle.group_ops.specs.Judging.{lies_on}
+use Rattle.vg_commit.specs.Written.{area_span, header_span}
+use Rattle.group_plan.specs.Judging.{lies_on}
 use Rattle.vg_repair.specs.Batches.{repair_batches, stray_labels}
 use Rattle.vg_repair.specs.Laws.{IsOther}
 use Rattle.vg_repair.proofs.HeldAreas.{stale_all}
 use Rattle.vg_repair.proofs.StrayLabels.{labels_can}
 use Rattle.image_scans.proofs.FoundAreas.{IsHeldOn, all_held}
 use Rattle.image_scans.proofs.Placed.{IsPlaceOn, place_beside}
-use Rattle.repair_scans.specs.Laws.{CanRepair}
 use Rattle.image_scans.proofs.BesideAreas.{beside_areas}
+use Rattle.repair_scans.specs.Laws.{CanRepair}
 use Rattle.repair_scans.proofs.FoundGroup.{found_accepted}
 use Rattle.repair_scans.proofs.RepairOnTheWay.{shown}
 

@@ -3,8 +3,8 @@ use Rattle.std.proofs.Common.{◌≡◌, ◌≤◌, ◌<◌, ℕ, ◌+◌, ◌/�
 use Rattle.std.specs.Prelude.{All, slice_get}
 use Rattle.std.specs.FinSet.{contains}
 use Rattle.std.specs.Option.{option_map_or}
-use Rattle.disk_batch.specs.InTurn.{with_batches}
 use Rattle.disk_model.specs.Steps.{Image}
+use Rattle.pv_header.specs.declared.header.PvHeader.{PvHeader}
 use Rattle.mda_header.specs.Header.{IsEntry, IsHeader}
 use Rattle.mda_header.specs.HeaderBytes.{header_bytes}
 use Rattle.mda_header.specs.declared.entry.Entry.{Entry}
@@ -14,35 +14,35 @@ use Rattle.mda_ring.specs.declared.area.Area.{Area}
 use Rattle.mda_ring.specs.Areas.{CanTake}
 use Rattle.mda_ring.specs.Ring.{need, room}
 use Rattle.meta_model.specs.declared.group.Group.{Group}
-use Rattle.pv_header.specs.declared.header.PvHeader.{PvHeader}
+use Rattle.scan_rules.specs.declared.copy_refusal.CopyRefusal.TheVariants.{HeaderRefused}
+use Rattle.scan_rules.specs.Decision.{Area as AreaOf, AreaReading, Copy, HoldsNone, Refused}
+use Rattle.disk_batch.specs.InTurn.{with_batches}
 use Rattle.disk_contents.specs.declared.contents.AreaFound.{AreaFound}
 use Rattle.disk_contents.specs.declared.contents.PvFound.TheVariants.{Whole}
 use Rattle.disk_contents.specs.Contents.{IsAreaFound, IsMdaFound}
 use Rattle.disk_contents.specs.Standing.{area_on}
-use Rattle.scan_rules.specs.declared.copy_refusal.CopyRefusal.TheVariants.{HeaderRefused}
-use Rattle.scan_rules.specs.Decision.{Area as AreaOf, AreaReading, Copy, HoldsNone, Refused}
-use Rattle.vg_commit.specs.SectorReading.{IsSized, ShowsBy, new_reading, old_reading}
-use Rattle.vg_commit.specs.Showing.{sectors_of}
-use Rattle.vg_commit.specs.Written.{header_after, header_of, new_entry, stored}
 use Rattle.vg_found.specs.declared.disk.Disk.{Disk}
 use Rattle.vg_found.specs.declared.found.Found.{Found}
 use Rattle.vg_found.specs.Disks.{held_area, held_by}
 use Rattle.vg_scan.specs.Readings.{IsAreaReading, IsGiven}
 use Rattle.vg_scan.specs.Texts.{IsCopyOf, IsStored, stored_bytes}
-use Rattle.group_ops.specs.Judging.{lies_on}
+use Rattle.vg_commit.specs.SectorReading.{IsSized, ShowsBy, new_reading, old_reading}
+use Rattle.vg_commit.specs.Showing.{sectors_of}
+use Rattle.vg_commit.specs.Written.{header_after, header_of, new_entry, stored}
+use Rattle.group_plan.specs.Judging.{lies_on}
 use Rattle.vg_change.specs.Laws.{IsEmpty, text_in}
 use Rattle.vg_change.proofs.BaseShows.{base_shows, base_sized, shows_alike}
+use Rattle.vg_change.proofs.Filtered.{each_of_filtered}
 use Rattle.vg_repair.specs.Batches.{repair_batches}
 use Rattle.vg_repair.specs.Laws.{IsRight}
 use Rattle.vg_repair.specs.Repaired.{repaired_area, repaired_held, with_entry}
 use Rattle.vg_repair.specs.Stale.{is_among, text_of}
-use Rattle.vg_change.proofs.Filtered.{each_of_filtered}
 use Rattle.vg_repair.proofs.HeldAreas.{stale_held}
 use Rattle.vg_repair.proofs.RepairedShape.{area_kept}
-use Rattle.repair_scans.specs.Laws.{CanRepair}
 use Rattle.image_scans.proofs.FoundAreas.{IsPlaced, entry_kept}
 use Rattle.image_scans.proofs.MetAreas.{all_placed}
 use Rattle.image_scans.proofs.OneArea.{after_read, entry_nothing, entry_text, stored_copy}
+use Rattle.repair_scans.specs.Laws.{CanRepair}
 use Rattle.repair_scans.proofs.NumberedAreas.{of_all, of_stale}
 use Rattle.repair_scans.proofs.PublishedHeaders.{header_published}
 use Rattle.repair_scans.proofs.RepairOnTheWay.{are_disks, shown, stale_rooms}

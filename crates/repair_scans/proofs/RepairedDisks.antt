@@ -6,33 +6,33 @@ use Rattle.std.specs.List.{AllByRecursion as Each, enumerate_from}
 use Rattle.std.specs.Option.{option_and_then}
 use Rattle.std.proofs.lemmas.List.Elements.{All-from_recursion, recursion_from_All}
 use Rattle.std.proofs.lemmas.Option.{get_or_from_slice_get, slice_get_within}
-use Rattle.disk_batch.specs.InTurn.{with_batches}
 use Rattle.disk_model.specs.Steps.{Image}
-use Rattle.meta_model.specs.declared.group.Group.{Group}
 use Rattle.pv_header.specs.declared.header.PvHeader.{PvHeader}
+use Rattle.meta_model.specs.declared.group.Group.{Group}
+use Rattle.scan_rules.specs.Decision.{Area as AreaOf, AreaReading, Copy, Found as PvOf, Reading, lists}
+use Rattle.disk_batch.specs.InTurn.{with_batches}
 use Rattle.disk_contents.specs.declared.contents.AreaFound.{AreaFound}
 use Rattle.disk_contents.specs.declared.contents.PvFound.{PvFound}
 use Rattle.disk_contents.specs.declared.contents.PvFound.TheVariants.{NoLabel, NoHeader, Whole}
 use Rattle.disk_contents.specs.Contents.{IsAreaFound, IsFound}
-use Rattle.scan_rules.specs.Decision.{Area as AreaOf, AreaReading, Copy, Found as PvOf, Reading, lists}
 use Rattle.vg_found.specs.declared.disk.Disk.{Disk}
 use Rattle.vg_found.specs.declared.found.Found.{Found}
 use Rattle.vg_found.specs.Disks.{header_on}
-use Rattle.group_ops.specs.Added.{pv_in}
 use Rattle.vg_scan.specs.Readings.{AreAreaReadings, AreDiskReadings, AreReadings, IsAreaReading, IsContents, IsDiskReading, IsPvReading}
 use Rattle.vg_scan.specs.Texts.{IsCopyOf}
+use Rattle.group_plan.specs.Added.{pv_in}
+use Rattle.group_plan.specs.Cleared.{unused}
 use Rattle.vg_repair.specs.Batches.{repair_batches}
 use Rattle.vg_repair.specs.Repaired.{repaired_area, repaired_areas, repaired_contents, repaired_disk, repaired_disks}
 use Rattle.vg_repair.specs.Stale.{text_of}
 use Rattle.vg_repair.proofs.Numbered.{mapped_same}
 use Rattle.vg_repair.proofs.RepairedShape.{area_kept}
-use Rattle.repair_scans.specs.Laws.{CanRepair}
 use Rattle.image_scans.proofs.CommitLine.{all_written}
+use Rattle.repair_scans.specs.Laws.{CanRepair}
 use Rattle.repair_scans.proofs.RepairOnTheWay.{without_header}
 use Rattle.repair_scans.proofs.RepairedAreas.{area_repaired}
 use Rattle.repair_scans.proofs.RepairedLabels.{label_repaired}
 use Rattle.repair_scans.proofs.RepairedReadings.{area_after, pv_after, reading_after, readings_after}
-use Rattle.group_ops.specs.Cleared.{unused}
 
 module _ (base : Image) (sizes : List ℕ) (found : Found) (p : CanRepair base sizes found) (group : Group) (passed : List (List ℕ)) (copy : IsCopyOf (text_of found) group passed)
     (unlisted : (pv : ℕ) (disk : Disk) (header : PvHeader) → slice_get found.disks pv ≡ Some disk → header_on disk.contents ≡ Some header → set.contains found.strays pv ≡ true → lists group header.id ≡ false) where

@@ -5,34 +5,34 @@ use Rattle.std.specs.FinSet.{contains}
 use Rattle.std.specs.Option.{option_and_then}
 use Rattle.std.proofs.lemmas.Bool.{true≢false}
 use Rattle.std.proofs.lemmas.Option.{same_Some}
-use Rattle.disk_batch.specs.InTurn.{with_batches}
 use Rattle.disk_model.specs.Steps.{Image}
-use Rattle.meta_model.specs.declared.group.Group.{Group}
-use Rattle.pv_header.specs.PvRefusal.{Reads}
-use Rattle.pv_header.specs.declared.header.PvHeader.{PvHeader}
 use Rattle.pv_label.specs.Label.{IsFirstLabel, IsLabel}
 use Rattle.pv_label.specs.LabelSectors.{first_four}
+use Rattle.pv_header.specs.PvRefusal.{Reads}
+use Rattle.pv_header.specs.declared.header.PvHeader.{PvHeader}
+use Rattle.meta_model.specs.declared.group.Group.{Group}
+use Rattle.scan_rules.specs.Decision.{lists}
+use Rattle.scan_rules.proofs.Members.{Numbered, in_kept, kept_has}
+use Rattle.disk_batch.specs.InTurn.{with_batches}
 use Rattle.disk_contents.specs.declared.contents.AreaFound.{AreaFound}
 use Rattle.disk_contents.specs.declared.contents.PvFound.{PvFound}
 use Rattle.disk_contents.specs.declared.contents.PvFound.TheVariants.{Whole}
 use Rattle.disk_contents.specs.Contents.{IsFound}
-use Rattle.scan_rules.specs.Decision.{lists}
-use Rattle.scan_rules.proofs.Members.{Numbered, in_kept, kept_has}
 use Rattle.vg_found.specs.declared.disk.Disk.{Disk}
 use Rattle.vg_found.specs.declared.found.Found.{Found}
 use Rattle.vg_found.specs.Disks.{header_on}
-use Rattle.group_ops.specs.Added.{pv_in}
-use Rattle.group_ops.specs.declared.state.NewLabel.{NewLabel}
+use Rattle.group_plan.specs.Added.{pv_in}
+use Rattle.group_plan.specs.declared.state.NewLabel.{NewLabel}
+use Rattle.group_plan.specs.Cleared.{unused, unused_label}
 use Rattle.vg_change.specs.Laws.{HasLabel}
 use Rattle.vg_change.proofs.LabelPuts.{label_where}
 use Rattle.vg_repair.specs.Batches.{repair_batches, stray_labels}
 use Rattle.vg_repair.proofs.Numbered.{all_in}
-use Rattle.repair_scans.specs.Laws.{CanRepair}
 use Rattle.image_scans.proofs.CommitLine.{all_written}
 use Rattle.image_scans.proofs.Labels.{header_again, label_again, of_four}
+use Rattle.repair_scans.specs.Laws.{CanRepair}
 use Rattle.repair_scans.proofs.RepairOnTheWay.{label_stands, near, shown, some_label}
 use Rattle.repair_scans.proofs.StraysApart.{in_at}
-use Rattle.group_ops.specs.Cleared.{unused, unused_label}
 
 -- a label that is written is on a stray
 label_of_stray : (found : Found) (number : ℕ) (stray : Bool) (o : Option (ℕ × PvHeader)) (label : NewLabel) → contains found.strays number ≡ stray

@@ -5,30 +5,30 @@ use Rattle.std.specs.FinSet.{contains}
 use Rattle.std.proofs.lemmas.Bool.{true≢false}
 use Rattle.std.proofs.lemmas.List.Elements.{All-filter, filter_passes}
 use Rattle.std.proofs.lemmas.Option.{slice_get-get_or}
-use Rattle.disk_batch.specs.InTurn.{with_batches}
 use Rattle.disk_model.specs.Steps.{Image}
+use Rattle.pv_header.specs.declared.header.PvHeader.{PvHeader}
 use Rattle.mda_header.specs.declared.header.Locn.{Locn}
 use Rattle.mda_ring.specs.declared.area.Area.{Area}
 use Rattle.mda_ring.specs.Areas.{CanTake}
-use Rattle.pv_header.specs.declared.header.PvHeader.{PvHeader}
+use Rattle.disk_batch.specs.InTurn.{with_batches}
 use Rattle.disk_contents.specs.declared.contents.AreaFound.{AreaFound}
 use Rattle.disk_contents.specs.declared.contents.PvFound.{PvFound}
 use Rattle.disk_contents.specs.declared.contents.PvFound.TheVariants.{Whole}
 use Rattle.vg_found.specs.declared.disk.Disk.{Disk}
 use Rattle.vg_found.specs.declared.found.Found.{Found}
 use Rattle.vg_found.specs.Disks.{areas_on, held_area}
-use Rattle.group_ops.specs.Judging.{lies_on}
+use Rattle.vg_commit.proofs.Disks.{no_area}
+use Rattle.group_plan.specs.Judging.{lies_on}
 use Rattle.vg_change.proofs.LabelPuts.{label_where}
 use Rattle.vg_repair.specs.Batches.{repair_batches, stray_areas, stray_labels}
 use Rattle.vg_repair.specs.Stale.{is_among, stale_areas}
 use Rattle.vg_repair.proofs.StrayLabels.{labels_can}
-use Rattle.repair_scans.specs.Laws.{CanRepair}
 use Rattle.image_scans.proofs.FoundAreas.{IsPlaced}
 use Rattle.image_scans.proofs.Front.{batches_or}
 use Rattle.image_scans.proofs.MetAreas.{all_placed, area_met}
+use Rattle.repair_scans.specs.Laws.{CanRepair}
 use Rattle.repair_scans.proofs.NumberedAreas.{stale_number}
 use Rattle.repair_scans.proofs.RepairOnTheWay.{are_disks, cleared_on_disks, some_label, stale_on_disks, writes}
-use Rattle.vg_commit.proofs.Disks.{no_area}
 use Rattle.repair_scans.proofs.StraysApart.{in_at}
 
 module _ (base : Image) (sizes : List ℕ) (found : Found) (p : CanRepair base sizes found) (pv : ℕ) (disk : Disk) (there : slice_get found.disks pv ≡ Some disk) (label : ℕ) (header : PvHeader) (areas : List AreaFound)

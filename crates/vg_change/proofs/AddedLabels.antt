@@ -14,12 +14,12 @@ use Rattle.disk_contents.specs.declared.contents.PvFound.TheVariants.{NoLabel, N
 use Rattle.vg_found.proofs.KeptLists.{all_kept}
 use Rattle.vg_found.specs.declared.disk.Disk.{Disk}
 use Rattle.vg_found.specs.Shape.{ContentsCanStand, IsDisk}
-use Rattle.group_ops.proofs.Passed.{DiskApart, DisksApart}
-use Rattle.group_ops.specs.Added.{added_at, added_named, added_of, added_on, disks_added, label_of, pv_in}
-use Rattle.group_ops.specs.State.{IsState}
-use Rattle.group_ops.specs.declared.added.Added.{Added}
-use Rattle.group_ops.specs.declared.state.GroupState.{GroupState}
-use Rattle.group_ops.specs.declared.state.NewLabel.{NewLabel}
+use Rattle.group_plan.proofs.Passed.{DiskApart, DisksApart}
+use Rattle.group_plan.specs.Added.{added_at, added_named, added_of, added_on, disks_added, label_of, pv_in}
+use Rattle.group_plan.specs.State.{IsState}
+use Rattle.group_plan.specs.declared.added.Added.{Added}
+use Rattle.group_plan.specs.declared.state.GroupState.{GroupState}
+use Rattle.group_plan.specs.declared.state.NewLabel.{NewLabel}
 use Rattle.vg_change.proofs.HeldInDisks.{HasSize, has_size}
 use Rattle.vg_change.specs.CarryingOut.{sizes_of}
 use Rattle.vg_change.specs.Sound.{CanLabel, LabelLies}

@@ -5,21 +5,21 @@ use Rattle.std.specs.Ordering.{nat_cmp}
 use Rattle.std.specs.FinSet.{FinSet}
 use Rattle.std.proofs.lemmas.List.{append-nil, append_assoc, map-append}
 use Rattle.std.proofs.lemmas.List.Elements.{All-append, All-cons, All-nil, All-push}
+use Rattle.mda_header.specs.declared.header.Locn.{Locn}
+use Rattle.mda_ring.specs.declared.area.Area.{Area}
 use Rattle.conf_text.specs.Printed.{printed}
+use Rattle.meta_model.specs.declared.group.Group.{Group}
+use Rattle.meta_print.specs.Layout.{tree_of}
 use Rattle.disk_batch.specs.Batches.{writes_of}
 use Rattle.disk_batch.specs.InTurn.{CanRun, Put}
 use Rattle.disk_batch.specs.declared.batch.Batch.{Batch}
-use Rattle.mda_header.specs.declared.header.Locn.{Locn}
-use Rattle.mda_ring.specs.declared.area.Area.{Area}
-use Rattle.meta_model.specs.declared.group.Group.{Group}
-use Rattle.meta_print.specs.Layout.{tree_of}
 use Rattle.vg_commit.specs.declared.prepared.Prepared.{Prepared}
 use Rattle.vg_commit.specs.Plans.{HeadersRead}
 use Rattle.vg_commit.specs.Preparing.{AreCommitted, AreWithin, IsPrepared}
 use Rattle.vg_commit.specs.TooLarge.{first_too_large}
 use Rattle.vg_commit.specs.Written.{area_writes, headers_of, publish_of, texts_of}
 use Rattle.vg_commit.proofs.CommitCanRun.{headers_can_run, publish_can_run, texts_can_run}
-use Rattle.group_ops.specs.Judging.{set_of}
+use Rattle.group_plan.specs.Judging.{set_of}
 use Rattle.vg_change.specs.Batches.{batch_if, commit_batches}
 use Rattle.vg_change.specs.Building.{Is, IsAdded, IsCommitAdded, areas_on, disks_written}
 use Rattle.vg_change.proofs.DisksWritten.{AreApart, runs}

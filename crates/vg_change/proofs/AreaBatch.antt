@@ -7,9 +7,9 @@ use Rattle.disk_model.specs.InFlight.{IsAmong}
 use Rattle.disk_model.specs.Operations.{Fills}
 use Rattle.pv_header.specs.declared.extent_list.Extent.{Extent}
 use Rattle.disk_batch.specs.InTurn.{Put, ShareNoSector}
-use Rattle.vg_commit.specs.Commits.{written_at}
 use Rattle.disk_batch.proofs.WritesApart.{disk_among, each_apart, each_has}
-use Rattle.group_ops.specs.declared.state.NewLabel.{NewLabel}
+use Rattle.vg_commit.specs.Commits.{written_at}
+use Rattle.group_plan.specs.declared.state.NewLabel.{NewLabel}
 use Rattle.vg_change.specs.Batches.{area_put, area_puts}
 use Rattle.vg_change.specs.Building.{IsOnFew}
 use Rattle.vg_change.specs.Sound.{AreasLie, CanLabel, IsOnDisk, header_sector}

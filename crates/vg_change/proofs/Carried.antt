@@ -11,15 +11,15 @@ use Rattle.disk_model.specs.State.{IsLawful, State}
 use Rattle.disk_model.specs.Steps.{Told}
 use Rattle.extent_alloc.specs.declared.part.Part.{Part}
 use Rattle.disk_batch.specs.InTurn.{Put, WritesInTurn}
-use Rattle.group_ops.specs.Allocating.{Asking, Takes}
-use Rattle.group_ops.specs.Cleared.{unused_labels}
-use Rattle.group_ops.specs.Judging.{first_refusal}
-use Rattle.group_ops.specs.Planning.{IsPlanned, PlansWith, asks_of, change_of, refusal_of, rows_of}
-use Rattle.group_ops.specs.State.{IsState}
-use Rattle.group_ops.specs.declared.refusal.PlanRefusal.{PlanRefusal}
-use Rattle.group_ops.specs.declared.refusal.PlanRefusal.TheVariants as plan
-use Rattle.group_ops.specs.declared.state.Change.{Change}
-use Rattle.group_ops.specs.declared.state.GroupState.{GroupState}
+use Rattle.group_plan.specs.Cleared.{unused_labels}
+use Rattle.group_plan.specs.Judging.{first_refusal}
+use Rattle.group_plan.specs.State.{IsState}
+use Rattle.group_plan.specs.declared.refusal.PlanRefusal.{PlanRefusal}
+use Rattle.group_plan.specs.declared.refusal.PlanRefusal.TheVariants as plan
+use Rattle.group_plan.specs.declared.state.Change.{Change}
+use Rattle.group_plan.specs.declared.state.GroupState.{GroupState}
+use Rattle.lv_plans.specs.Allocating.{Asking, Takes, PlansWith}
+use Rattle.group_ops.specs.Planning.{IsPlanned, asks_of, change_of, refusal_of, rows_of}
 use Rattle.vg_change.specs.Batches.{batches_of, change_batches, clear_batches, clears_of, zero_batches, zeros_of}
 use Rattle.vg_change.specs.CarryingOut.{ClearsBehind, IsCarried, IsMade, IsUnclearedBy, KeepsImages, WritesBoth, clear_fault, fault_of, made_at, sizes_of}
 use Rattle.vg_change.specs.Sound.{CanMake, FitsFields, IsReadAgain, LiesOn}

@@ -4,20 +4,20 @@ use Rattle.std.specs.Prelude.{All, flat_map, is_some}
 use Rattle.std.proofs.lemmas.Bool.{true≢false}
 use Rattle.std.proofs.lemmas.List.Elements.{All-nil}
 use Rattle.std.proofs.lemmas.Option.{same_Some}
-use Rattle.conf_text.specs.Printed.{printed}
 use Rattle.disk_model.specs.Operations.{Fills}
+use Rattle.mda_header.specs.declared.header.Locn.{Locn}
+use Rattle.mda_ring.specs.declared.area.Area.{Area}
+use Rattle.conf_text.specs.Printed.{printed}
+use Rattle.meta_model.specs.declared.group.Group.{Group}
+use Rattle.meta_print.specs.Layout.{tree_of}
 use Rattle.disk_batch.specs.Batches.{writes_of}
 use Rattle.disk_batch.specs.InTurn.{CanRun, Put}
 use Rattle.disk_batch.specs.declared.batch.Batch.{Batch}
-use Rattle.mda_header.specs.declared.header.Locn.{Locn}
-use Rattle.mda_ring.specs.declared.area.Area.{Area}
-use Rattle.meta_model.specs.declared.group.Group.{Group}
-use Rattle.meta_print.specs.Layout.{tree_of}
 use Rattle.vg_commit.specs.Plans.{HeadersRead}
 use Rattle.vg_commit.specs.TooLarge.{first_too_large}
-use Rattle.group_ops.specs.Judging.{set_of}
-use Rattle.group_ops.specs.declared.state.Change.{Change}
-use Rattle.group_ops.specs.declared.state.NewLabel.{NewLabel}
+use Rattle.group_plan.specs.Judging.{set_of}
+use Rattle.group_plan.specs.declared.state.Change.{Change}
+use Rattle.group_plan.specs.declared.state.NewLabel.{NewLabel}
 use Rattle.vg_change.specs.Batches.{area_puts, areas_of, batch_if, change_batches, commit_batches, label_put, new_area_puts}
 use Rattle.vg_change.specs.Building.{IsAdded, IsCommitAdded, IsOnFew}
 use Rattle.vg_change.specs.Sound.{CanMake, FitsFields, IsReadAgain, LiesOn}

@@ -11,10 +11,10 @@ use Rattle.mda_ring.specs.Areas.{CanTake, LieApart}
 use Rattle.mda_ring.specs.declared.area.Area.{Area}
 use Rattle.vg_found.proofs.ShapedAreas.{areas_shaped}
 use Rattle.vg_found.specs.declared.disk.Disk.{Disk}
-use Rattle.group_ops.specs.Cleared.{cleared_areas}
-use Rattle.group_ops.specs.Judging.{lies_on}
-use Rattle.group_ops.specs.State.{IsState}
-use Rattle.group_ops.specs.declared.state.GroupState.{GroupState}
+use Rattle.group_plan.specs.Cleared.{cleared_areas}
+use Rattle.group_plan.specs.Judging.{lies_on}
+use Rattle.group_plan.specs.State.{IsState}
+use Rattle.group_plan.specs.declared.state.GroupState.{GroupState}
 use Rattle.vg_change.specs.Building.{AreHeld, AreScanned, LiesIn}
 use Rattle.vg_change.specs.CarryingOut.{sizes_of}
 use Rattle.vg_change.proofs.FarAreas.{IsFar, held_far}

@@ -6,23 +6,23 @@ use Rattle.std.specs.FinSet as set
 use Rattle.std.proofs.lemmas.Bool.{true≢false}
 use Rattle.std.proofs.lemmas.List.Elements.{All-append}
 use Rattle.disk_model.specs.Steps.{Image}
-use Rattle.disk_batch.specs.InTurn.{HasFirstBatches, Put, with_batches}
-use Rattle.disk_batch.proofs.FrontBatches.{KeepsSector, batches_kept, but_last, first_or_more, front_kept, keeps_sector}
-use Rattle.disk_batch.proofs.InTurn.{batches_append}
+use Rattle.pv_label.specs.Label.{IsLabel}
+use Rattle.pv_header.specs.PvHeader.{IsPvHeader}
 use Rattle.mda_header.specs.Header.{IsHeader}
 use Rattle.mda_header.specs.HeaderBytes.{header_bytes}
 use Rattle.mda_header.specs.declared.header.Locn.{Locn}
 use Rattle.mda_ring.specs.Areas.{CanTake}
 use Rattle.mda_ring.specs.declared.area.Area.{Area}
 use Rattle.mda_ring.proofs.SpanLaws.{covers_tells}
-use Rattle.pv_header.specs.PvHeader.{IsPvHeader}
-use Rattle.pv_label.specs.Label.{IsLabel}
+use Rattle.disk_batch.specs.InTurn.{HasFirstBatches, Put, with_batches}
+use Rattle.disk_batch.proofs.FrontBatches.{KeepsSector, batches_kept, but_last, first_or_more, front_kept, keeps_sector}
+use Rattle.disk_batch.proofs.InTurn.{batches_append}
+use Rattle.vg_found.specs.declared.disk.Disk.{Disk}
 use Rattle.vg_commit.proofs.Disks.{no_area}
 use Rattle.vg_commit.specs.Showing.{sectors_of}
 use Rattle.vg_commit.specs.Written.{header_of, header_span}
-use Rattle.vg_found.specs.declared.disk.Disk.{Disk}
-use Rattle.group_ops.specs.Cleared.{cleared_areas, unused_labels}
-use Rattle.group_ops.specs.declared.state.NewLabel.{NewLabel}
+use Rattle.group_plan.specs.Cleared.{cleared_areas, unused_labels}
+use Rattle.group_plan.specs.declared.state.NewLabel.{NewLabel}
 use Rattle.vg_change.specs.Batches.{batch_if, clear_batches, clear_put, label_bytes, label_put}
 use Rattle.vg_change.specs.Building.{AreScanned}
 use Rattle.vg_change.specs.Laws.{AreCleared, ClearsImages, ClearsKeep, IsEmpty, IsKeptOrEmpty, IsUncleared, LabelsKept}

@@ -4,13 +4,13 @@ use Rattle.std.specs.Prelude.{All}
 use Rattle.std.specs.Ordering.{nat_cmp}
 use Rattle.std.specs.FinSet as set
 use Rattle.std.proofs.lemmas.List.{append_assoc}
+use Rattle.mda_header.specs.declared.header.Locn.{Locn}
+use Rattle.mda_ring.specs.declared.area.Area.{Area}
 use Rattle.disk_batch.specs.Batches.{writes_of}
 use Rattle.disk_batch.specs.InTurn.{Put}
 use Rattle.disk_batch.specs.declared.batch.Batch.{Batch}
-use Rattle.mda_header.specs.declared.header.Locn.{Locn}
-use Rattle.mda_ring.specs.declared.area.Area.{Area}
 use Rattle.vg_found.specs.declared.disk.Disk.{Disk}
-use Rattle.group_ops.specs.Cleared.{cleared_areas, unused_labels}
+use Rattle.group_plan.specs.Cleared.{cleared_areas, unused_labels}
 use Rattle.vg_change.specs.Batches.{batch_if, clear_put, label_put}
 use Rattle.vg_change.specs.Building.{AreClearsAdded, AreScanned, IsAdded}
 use Rattle.vg_change.specs.CarryingOut.{sizes_of}

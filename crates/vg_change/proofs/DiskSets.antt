@@ -9,7 +9,7 @@ use Rattle.std.proofs.lemmas.Bool.{eqb-true, true≢false}
 use Rattle.std.proofs.lemmas.List.Elements.{recursion_from_All}
 use Rattle.disk_batch.proofs.DisksOfSet.{disks_have}
 use Rattle.disk_batch.specs.Writes.{disks_in}
-use Rattle.group_ops.specs.Judging.{set_of, with_all}
+use Rattle.group_plan.specs.Judging.{set_of, with_all}
 
 module _ (P : ℕ → Type 0) where
   of_one : (taken : set.FinSet nat_cmp) (n q : ℕ) (b : Bool) → (q == n) ≡ b → (b || set.contains taken q) ≡ true → P n → (set.contains taken q ≡ true → P q) → P q

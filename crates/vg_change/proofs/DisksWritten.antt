@@ -13,8 +13,8 @@ use Rattle.disk_batch.specs.Writes.{LieIn, disks_in}
 use Rattle.disk_batch.specs.declared.batch.Batch.{Batch}
 use Rattle.disk_batch.proofs.DisksOfSet.{among_disks, disks_have, some_disk}
 use Rattle.disk_batch.proofs.WritesApart.{can_run}
-use Rattle.group_ops.specs.Judging.{set_of, with_all}
-use Rattle.group_ops.proofs.Passed.{absent}
+use Rattle.group_plan.specs.Judging.{set_of, with_all}
+use Rattle.group_plan.proofs.Passed.{absent}
 use Rattle.vg_change.specs.Building.{Is, IsOnFew, disks_written}
 
 -- what holds of a set and of further numbers holds of the set with them

@@ -4,12 +4,12 @@ use Rattle.std.specs.Prelude.{filter_map, find, slice_get, All}
 use Rattle.std.proofs.lemmas.Bool.{cases_lt, lt-ltb, or_left, or_right, true≢false}
 use Rattle.std.proofs.lemmas.List.Elements.{All-append, All-cons, All-nil}
 use Rattle.std.proofs.lemmas.Option.{same_Some}
+use Rattle.pv_header.specs.declared.extent_list.Extent.{Extent}
+use Rattle.pv_header.specs.Areas.{is_misshapen}
 use Rattle.mda_header.specs.declared.entry.Entry.{Entry}
 use Rattle.mda_header.specs.declared.entry.Entry.TheVariants.{Ignored, Nothing, Text, Refused}
 use Rattle.mda_header.specs.declared.header.Locn.{Locn}
 use Rattle.mda_ring.specs.declared.area.Area.{Area}
-use Rattle.pv_header.specs.declared.extent_list.Extent.{Extent}
-use Rattle.pv_header.specs.Areas.{is_misshapen}
 use Rattle.disk_contents.specs.declared.contents.AreaFound.{AreaFound}
 use Rattle.disk_contents.specs.declared.contents.PvFound.{PvFound}
 use Rattle.disk_contents.specs.declared.contents.PvFound.TheVariants.{NoLabel, NoHeader, Whole}
@@ -18,8 +18,8 @@ use Rattle.vg_found.proofs.KeptLists.{all_kept}
 use Rattle.vg_found.specs.declared.disk.Disk.{Disk}
 use Rattle.vg_found.specs.Disks.{areas_on, held_area, held_areas, held_by}
 use Rattle.vg_found.specs.Shape.{ContentsCanStand, IsDisk}
-use Rattle.group_ops.specs.State.{IsState}
-use Rattle.group_ops.specs.declared.state.GroupState.{GroupState}
+use Rattle.group_plan.specs.State.{IsState}
+use Rattle.group_plan.specs.declared.state.GroupState.{GroupState}
 
 -- it begins at sector 4 or behind it
 abbrev pub IsFar : Area × Option Locn → Type 0

@@ -4,12 +4,12 @@ use Rattle.std.specs.Prelude.{All, filter_map, option_map, slice_get}
 use Rattle.std.proofs.lemmas.List.{length-map}
 use Rattle.std.proofs.lemmas.List.Elements.{All-nil, All-append, All-weaker}
 use Rattle.std.proofs.lemmas.Option.{get_or_from_slice_get, same_Some, slice_get-map, slice_get_within}
+use Rattle.disk_model.specs.Calls.{Reserves}
+use Rattle.disk_model.specs.State.{State}
 use Rattle.mda_header.specs.declared.entry.Entry.{Entry}
 use Rattle.mda_header.specs.declared.entry.Entry.TheVariants.{Ignored, Nothing, Text, Refused}
 use Rattle.mda_header.specs.declared.header.Locn.{Locn}
 use Rattle.mda_ring.specs.declared.area.Area.{Area}
-use Rattle.disk_model.specs.Calls.{Reserves}
-use Rattle.disk_model.specs.State.{State}
 use Rattle.disk_contents.specs.declared.contents.AreaFound.{AreaFound}
 use Rattle.disk_contents.specs.declared.contents.PvFound.{PvFound}
 use Rattle.disk_contents.specs.declared.contents.PvFound.TheVariants.{NoLabel, NoHeader, Whole}
@@ -18,8 +18,8 @@ use Rattle.vg_found.proofs.KeptLists.{all_kept}
 use Rattle.vg_found.specs.declared.disk.Disk.{Disk}
 use Rattle.vg_found.specs.Disks.{areas_on, held_area, held_areas, held_by}
 use Rattle.vg_found.specs.Shape.{ContentsCanStand, IsDisk}
-use Rattle.group_ops.specs.State.{IsState}
-use Rattle.group_ops.specs.declared.state.GroupState.{GroupState}
+use Rattle.group_plan.specs.State.{IsState}
+use Rattle.group_plan.specs.declared.state.GroupState.{GroupState}
 use Rattle.vg_change.specs.Building.{LiesIn}
 use Rattle.vg_change.specs.CarryingOut.{sizes_of}
 

@@ -4,25 +4,25 @@ use Rattle.std.specs.Prelude.{All, filter, take as front_of}
 use Rattle.std.specs.FinSet.{contains}
 use Rattle.std.proofs.lemmas.Bool.{cases_Bool, true≢false}
 use Rattle.std.proofs.lemmas.List.Elements.{All-append, All-cons, All-filter, All-head, All-nil, All-tail, All-take, filter_passes}
-use Rattle.conf_text.specs.Printed.{printed}
 use Rattle.sector_base.specs.Spans.{covers}
 use Rattle.disk_model.specs.Steps.{Image}
-use Rattle.disk_batch.specs.InTurn.{HasFirstBatches, Put, with_batches}
-use Rattle.disk_batch.proofs.FrontBatches.{KeepsSector, batches_kept, but_last, first_or_more, front_kept}
-use Rattle.disk_batch.proofs.InTurn.{batches_append}
 use Rattle.mda_header.specs.declared.header.Locn.{Locn}
 use Rattle.mda_ring.specs.declared.area.Area.{Area}
 use Rattle.mda_ring.specs.Areas.{CanTake}
 use Rattle.mda_ring.proofs.SpanLaws.{covers_tells}
+use Rattle.conf_text.specs.Printed.{printed}
 use Rattle.meta_model.specs.declared.group.Group.{Group}
 use Rattle.meta_print.specs.Layout.{tree_of}
+use Rattle.disk_batch.specs.InTurn.{HasFirstBatches, Put, with_batches}
+use Rattle.disk_batch.proofs.FrontBatches.{KeepsSector, batches_kept, but_last, first_or_more, front_kept}
+use Rattle.disk_batch.proofs.InTurn.{batches_append}
 use Rattle.vg_commit.specs.Plans.{HeadersRead}
 use Rattle.vg_commit.specs.SectorReading.{AllShow, AreSized, Reading, ShowsBy, new_reading, old_reading}
 use Rattle.vg_commit.specs.Written.{area_span, area_writes, headers_of, publish_of, texts_of}
 use Rattle.vg_commit.proofs.CommitImages.{commit_keeps, commit_shows, commit_shown, commit_unpublished}
-use Rattle.group_ops.specs.Judging.{lies_on, set_of}
-use Rattle.group_ops.specs.declared.state.Change.{Change}
-use Rattle.group_ops.specs.declared.state.NewLabel.{NewLabel}
+use Rattle.group_plan.specs.Judging.{lies_on, set_of}
+use Rattle.group_plan.specs.declared.state.Change.{Change}
+use Rattle.group_plan.specs.declared.state.NewLabel.{NewLabel}
 use Rattle.vg_change.specs.Batches.{area_puts, areas_of, batch_if, commit_batches, label_bytes, label_put, new_area_puts}
 use Rattle.vg_change.specs.Laws.{AreasKeptBy, IsKeptOrNew, IsOnOther, LabelsKept, ShowsEntries, text_in}
 use Rattle.vg_change.specs.Sound.{CanLabel, CanTakeText}

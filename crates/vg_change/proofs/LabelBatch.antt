@@ -8,9 +8,9 @@ use Rattle.sector_base.specs.Spans.{covers}
 use Rattle.disk_model.specs.Operations.{Fills}
 use Rattle.mda_ring.proofs.SpanLaws.{covers_tells}
 use Rattle.disk_batch.specs.InTurn.{Put, ShareNoSector}
-use Rattle.vg_commit.specs.Commits.{written_at}
 use Rattle.disk_batch.proofs.WritesApart.{each_apart}
-use Rattle.group_ops.specs.declared.state.NewLabel.{NewLabel}
+use Rattle.vg_commit.specs.Commits.{written_at}
+use Rattle.group_plan.specs.declared.state.NewLabel.{NewLabel}
 use Rattle.vg_change.specs.Batches.{label_put}
 use Rattle.vg_change.specs.Building.{IsOnFew}
 use Rattle.vg_change.specs.Sound.{CanLabel, LabelLies}

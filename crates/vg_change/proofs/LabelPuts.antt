@@ -7,13 +7,13 @@ use Rattle.sector_base.specs.Spans.{covers}
 use Rattle.disk_model.specs.Puts.{one_sector}
 use Rattle.disk_model.specs.Steps.{Image, value_at}
 use Rattle.disk_model.specs.Submitting.{writes_at}
+use Rattle.mda_ring.proofs.SpanLaws.{covers_from, covers_tells}
 use Rattle.disk_batch.specs.Writes.{IsWrittenBy, write_work}
 use Rattle.disk_batch.specs.InTurn.{HasFirstBatches, Put, with_batches, with_writes}
 use Rattle.disk_batch.proofs.FrontBatches.{KeepsSector, batches_kept, first_or_more, front_kept, keeps_sector, none_front, one_front}
 use Rattle.disk_batch.proofs.InTurn.{batches_append}
 use Rattle.disk_batch.proofs.WritesOnImages.{written_or_kept}
-use Rattle.mda_ring.proofs.SpanLaws.{covers_from, covers_tells}
-use Rattle.group_ops.specs.declared.state.NewLabel.{NewLabel}
+use Rattle.group_plan.specs.declared.state.NewLabel.{NewLabel}
 use Rattle.vg_change.specs.Batches.{batch_if, label_bytes, label_put}
 use Rattle.vg_change.specs.Laws.{LabelsKept}
 use Rattle.vg_change.specs.Sound.{CanLabel}

@@ -2,21 +2,21 @@
 use Rattle.std.proofs.Common.{◌≡◌, ◌≢◌, ◌<◌, ℕ, ◌^◌, false, List, [], ◌++◌, replicate, codes, None, refl, sym, ap, subst, arith}
 use Rattle.std.specs.Prelude.{All}
 use Rattle.std.proofs.lemmas.List.{drop_at}
+use Rattle.sector_base.specs.Checksum.{checksum, lvm_crc_start}
+use Rattle.sector_base.specs.Fields.{little_bytes}
 use Rattle.lvm_id.specs.LvmId.{IsId}
-use Rattle.mda_header.specs.Header.{IsHeader}
-use Rattle.mda_header.specs.HeaderBytes.{header_bytes as mda_bytes, summed_bytes as mda_summed}
-use Rattle.mda_header.proofs.ReadAgain.{header_read}
+use Rattle.pv_label.specs.Label.{IsLabel}
+use Rattle.pv_label.specs.LabelBytes.{summed_bytes}
+use Rattle.pv_label.proofs.LabelBytes.{IsLabel-with_label}
 use Rattle.pv_header.specs.declared.extent_list.Extent.{Extent}
 use Rattle.pv_header.specs.declared.header.PvHeader.{PvHeader}
 use Rattle.pv_header.specs.Extents.{Fits64}
 use Rattle.pv_header.specs.PvHeader.{IsPvHeader, header_bytes as pv_bytes}
 use Rattle.pv_header.proofs.WrittenHeader.{IsPvHeader-written}
-use Rattle.pv_label.specs.Label.{IsLabel}
-use Rattle.pv_label.specs.LabelBytes.{summed_bytes}
-use Rattle.pv_label.proofs.LabelBytes.{IsLabel-with_label}
-use Rattle.sector_base.specs.Checksum.{checksum, lvm_crc_start}
-use Rattle.sector_base.specs.Fields.{little_bytes}
-use Rattle.group_ops.specs.declared.state.NewLabel.{NewLabel}
+use Rattle.mda_header.specs.Header.{IsHeader}
+use Rattle.mda_header.specs.HeaderBytes.{header_bytes as mda_bytes, summed_bytes as mda_summed}
+use Rattle.mda_header.proofs.ReadAgain.{header_read}
+use Rattle.group_plan.specs.declared.state.NewLabel.{NewLabel}
 use Rattle.vg_change.specs.Batches.{empty_area, label_bytes}
 use Rattle.vg_change.specs.Sound.{CanLabel, FitsFields}
 use Rattle.vg_change.proofs.ChecksumBound.{checksum_below}

@@ -1,21 +1,21 @@
 -- What every image on the way of a line keeps, and what is found once it is done.
 use Rattle.std.proofs.Common.{◌≡◌, ◌<◌, ℕ, List, [], ◌++◌, length, map, take, get_or, Option, None, Some, refl, sym, subst}
 use Rattle.std.specs.Prelude.{All}
-use Rattle.disk_model.specs.Steps.{Image}
-use Rattle.disk_batch.specs.InTurn.{HasFirstBatches, Put, with_batches}
-use Rattle.extent_alloc.specs.declared.part.Part.{Part}
-use Rattle.meta_model.specs.declared.group.Group.{Group}
-use Rattle.pv_header.specs.PvHeader.{IsPvHeader}
-use Rattle.pv_label.specs.Label.{IsLabel}
 use Rattle.lvm_script.specs.declared.line.Line.{Line}
-use Rattle.group_ops.proofs.StateFacts.{areas_take}
-use Rattle.group_ops.specs.Allocating.{Takes}
-use Rattle.group_ops.specs.Cleared.{unused_labels}
+use Rattle.disk_model.specs.Steps.{Image}
+use Rattle.pv_label.specs.Label.{IsLabel}
+use Rattle.pv_header.specs.PvHeader.{IsPvHeader}
+use Rattle.meta_model.specs.declared.group.Group.{Group}
+use Rattle.extent_alloc.specs.declared.part.Part.{Part}
+use Rattle.disk_batch.specs.InTurn.{HasFirstBatches, Put, with_batches}
+use Rattle.group_plan.proofs.StateFacts.{areas_take}
+use Rattle.group_plan.specs.Cleared.{unused_labels}
+use Rattle.group_plan.specs.State.{IsState}
+use Rattle.group_plan.specs.declared.state.Change.{Change}
+use Rattle.group_plan.specs.declared.state.GroupState.{GroupState}
+use Rattle.group_plan.specs.declared.state.NewLabel.{NewLabel}
+use Rattle.lv_plans.specs.Allocating.{Takes}
 use Rattle.group_ops.specs.Planning.{IsPlanned, asks_of, change_of, refusal_of}
-use Rattle.group_ops.specs.State.{IsState}
-use Rattle.group_ops.specs.declared.state.Change.{Change}
-use Rattle.group_ops.specs.declared.state.GroupState.{GroupState}
-use Rattle.group_ops.specs.declared.state.NewLabel.{NewLabel}
 use Rattle.vg_change.specs.Batches.{areas_of, batch_if, batches_of, commit_batches, label_put, new_area_puts}
 use Rattle.vg_change.specs.CarryingOut.{KeepsImages, sizes_of}
 use Rattle.vg_change.specs.Laws.{AreasAreKept, HasLabel, HoldsAfter, IsFoundAfter, ShowsEntries}

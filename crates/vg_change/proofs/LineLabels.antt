@@ -29,20 +29,21 @@ use Rattle.vg_found.specs.declared.disk.Disk.{Disk}
 use Rattle.vg_found.specs.Disks.{header_on}
 use Rattle.vg_found.specs.Shape.{ContentsCanStand, IsDisk}
 use Rattle.vg_commit.specs.Showing.{sectors_of}
-use Rattle.group_ops.proofs.AddedFacts.{IsFoundOn, all_found}
+use Rattle.group_plan.proofs.AddedFacts.{IsFoundOn, all_found}
+use Rattle.group_plan.specs.Added.{added_of, label_of}
+use Rattle.group_plan.specs.Committing.{no_change}
+use Rattle.group_plan.specs.Members.{pv_named}
+use Rattle.group_plan.specs.State.{IsState}
+use Rattle.group_plan.specs.declared.added.Added.{Added}
+use Rattle.group_plan.specs.declared.state.GroupState.{GroupState}
+use Rattle.group_plan.specs.declared.state.NewLabel.{NewLabel}
+use Rattle.pv_plans.specs.Pvcreate.{label_sector, new_label}
+use Rattle.vg_plans.proofs.Restoring.{restore_holds}
+use Rattle.vg_plans.specs.Vgcfgrestore.{vgcfgrestore_change}
+use Rattle.vg_plans.specs.Vgextend.{extend_by}
+use Rattle.vg_plans.specs.Vgreduce.{leaving_change, reduce_change}
 use Rattle.group_ops.proofs.NextVersions.{is_next, next_labels}
-use Rattle.group_ops.proofs.Restoring.{restore_holds}
-use Rattle.group_ops.specs.Vgcfgrestore.{vgcfgrestore_change}
-use Rattle.group_ops.specs.Added.{added_of, label_of}
-use Rattle.group_ops.specs.Committing.{no_change}
-use Rattle.group_ops.specs.Members.{pv_named}
-use Rattle.group_ops.specs.Planning.{IsPlanned, change_of, extend_by}
-use Rattle.group_ops.specs.Pvcreate.{label_sector, new_label}
-use Rattle.group_ops.specs.State.{IsState}
-use Rattle.group_ops.specs.Vgreduce.{leaving_change, reduce_change}
-use Rattle.group_ops.specs.declared.added.Added.{Added}
-use Rattle.group_ops.specs.declared.state.GroupState.{GroupState}
-use Rattle.group_ops.specs.declared.state.NewLabel.{NewLabel}
+use Rattle.group_ops.specs.Planning.{IsPlanned, change_of}
 use Rattle.vg_change.specs.Batches.{area_puts, batch_if, empty_area, label_put}
 use Rattle.vg_change.specs.Sound.{CanLabel}
 use Rattle.vg_change.proofs.KeptImages.{KeepNear}

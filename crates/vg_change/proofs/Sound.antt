@@ -21,24 +21,24 @@ use Rattle.group_edits.proofs.ReducedRules.{all_without}
 use Rattle.group_edits.specs.ReducedGroup.{reduced_group}
 use Rattle.group_edits.specs.NextVersion.{next_version}
 use Rattle.group_edits.specs.RestoredGroup.{restored_group}
+use Rattle.group_plan.specs.Added.{added_of}
+use Rattle.group_plan.specs.Committing.{change_where_found, length_row, length_row_on, no_area_row, no_change, version_change, version_change_on}
+use Rattle.group_plan.specs.Judging.{area_row, first_refusal, large_row, set_of, stored_size, used_row}
+use Rattle.group_plan.specs.NewGroup.{change_with, extended}
+use Rattle.group_plan.specs.State.{IsState}
+use Rattle.group_plan.specs.declared.backup.Backup.{Backup}
+use Rattle.group_plan.specs.declared.state.Change.{Change}
+use Rattle.group_plan.specs.declared.state.GroupState.{GroupState}
+use Rattle.group_plan.proofs.Rows.{none_holds}
+use Rattle.vg_plans.proofs.Leaving.{LeavesNext, leaves_next}
+use Rattle.vg_plans.specs.Vgextend.{extend_by, found_rows, vgextend_change}
+use Rattle.vg_plans.specs.Vgcreate.{empty_group, new_rows, vgcreate_change}
+use Rattle.vg_plans.specs.Vgreduce.{vgreduce_change}
+use Rattle.vg_plans.proofs.Restoring.{Restores, restores}
+use Rattle.vg_plans.specs.Vgcfgrestore.{backup_change, vgcfgrestore_change, vgcfgrestore_rows}
+use Rattle.lv_plans.specs.Allocating.{Takes}
 use Rattle.group_ops.proofs.NextVersions.{CommitsNext, append_nil, commits_next, extended_none}
-use Rattle.group_ops.proofs.Leaving.{LeavesNext, leaves_next}
-use Rattle.group_ops.specs.Added.{added_of}
-use Rattle.group_ops.specs.Allocating.{Takes}
-use Rattle.group_ops.specs.Committing.{change_where_found, length_row, length_row_on, no_area_row, no_change, version_change, version_change_on}
-use Rattle.group_ops.specs.Judging.{area_row, first_refusal, large_row, set_of, stored_size, used_row}
-use Rattle.group_ops.specs.NewGroup.{change_with, extended}
-use Rattle.group_ops.specs.Planning.{IsPlanned, asks_of, change_of, extend_by, refusal_of}
-use Rattle.group_ops.specs.State.{IsState}
-use Rattle.group_ops.specs.Vgcreate.{empty_group, new_rows, vgcreate_change}
-use Rattle.group_ops.specs.Vgextend.{found_rows, vgextend_change}
-use Rattle.group_ops.specs.Vgreduce.{vgreduce_change}
-use Rattle.group_ops.proofs.Restoring.{Restores, restores}
-use Rattle.group_ops.specs.Vgcfgrestore.{backup_change, vgcfgrestore_change, vgcfgrestore_rows}
-use Rattle.group_ops.specs.declared.backup.Backup.{Backup}
-use Rattle.group_ops.specs.declared.state.Change.{Change}
-use Rattle.group_ops.specs.declared.state.GroupState.{GroupState}
-use Rattle.group_ops.proofs.Rows.{none_holds}
+use Rattle.group_ops.specs.Planning.{IsPlanned, asks_of, change_of, refusal_of}
 use Rattle.vg_change.proofs.SoundCommit.{commit_can_make, commit_lies_on}
 use Rattle.vg_change.proofs.SoundPvcreate.{pvcreate_can_make, pvcreate_lies_on}
 use Rattle.vg_change.specs.CarryingOut.{sizes_of}

@@ -5,22 +5,22 @@ use Rattle.std.proofs.lemmas.List.{length-map}
 use Rattle.std.proofs.lemmas.List.Elements.{All-append, All-filter, All-weaker, filter_passes}
 use Rattle.std.proofs.lemmas.List.Kept.{AllPairs-filter}
 use Rattle.std.proofs.lemmas.Option.{none-some, same_Some}
-use Rattle.conf_text.specs.Printed.{printed}
 use Rattle.mda_header.specs.declared.header.Locn.{Locn}
 use Rattle.mda_ring.specs.Areas.{CanTake, LieApart}
 use Rattle.mda_ring.specs.declared.area.Area.{Area}
+use Rattle.conf_text.specs.Printed.{printed}
 use Rattle.meta_model.specs.declared.group.Group.{Group}
 use Rattle.meta_print.specs.Layout.{tree_of}
-use Rattle.vg_commit.specs.Preparing.{AreCommitted, AreWithin, IsOnDiskOf}
 use Rattle.vg_found.proofs.ShapedAreas.{areas_shaped}
 use Rattle.vg_found.specs.declared.disk.Disk.{Disk}
-use Rattle.group_ops.proofs.Passed.{all_unused}
-use Rattle.group_ops.proofs.StateFacts.{areas_take}
-use Rattle.group_ops.specs.Added.{added_of, disks_added}
-use Rattle.group_ops.specs.Judging.{area_row, lies_on, set_of, used_row}
-use Rattle.group_ops.specs.NewGroup.{change_with, extended, text_row}
-use Rattle.group_ops.specs.State.{IsState}
-use Rattle.group_ops.specs.declared.state.GroupState.{GroupState}
+use Rattle.vg_commit.specs.Preparing.{AreCommitted, AreWithin, IsOnDiskOf}
+use Rattle.group_plan.proofs.Passed.{all_unused}
+use Rattle.group_plan.proofs.StateFacts.{areas_take}
+use Rattle.group_plan.specs.Added.{added_of, disks_added}
+use Rattle.group_plan.specs.Judging.{area_row, lies_on, set_of, used_row}
+use Rattle.group_plan.specs.NewGroup.{change_with, extended, text_row}
+use Rattle.group_plan.specs.State.{IsState}
+use Rattle.group_plan.specs.declared.state.GroupState.{GroupState}
 use Rattle.vg_change.proofs.AddedLabels.{added_there, all_stand, can_label, labels_differ, labels_lie}
 use Rattle.vg_change.proofs.DiskSets.{of_disks}
 use Rattle.vg_change.proofs.HeldInDisks.{areas_lie, sizes_below}

@@ -13,12 +13,12 @@ use Rattle.disk_contents.specs.declared.contents.PvFound.{PvFound}
 use Rattle.disk_contents.specs.declared.contents.PvFound.TheVariants.{NoLabel, NoHeader, Whole}
 use Rattle.vg_found.specs.declared.disk.Disk.{Disk}
 use Rattle.vg_found.specs.Shape.{ContentsCanStand}
-use Rattle.group_ops.specs.Judging.{first_refusal}
-use Rattle.group_ops.specs.Pvcreate.{disk_rows, few_row, fewest_sectors, label_in, label_sector, new_areas, new_label, pvcreate_change, pvcreate_rows}
-use Rattle.group_ops.specs.State.{IsState}
-use Rattle.group_ops.specs.declared.state.GroupState.{GroupState}
-use Rattle.group_ops.specs.declared.state.NewLabel.{NewLabel}
-use Rattle.group_ops.proofs.Rows.{none_holds, test_fails}
+use Rattle.group_plan.specs.Judging.{first_refusal}
+use Rattle.group_plan.specs.State.{IsState}
+use Rattle.group_plan.specs.declared.state.GroupState.{GroupState}
+use Rattle.group_plan.specs.declared.state.NewLabel.{NewLabel}
+use Rattle.group_plan.proofs.Rows.{none_holds, test_fails}
+use Rattle.pv_plans.specs.Pvcreate.{disk_rows, few_row, fewest_sectors, label_in, label_sector, new_areas, new_label, pvcreate_change, pvcreate_rows}
 use Rattle.vg_change.proofs.HeldInDisks.{HasSize, has_size}
 use Rattle.vg_change.specs.CarryingOut.{sizes_of}
 use Rattle.vg_change.specs.Sound.{AreasLie, CanLabel, CanMake, IsOnDisk, LabelLies, LiesOn, header_sector}

@@ -16,9 +16,9 @@ use Rattle.conf_text.specs.Printed.{printed}
 use Rattle.meta_model.specs.declared.group.Group.{Group}
 use Rattle.meta_print.specs.Layout.{tree_of}
 use Rattle.vg_commit.specs.TooLarge.{first_too_large}
-use Rattle.group_ops.proofs.Passed.{no_map}
-use Rattle.group_ops.specs.Judging.{area_row, is_full, large_row, lies_on, set_of, stored_size}
-use Rattle.group_ops.proofs.Rows.{test_holds}
+use Rattle.group_plan.proofs.Passed.{no_map}
+use Rattle.group_plan.specs.Judging.{area_row, is_full, large_row, lies_on, set_of, stored_size}
+use Rattle.group_plan.proofs.Rows.{test_holds}
 
 -- ---- one area
 

@@ -12,16 +12,16 @@ use Rattle.pv_header.specs.PvHeader.{IsPvHeader}
 use Rattle.pv_header.specs.PvRefusal.{Reads}
 use Rattle.pv_header.specs.declared.extent_list.Extent.{Extent}
 use Rattle.pv_header.specs.declared.header.PvHeader.{PvHeader}
+use Rattle.mda_header.specs.declared.header.Locn.{Locn}
+use Rattle.mda_ring.specs.declared.area.Area.{Area}
 use Rattle.disk_contents.specs.declared.contents.AreaFound.{AreaFound}
 use Rattle.disk_contents.specs.declared.contents.PvFound.{PvFound}
 use Rattle.disk_contents.specs.declared.contents.PvFound.TheVariants.{NoLabel, NoHeader, Whole}
 use Rattle.vg_found.specs.Shape.{ContentsCanStand, IsDisk}
 use Rattle.vg_found.specs.declared.disk.Disk.{Disk}
-use Rattle.mda_header.specs.declared.header.Locn.{Locn}
-use Rattle.mda_ring.specs.declared.area.Area.{Area}
-use Rattle.group_ops.specs.Added.{pv_in}
-use Rattle.group_ops.specs.Cleared.{unused, unused_label, unused_labels}
-use Rattle.group_ops.specs.declared.state.NewLabel.{NewLabel}
+use Rattle.group_plan.specs.Added.{pv_in}
+use Rattle.group_plan.specs.Cleared.{unused, unused_label, unused_labels}
+use Rattle.group_plan.specs.declared.state.NewLabel.{NewLabel}
 use Rattle.vg_change.specs.Building.{AreScanned}
 use Rattle.vg_change.specs.CarryingOut.{sizes_of}
 use Rattle.vg_change.specs.Sound.{CanLabel, LabelLies}

@@ -5,12 +5,12 @@ use Rattle.std.proofs.lemmas.List.Elements.{All-from_recursion, All-map, All-nil
 use Rattle.std.proofs.lemmas.List.{length-map, length-replicate}
 use Rattle.std.proofs.lemmas.Option.{same_Some}
 use Rattle.sector_base.specs.declared.spans.Span.{Span}
+use Rattle.disk_model.specs.Operations.{Fills}
 use Rattle.disk_batch.specs.Batches.{writes_of}
 use Rattle.disk_batch.specs.InTurn.{CanRun, Put}
 use Rattle.disk_batch.specs.declared.batch.Batch.{Batch}
-use Rattle.disk_model.specs.Operations.{Fills}
-use Rattle.group_ops.specs.Zeroing.{AreWithin}
 use Rattle.vg_found.specs.declared.disk.Disk.{Disk}
+use Rattle.group_plan.specs.Zeroing.{AreWithin}
 use Rattle.vg_change.specs.CarryingOut.{sizes_of}
 use Rattle.vg_change.specs.Batches.{batch_if, zero_put}
 use Rattle.vg_change.specs.Building.{IsAdded, IsOnFew}

@@ -3,28 +3,28 @@ use Rattle.std.specs.Ordering.{nat_cmp}
 use Rattle.std.specs.FinSet as set
 use Rattle.std.specs.Prelude.{ℕ, ◌/◌, false, List, [], ◌∷◌, ◌++◌, map, filter, flat_map, replicate, Option, Some, None}
 use Rattle.sector_base.specs.declared.spans.Span.{Span}
-use Rattle.conf_text.specs.Printed.{printed}
-use Rattle.disk_batch.specs.InTurn.{Put}
+use Rattle.lvm_script.specs.declared.line.Line.{Line}
 use Rattle.disk_model.specs.Puts.{one_sector}
-use Rattle.extent_alloc.specs.declared.part.Part.{Part}
+use Rattle.pv_label.specs.LabelBytes.{with_label}
+use Rattle.pv_header.specs.declared.extent_list.Extent.{Extent}
+use Rattle.pv_header.specs.PvHeader.{header_bytes as pv_bytes}
 use Rattle.mda_header.specs.declared.header.Locn.{Locn}
 use Rattle.mda_header.specs.declared.header.MdaHeader.{MdaHeader}
 use Rattle.mda_header.specs.HeaderBytes.{header_bytes as mda_bytes}
 use Rattle.mda_ring.specs.declared.area.Area.{Area}
+use Rattle.conf_text.specs.Printed.{printed}
 use Rattle.meta_model.specs.declared.group.Group.{Group}
 use Rattle.meta_print.specs.Layout.{tree_of}
-use Rattle.pv_header.specs.declared.extent_list.Extent.{Extent}
-use Rattle.pv_header.specs.PvHeader.{header_bytes as pv_bytes}
-use Rattle.pv_label.specs.LabelBytes.{with_label}
-use Rattle.vg_commit.specs.Written.{AreaWrites, area_writes, header_of, header_span, headers_of, publish_of, texts_of}
+use Rattle.extent_alloc.specs.declared.part.Part.{Part}
+use Rattle.disk_batch.specs.InTurn.{Put}
 use Rattle.vg_found.specs.declared.disk.Disk.{Disk}
-use Rattle.group_ops.specs.Cleared.{cleared_areas, unused_labels}
-use Rattle.group_ops.specs.Judging.{lies_on, set_of}
+use Rattle.vg_commit.specs.Written.{AreaWrites, area_writes, header_of, header_span, headers_of, publish_of, texts_of}
+use Rattle.group_plan.specs.Cleared.{cleared_areas, unused_labels}
+use Rattle.group_plan.specs.Judging.{lies_on, set_of}
+use Rattle.group_plan.specs.declared.state.GroupState.{GroupState}
+use Rattle.group_plan.specs.declared.state.Change.{Change}
+use Rattle.group_plan.specs.declared.state.NewLabel.{NewLabel}
 use Rattle.group_ops.specs.Planning.{change_of}
-use Rattle.group_ops.specs.declared.state.GroupState.{GroupState}
-use Rattle.lvm_script.specs.declared.line.Line.{Line}
-use Rattle.group_ops.specs.declared.state.Change.{Change}
-use Rattle.group_ops.specs.declared.state.NewLabel.{NewLabel}
 
 -- the batch, if it has a write
 abbrev pub batch_if : List Put → List (List Put)

@@ -2,25 +2,25 @@
 use Rattle.std.specs.Prelude.{◌≡◌, ◌≤◌, ◌<◌, ℕ, List, [], ◌∷◌, ◌++◌, length, map, filter, slice_get, All, AllPairs, Option, Some}
 use Rattle.std.specs.Ordering.{nat_cmp}
 use Rattle.std.specs.FinSet as set
-use Rattle.conf_text.specs.Printed.{printed}
-use Rattle.disk_batch.specs.Batches.{disks_of, writes_of}
-use Rattle.disk_batch.specs.InTurn.{CanRun, Put}
-use Rattle.disk_batch.specs.Writes.{disks_in}
-use Rattle.disk_batch.specs.declared.batch.Batch.{Batch}
 use Rattle.disk_model.specs.Operations.{IsWithin}
 use Rattle.mda_header.specs.declared.header.Locn.{Locn}
 use Rattle.mda_ring.specs.Areas.{CanTake, LieApart}
 use Rattle.mda_ring.specs.declared.area.Area.{Area}
+use Rattle.conf_text.specs.Printed.{printed}
 use Rattle.meta_model.specs.declared.group.Group.{Group}
 use Rattle.meta_print.specs.Layout.{tree_of}
-use Rattle.vg_commit.specs.Plans.{HeadersRead}
-use Rattle.vg_commit.specs.Preparing.{area_disks}
-use Rattle.vg_commit.specs.Written.{area_span}
+use Rattle.disk_batch.specs.Batches.{disks_of, writes_of}
+use Rattle.disk_batch.specs.InTurn.{CanRun, Put}
+use Rattle.disk_batch.specs.Writes.{disks_in}
+use Rattle.disk_batch.specs.declared.batch.Batch.{Batch}
 use Rattle.vg_found.specs.Disks.{held_areas}
 use Rattle.vg_found.specs.Shape.{IsDisk}
 use Rattle.vg_found.specs.declared.disk.Disk.{Disk}
-use Rattle.group_ops.specs.Cleared.{unused_labels}
-use Rattle.group_ops.specs.Judging.{lies_on, set_of}
+use Rattle.vg_commit.specs.Plans.{HeadersRead}
+use Rattle.vg_commit.specs.Preparing.{area_disks}
+use Rattle.vg_commit.specs.Written.{area_span}
+use Rattle.group_plan.specs.Cleared.{unused_labels}
+use Rattle.group_plan.specs.Judging.{lies_on, set_of}
 use Rattle.vg_change.specs.Batches.{clear_batches, commit_batches}
 use Rattle.vg_change.specs.CarryingOut.{sizes_of}
 use Rattle.vg_change.specs.Sound.{FitsFields}

@@ -1,20 +1,20 @@
 -- What is promised of a line that is carried out.
 use Rattle.std.specs.Prelude.{◌≡◌, ◌≤◌, ◌<◌, ◌⊎◌, ℕ, Bool, true, false, is_some, List, length, map, take, All, None, Some, Result, Ok, Err, MatchResult}
-use Rattle.disk_batch.specs.InTurn.{HasFirstBatches, Put, WritesInTurn, with_batches}
+use Rattle.lvm_script.specs.declared.line.Line.{Line}
 use Rattle.disk_model.specs.Faults.{HasSameFaults}
 use Rattle.disk_model.specs.Since.{BetweenTold}
 use Rattle.disk_model.specs.State.{IsLawful, State}
 use Rattle.disk_model.specs.Steps.{Image, Told}
-use Rattle.extent_alloc.specs.declared.part.Part.{Part}
-use Rattle.lvm_script.specs.declared.line.Line.{Line}
 use Rattle.meta_model.specs.declared.group.Group.{Group}
-use Rattle.vg_commit.specs.SectorReading.{ShowsBy, old_reading}
+use Rattle.extent_alloc.specs.declared.part.Part.{Part}
+use Rattle.disk_batch.specs.InTurn.{HasFirstBatches, Put, WritesInTurn, with_batches}
 use Rattle.vg_found.specs.declared.disk.Disk.{Disk}
-use Rattle.group_ops.specs.Allocating.{Takes}
+use Rattle.vg_commit.specs.SectorReading.{ShowsBy, old_reading}
+use Rattle.group_plan.specs.declared.refusal.PlanRefusal.{PlanRefusal}
+use Rattle.group_plan.specs.declared.refusal.PlanRefusal.TheVariants as plan
+use Rattle.group_plan.specs.declared.state.GroupState.{GroupState}
+use Rattle.lv_plans.specs.Allocating.{Takes}
 use Rattle.group_ops.specs.Planning.{asks_of, change_of, refusal_of}
-use Rattle.group_ops.specs.declared.refusal.PlanRefusal.{PlanRefusal}
-use Rattle.group_ops.specs.declared.refusal.PlanRefusal.TheVariants as plan
-use Rattle.group_ops.specs.declared.state.GroupState.{GroupState}
 use Rattle.vg_change.specs.declared.fault.ChangeFault.{ChangeFault}
 use Rattle.vg_change.specs.declared.fault.ChangeFault.TheVariants.{NoMemory, Refused, Failed, Uncleared}
 use Rattle.vg_change.specs.Batches.{batches_of, clears_of, zeros_of}

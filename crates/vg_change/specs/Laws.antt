@@ -3,30 +3,30 @@ use Rattle.std.specs.Prelude.{◌≡◌, ◌≢◌, ◌<◌, ◌⊎◌, ℕ, fal
 use Rattle.std.specs.Ordering.{nat_cmp}
 use Rattle.std.specs.FinSet as set
 use Rattle.sector_base.specs.Spans.{covers}
-use Rattle.conf_text.specs.Printed.{printed}
-use Rattle.disk_batch.specs.InTurn.{HasFirstBatches, with_batches}
-use Rattle.disk_model.specs.Steps.{Image}
-use Rattle.extent_alloc.specs.declared.part.Part.{Part}
 use Rattle.lvm_script.specs.declared.line.Line.{Line}
+use Rattle.disk_model.specs.Steps.{Image}
+use Rattle.pv_label.specs.Label.{IsLabel}
+use Rattle.pv_header.specs.PvHeader.{IsPvHeader}
+use Rattle.pv_header.specs.declared.extent_list.Extent.{Extent}
 use Rattle.mda_header.specs.Header.{IsHeader}
 use Rattle.mda_header.specs.HeaderBytes.{header_bytes}
 use Rattle.mda_header.specs.declared.header.Locn.{Locn}
 use Rattle.mda_ring.specs.declared.area.Area.{Area}
 use Rattle.mda_ring.specs.Texts.{text_at}
+use Rattle.conf_text.specs.Printed.{printed}
 use Rattle.meta_model.specs.declared.group.Group.{Group}
 use Rattle.meta_print.specs.Layout.{tree_of}
-use Rattle.pv_header.specs.PvHeader.{IsPvHeader}
-use Rattle.pv_header.specs.declared.extent_list.Extent.{Extent}
-use Rattle.pv_label.specs.Label.{IsLabel}
+use Rattle.extent_alloc.specs.declared.part.Part.{Part}
+use Rattle.disk_batch.specs.InTurn.{HasFirstBatches, with_batches}
+use Rattle.vg_found.specs.declared.disk.Disk.{Disk}
 use Rattle.vg_commit.specs.SectorReading.{ShowsBy, new_reading, old_reading}
 use Rattle.vg_commit.specs.Showing.{Names, sectors_of}
 use Rattle.vg_commit.specs.Written.{header_of, header_span}
-use Rattle.vg_found.specs.declared.disk.Disk.{Disk}
-use Rattle.group_ops.specs.Cleared.{cleared_areas, unused_labels}
+use Rattle.group_plan.specs.Cleared.{cleared_areas, unused_labels}
+use Rattle.group_plan.specs.declared.state.Change.{Change}
+use Rattle.group_plan.specs.declared.state.GroupState.{GroupState}
+use Rattle.group_plan.specs.declared.state.NewLabel.{NewLabel}
 use Rattle.group_ops.specs.Planning.{change_of}
-use Rattle.group_ops.specs.declared.state.Change.{Change}
-use Rattle.group_ops.specs.declared.state.GroupState.{GroupState}
-use Rattle.group_ops.specs.declared.state.NewLabel.{NewLabel}
 use Rattle.vg_change.specs.Batches.{areas_of, clear_batches, empty_area, label_bytes}
 
 -- in the image the header of each area names the entry that the list has

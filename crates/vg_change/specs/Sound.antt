@@ -1,20 +1,20 @@
 -- Which changes can be written.
 use Rattle.std.specs.Prelude.{◌≡◌, ◌≢◌, ◌≤◌, ◌<◌, ◌+◌, ◌/◌, ◌^◌, ℕ, List, length, map, slice_index_or, All, AllPairs, Option, Some, None}
 use Rattle.sector_base.specs.declared.spans.Span.{Span}
-use Rattle.conf_text.specs.Printed.{printed}
-use Rattle.disk_batch.specs.InTurn.{ShareNoSector}
-use Rattle.disk_batch.specs.Writes.{LieIn}
+use Rattle.pv_header.specs.declared.extent_list.Extent.{Extent}
 use Rattle.mda_header.specs.declared.header.Locn.{Locn}
 use Rattle.mda_ring.specs.declared.area.Area.{Area}
+use Rattle.conf_text.specs.Printed.{printed}
 use Rattle.meta_model.specs.declared.group.Group.{Group}
 use Rattle.meta_print.specs.Layout.{tree_of}
-use Rattle.pv_header.specs.declared.extent_list.Extent.{Extent}
+use Rattle.disk_batch.specs.InTurn.{ShareNoSector}
+use Rattle.disk_batch.specs.Writes.{LieIn}
 use Rattle.vg_commit.specs.Plans.{HeadersRead}
 use Rattle.vg_commit.specs.Preparing.{AreCommitted, AreWithin}
 use Rattle.vg_commit.specs.TooLarge.{first_too_large}
-use Rattle.group_ops.specs.Judging.{set_of}
-use Rattle.group_ops.specs.declared.state.Change.{Change}
-use Rattle.group_ops.specs.declared.state.NewLabel.{NewLabel}
+use Rattle.group_plan.specs.Judging.{set_of}
+use Rattle.group_plan.specs.declared.state.Change.{Change}
+use Rattle.group_plan.specs.declared.state.NewLabel.{NewLabel}
 use Rattle.vg_change.specs.Batches.{areas_of, zero_put}
 
 -- a label for one of the first four sectors of one of 64 disks, whose lists fit behind it

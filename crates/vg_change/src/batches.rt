@@ -1,20 +1,20 @@
 //! The batches of a change.
 ghost use Rattle.std.specs.Prelude.{◌≡◌, ◌<◌, ◌++◌, ℕ, List, length, flat_map, map, All, IfOk, OnOk, None};
 ghost use Rattle.conf_text.specs.Printed.{printed};
+ghost use Rattle.meta_print.specs.Layout.{tree_of};
 ghost use Rattle.disk_batch.specs.Batches.{writes_of};
 ghost use Rattle.disk_batch.specs.InTurn.{CanRun};
 ghost use Rattle.disk_batch.specs.Writes.{disks_in};
-ghost use Rattle.group_ops.specs.Judging.{set_of};
-ghost use Rattle.meta_print.specs.Layout.{tree_of};
 ghost use Rattle.vg_commit.specs.Preparing.{AreCommitted, IsPrepared};
 ghost use Rattle.vg_commit.specs.TooLarge.{first_too_large};
+ghost use Rattle.group_plan.specs.Judging.{set_of};
 ghost use Rattle.vg_change.specs.Batches.{area_puts, change_batches, label_put};
 ghost use Rattle.vg_change.specs.Building.{Is, IsAdded, IsCommitAdded, IsOnFew, areas_on, disks_written};
 ghost use Rattle.vg_change.specs.Sound.{CanLabel, CanMake, FitsFields, IsReadAgain, LiesOn};
 
 use crate::label_sector::{area_write, label_write};
 use disk_batch::{Batch, Writes};
-use group_ops::{Change, NewLabel};
+use group_plan::{Change, NewLabel};
 use mda_header::Locn;
 use mda_ring::{Area, Areas};
 use meta_model::Group;

@@ -1,12 +1,12 @@
 //! A line is carried out.
 ghost use Rattle.std.specs.Prelude.{◌≡◌, ◌≤◌, ◌<◌, ◌+◌, ◌^◌, [], is_ok, map, sum_by, All, MatchResult};
-ghost use Rattle.disk_batch.specs.Batches.{writes_of};
-ghost use Rattle.disk_batch.specs.InTurn.{CanRun, WritesInTurn, ops_of, sectors_of};
 ghost use Rattle.disk_model.specs.Faults.{HasSameFaults};
 ghost use Rattle.disk_model.specs.Idle.{IsIdleAgain};
 ghost use Rattle.disk_model.specs.Since.{BetweenTold};
+ghost use Rattle.disk_batch.specs.Batches.{writes_of};
+ghost use Rattle.disk_batch.specs.InTurn.{CanRun, WritesInTurn, ops_of, sectors_of};
+ghost use Rattle.group_plan.specs.State.{IsState};
 ghost use Rattle.group_ops.specs.Planning.{IsBackupOf, IsPlanned};
-ghost use Rattle.group_ops.specs.State.{IsState};
 ghost use Rattle.vg_change.specs.CarryingOut.{IsCarried, IsMade, IsUnclearedBy, WritesBoth, clear_fault, made_at, sizes_of};
 
 use crate::ChangeFault;
@@ -15,7 +15,8 @@ use crate::clears::clears_of;
 use crate::zeros::zeros_of;
 use disk_batch::{Batch, reserve_lists, write_in_turn};
 use disk_model::Shelf;
-use group_ops::{GroupState, plan};
+use group_ops::plan;
+use group_plan::GroupState;
 use lvm_script::Line;
 use std::alloc::Global;
 

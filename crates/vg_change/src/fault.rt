@@ -3,7 +3,7 @@ ghost use Rattle.std.specs.Prelude.{◌≡◌};
 ghost use Rattle.vg_change.specs.CarryingOut.{fault_of};
 ghost use Rattle.vg_change.specs.declared.fault.ChangeFault.TheVariants.{NoMemory};
 
-use group_ops::PlanRefusal;
+use group_plan::PlanRefusal;
 use line_answers::OpRefusal;
 use std::alloc::{AllocError, AllocFailed};
 

@@ -4,7 +4,7 @@ ghost use Rattle.mda_header.specs.HeaderBytes.{header_bytes as mda_bytes};
 ghost use Rattle.vg_change.specs.Batches.{area_put, empty_area, label_bytes, label_put};
 ghost use Rattle.vg_change.specs.Sound.{FitsFields};
 
-use group_ops::NewLabel;
+use group_plan::NewLabel;
 use mda_header::{MdaHeader, write_mda};
 use pv_header::{Extent, write_pv};
 use pv_label::seal_label;

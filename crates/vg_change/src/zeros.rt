@@ -7,7 +7,7 @@ ghost use Rattle.vg_change.specs.Sound.{ZeroesLieOn};
 
 use crate::batches::push_batch;
 use disk_batch::Batch;
-use group_ops::Change;
+use group_plan::Change;
 use sector_base::{Sectors, Span};
 use std::alloc::{AllocError, Global};
 

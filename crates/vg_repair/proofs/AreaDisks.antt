@@ -4,12 +4,12 @@ use Rattle.std.specs.Prelude.{All}
 use Rattle.std.specs.Ordering.{nat_cmp}
 use Rattle.std.specs.FinSet.{FinSet, contains, empty, insert}
 use Rattle.std.proofs.lemmas.List.Elements.{All-map}
-use Rattle.disk_batch.specs.Writes.{disks_in}
 use Rattle.mda_header.specs.declared.header.Locn.{Locn}
 use Rattle.mda_ring.specs.declared.area.Area.{Area}
-use Rattle.group_ops.specs.Judging.{with_all}
+use Rattle.disk_batch.specs.Writes.{disks_in}
 use Rattle.vg_commit.proofs.Disks.{each_in}
 use Rattle.vg_commit.specs.Preparing.{area_disks, with_disks}
+use Rattle.group_plan.specs.Judging.{with_all}
 use Rattle.vg_change.proofs.DiskSets.{of_disks}
 use Rattle.vg_change.specs.Building.{LiesIn}
 

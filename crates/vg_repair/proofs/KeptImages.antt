@@ -6,24 +6,25 @@ use Rattle.std.proofs.lemmas.Bool.{cases_Bool, true≢false}
 use Rattle.std.proofs.lemmas.List.Elements.{filter_passes}
 use Rattle.sector_base.specs.Spans.{covers}
 use Rattle.disk_model.specs.Steps.{Image}
+use Rattle.mda_header.specs.declared.header.Locn.{Locn}
+use Rattle.mda_ring.specs.declared.area.Area.{Area}
+use Rattle.mda_ring.proofs.SpanLaws.{covers_tells}
 use Rattle.disk_batch.specs.InTurn.{HasFirstBatches, Put, with_batches}
 use Rattle.disk_batch.specs.declared.batch.Batch.{Batch}
 use Rattle.disk_batch.proofs.FrontBatches.{KeepsSector, batches_kept, first_or_more, front_kept}
 use Rattle.disk_batch.proofs.InTurn.{batches_append}
-use Rattle.mda_header.specs.declared.header.Locn.{Locn}
-use Rattle.mda_ring.specs.declared.area.Area.{Area}
-use Rattle.mda_ring.proofs.SpanLaws.{covers_tells}
+use Rattle.vg_found.specs.Shape.{HasShape}
+use Rattle.vg_found.specs.declared.found.Found.{Found}
 use Rattle.vg_commit.specs.SectorReading.{AllShow, new_reading}
 use Rattle.vg_commit.specs.Showing.{Names, sectors_of}
 use Rattle.vg_commit.specs.Written.{area_span, header_span}
-use Rattle.vg_found.specs.Shape.{HasShape}
-use Rattle.vg_found.specs.declared.found.Found.{Found}
-use Rattle.group_ops.specs.Judging.{lies_on}
-use Rattle.group_ops.specs.declared.state.NewLabel.{NewLabel}
+use Rattle.group_plan.specs.Judging.{lies_on}
+use Rattle.group_plan.specs.declared.state.NewLabel.{NewLabel}
 use Rattle.vg_change.specs.Batches.{clear_batches}
 use Rattle.vg_change.specs.Sound.{FitsFields}
 use Rattle.vg_change.specs.Laws.{AreCleared, ClearsKeep, HasLabel, IsEmpty, IsKeptOrEmpty, IsKeptOrNew, IsUncleared, LabelsKept, ShowsEntries}
 use Rattle.vg_change.proofs.FarAreas.{IsFar}
+use Rattle.vg_change.proofs.ClearedImages.{all_keep, are_cleared, is_kept as clears_kept}
 use Rattle.vg_repair.specs.Batches.{repair_batches, stray_areas, stray_labels, text_batches}
 use Rattle.vg_repair.specs.Building.{IsMade}
 use Rattle.vg_repair.specs.Laws.{IsKept, IsOther, IsRight, KeepsImages, StraysAreOthers}
@@ -32,7 +33,6 @@ use Rattle.vg_repair.proofs.HeldAreas.{are_scanned, each_far, stale_all, stale_h
 use Rattle.vg_repair.proofs.KeptTexts.{AreOutside, Fit, texts_keep, texts_shows, texts_there}
 use Rattle.vg_repair.proofs.StaleOthers.{stale_elsewhere}
 use Rattle.vg_repair.proofs.StrayLabels.{labels_can}
-use Rattle.vg_change.proofs.ClearedImages.{all_keep, are_cleared, is_kept as clears_kept}
 
 module _ (found : Found) (shape : HasShape found) (others : StraysAreOthers found) (fit : Fit (text_of found) (stale_areas found)) where
   abbrev stale : List (Area × Option Locn)

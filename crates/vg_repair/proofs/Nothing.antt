@@ -5,25 +5,25 @@ use Rattle.std.specs.List.{cons_option, enumerate_from, filter_map, flat_map}
 use Rattle.std.specs.Option.{option_and_then, option_map_or}
 use Rattle.std.specs.Ordering.{nat_cmp}
 use Rattle.std.specs.FinSet as set
+use Rattle.pv_header.specs.declared.header.PvHeader.{PvHeader}
 use Rattle.mda_header.specs.declared.header.Locn.{Locn}
 use Rattle.mda_ring.specs.declared.area.Area.{Area}
 use Rattle.disk_contents.specs.declared.contents.AreaFound.{AreaFound}
 use Rattle.disk_contents.specs.declared.contents.PvFound.{PvFound}
 use Rattle.disk_contents.specs.declared.contents.PvFound.TheVariants.{NoLabel, NoHeader, Whole}
-use Rattle.pv_header.specs.declared.header.PvHeader.{PvHeader}
 use Rattle.vg_found.specs.Disks.{areas_on, held_area, held_areas}
 use Rattle.vg_found.specs.Shape.{HasShape}
 use Rattle.vg_found.specs.declared.disk.Disk.{Disk}
 use Rattle.vg_found.specs.declared.found.Found.{Found}
-use Rattle.group_ops.specs.Added.{pv_in}
-use Rattle.group_ops.specs.Judging.{lies_on}
-use Rattle.group_ops.specs.declared.state.NewLabel.{NewLabel}
+use Rattle.group_plan.specs.Added.{pv_in}
+use Rattle.group_plan.specs.Judging.{lies_on}
+use Rattle.group_plan.specs.declared.state.NewLabel.{NewLabel}
+use Rattle.group_plan.specs.Cleared.{unused, unused_label, unused_labels}
 use Rattle.vg_change.specs.Batches.{batch_if, clear_batches, clear_put, label_put}
 use Rattle.vg_repair.specs.Batches.{repair_batches, stray_areas, stray_labels, text_batches}
 use Rattle.vg_repair.specs.Laws.{LeavesAll}
 use Rattle.vg_repair.specs.Repaired.{repaired_area, repaired_areas, repaired_contents, repaired_disk, repaired_disks, repaired_held, repaired_of, with_entry}
 use Rattle.vg_repair.specs.Stale.{stale_areas, stale_by, stale_in, stale_on, text_of}
-use Rattle.group_ops.specs.Cleared.{unused, unused_label, unused_labels}
 
 no_stray : (pv : ℕ) → set.contains (set.empty {R = nat_cmp}) pv ≡ false
 no_stray pv = set.contains-empty nat_cmp pv

@@ -10,31 +10,31 @@ use Rattle.std.proofs.lemmas.List.{map-append, take_all}
 use Rattle.std.proofs.lemmas.List.Elements.{All-map, filter_passes}
 use Rattle.sector_base.specs.Spans.{covers}
 use Rattle.disk_model.specs.Steps.{Image}
-use Rattle.disk_batch.specs.InTurn.{HasFirstBatches, Put, with_batches}
 use Rattle.mda_header.specs.declared.header.Locn.{Locn}
 use Rattle.mda_ring.specs.Areas.{CanTake, LieApart}
 use Rattle.mda_ring.specs.declared.area.Area.{Area}
 use Rattle.mda_ring.proofs.SpanLaws.{covers_tells}
+use Rattle.disk_batch.specs.InTurn.{HasFirstBatches, Put, with_batches}
 use Rattle.disk_contents.specs.declared.contents.AreaFound.{AreaFound}
 use Rattle.disk_contents.specs.Standing.{area_on}
 use Rattle.disk_contents.specs.declared.contents.PvFound.{PvFound}
 use Rattle.disk_contents.specs.declared.contents.PvFound.TheVariants.{NoLabel, NoHeader, Whole}
-use Rattle.vg_commit.specs.SectorReading.{ShowsBy, new_reading}
-use Rattle.vg_commit.specs.Showing.{Names, sectors_of}
-use Rattle.vg_commit.specs.Written.{area_span, header_span, new_entry}
 use Rattle.vg_found.specs.Disks.{areas_on, held_area, held_areas}
 use Rattle.vg_found.specs.Shape.{HasShape}
 use Rattle.vg_found.specs.declared.disk.Disk.{Disk}
 use Rattle.vg_found.specs.declared.found.Found.{Found}
-use Rattle.group_ops.specs.Judging.{lies_on}
+use Rattle.vg_commit.specs.SectorReading.{ShowsBy, new_reading}
+use Rattle.vg_commit.specs.Showing.{Names, sectors_of}
+use Rattle.vg_commit.specs.Written.{area_span, header_span, new_entry}
+use Rattle.group_plan.specs.Judging.{lies_on}
 use Rattle.vg_change.specs.Laws.{IsEmpty, ShowsEntries}
 use Rattle.vg_change.proofs.FarAreas.{IsFar}
+use Rattle.vg_change.proofs.Filtered.{each_of_filtered}
 use Rattle.vg_repair.specs.Batches.{repair_batches, stray_areas}
 use Rattle.vg_repair.specs.Laws.{IsRight, KeepsImages}
 use Rattle.vg_repair.specs.Repaired.{repaired_area, repaired_contents, repaired_disk, repaired_held, repaired_of, with_entry}
 use Rattle.vg_repair.specs.Stale.{is_among, stale_areas, stale_in, stale_on, text_of}
 use Rattle.vg_repair.proofs.Flagged.{Either, WithMarked, each_of_all, each_of_marked, if_marked, marked, unmarked, unmarked_with}
-use Rattle.vg_change.proofs.Filtered.{each_of_filtered}
 use Rattle.vg_repair.proofs.HeldAreas.{each_far, stale_held}
 use Rattle.vg_repair.proofs.RepairedShape.{held_on}
 use Rattle.vg_repair.proofs.StrayLabels.{labels_can}

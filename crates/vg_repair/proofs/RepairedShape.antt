@@ -9,23 +9,23 @@ use Rattle.std.specs.FinSet as set
 use Rattle.std.proofs.lemmas.Bool.{ltb-false, true≢false}
 use Rattle.std.proofs.lemmas.List.Elements.{All-cons, All-nil}
 use Rattle.std.proofs.lemmas.Option.{same_Some}
+use Rattle.pv_header.specs.PvRefusal.{Reads}
+use Rattle.pv_header.specs.declared.header.PvHeader.{PvHeader}
 use Rattle.mda_header.specs.declared.entry.Entry.{Entry}
 use Rattle.mda_header.specs.declared.entry.Entry.TheVariants.{Ignored, Nothing, Text, Refused}
 use Rattle.mda_header.specs.declared.header.Locn.{Locn}
 use Rattle.mda_ring.specs.Areas.{CanTake}
 use Rattle.mda_ring.specs.Ring.{need, room}
 use Rattle.mda_ring.specs.declared.area.Area.{Area}
-use Rattle.pv_header.specs.PvRefusal.{Reads}
-use Rattle.pv_header.specs.declared.header.PvHeader.{PvHeader}
-use Rattle.disk_contents.specs.Standing.{IsUsable, LiesInside, area_on}
-use Rattle.disk_contents.specs.declared.contents.AreaFound.{AreaFound}
-use Rattle.disk_contents.specs.declared.contents.PvFound.{PvFound}
-use Rattle.disk_contents.specs.declared.contents.PvFound.TheVariants.{NoLabel, NoHeader, Whole}
 use Rattle.meta_model.specs.declared.group.Group.{Group}
 use Rattle.meta_model.specs.declared.pv.Pv.{Pv}
 use Rattle.scan_rules.specs.Decision.{Reading, first_duplicate, first_misplaced, ids_from}
 use Rattle.scan_rules.specs.Found.{missing_of}
 use Rattle.scan_rules.proofs.Members.{In, flat_has, kept_has}
+use Rattle.disk_contents.specs.Standing.{IsUsable, LiesInside, area_on}
+use Rattle.disk_contents.specs.declared.contents.AreaFound.{AreaFound}
+use Rattle.disk_contents.specs.declared.contents.PvFound.{PvFound}
+use Rattle.disk_contents.specs.declared.contents.PvFound.TheVariants.{NoLabel, NoHeader, Whole}
 use Rattle.vg_found.specs.Disks.{areas_on, disk_shape, disk_with, disks_of, has_header_id, held_area, held_areas, held_by, shapes}
 use Rattle.vg_found.specs.Shape.{ContentsCanStand, HasShape, IsDisk, IsUnread}
 use Rattle.vg_found.specs.Whole.{IsNotWhole, IsWhole, first_of}
@@ -34,21 +34,21 @@ use Rattle.vg_found.specs.declared.whole.NotWhole.TheVariants.{ReadFailed, Parti
 use Rattle.vg_found.specs.declared.disk.Disk.{Disk}
 use Rattle.vg_found.specs.declared.found.Found.{Found}
 use Rattle.vg_found.proofs.ShapedAreas.{areas_shaped}
-use Rattle.group_ops.specs.Added.{pv_in}
-use Rattle.group_ops.specs.declared.state.NewLabel.{NewLabel}
+use Rattle.vg_commit.specs.Written.{new_entry}
+use Rattle.vg_commit.proofs.AreaPuts.{entry_inside, is_placed}
+use Rattle.group_plan.specs.Added.{pv_in}
+use Rattle.group_plan.specs.declared.state.NewLabel.{NewLabel}
+use Rattle.group_plan.specs.Cleared.{unused, unused_label}
 use Rattle.vg_change.specs.Batches.{label_bytes}
 use Rattle.vg_change.specs.Sound.{FitsFields}
 use Rattle.vg_change.proofs.LabelsRead.{header_found}
-use Rattle.vg_commit.specs.Written.{new_entry}
-use Rattle.vg_commit.proofs.AreaPuts.{entry_inside, is_placed}
+use Rattle.vg_change.proofs.UnusedLabels.{IsLabelOf}
 use Rattle.vg_repair.specs.Batches.{stray_labels}
 use Rattle.vg_repair.specs.Repaired.{repaired_area, repaired_areas, repaired_contents, repaired_disk, repaired_disks, repaired_held, repaired_of, with_entry}
 use Rattle.vg_repair.specs.Stale.{is_among, stale_areas, stale_in, stale_on, text_of, too_large, too_large_among}
 use Rattle.vg_repair.proofs.HeldAreas.{stale_held}
 use Rattle.vg_repair.proofs.Numbered.{all_at, all_in, mapped_all, mapped_at, mapped_length, mapped_same}
 use Rattle.vg_repair.proofs.StrayLabels.{label_is}
-use Rattle.group_ops.specs.Cleared.{unused, unused_label}
-use Rattle.vg_change.proofs.UnusedLabels.{IsLabelOf}
 
 -- ---- room
 

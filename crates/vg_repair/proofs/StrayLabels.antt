@@ -4,8 +4,8 @@ use Rattle.std.specs.Prelude.{All, AllPairs, slice_get}
 use Rattle.vg_found.specs.Shape.{HasShape}
 use Rattle.vg_found.specs.declared.disk.Disk.{Disk}
 use Rattle.vg_found.specs.declared.found.Found.{Found}
-use Rattle.group_ops.specs.Cleared.{unused_label}
-use Rattle.group_ops.specs.declared.state.NewLabel.{NewLabel}
+use Rattle.group_plan.specs.Cleared.{unused_label}
+use Rattle.group_plan.specs.declared.state.NewLabel.{NewLabel}
 use Rattle.vg_change.specs.CarryingOut.{sizes_of}
 use Rattle.vg_change.specs.Sound.{CanLabel}
 use Rattle.vg_change.proofs.UnusedLabels.{IsLabelOf, label_is as unused_is, labels_can as unused_can, labels_differ as unused_differ}

@@ -1,12 +1,12 @@
 -- What a repair writes, as batches of writes, each lasting before the next begins.
 use Rattle.std.specs.Prelude.{ℕ, List, [], ◌∷◌, ◌++◌, map, Option}
-use Rattle.disk_batch.specs.InTurn.{Put}
 use Rattle.mda_header.specs.declared.header.Locn.{Locn}
 use Rattle.mda_ring.specs.declared.area.Area.{Area}
-use Rattle.vg_commit.specs.Written.{area_writes, headers_of, publish_of, texts_of}
+use Rattle.disk_batch.specs.InTurn.{Put}
 use Rattle.vg_found.specs.declared.found.Found.{Found}
-use Rattle.group_ops.specs.Cleared.{cleared_areas, unused_labels}
-use Rattle.group_ops.specs.declared.state.NewLabel.{NewLabel}
+use Rattle.vg_commit.specs.Written.{area_writes, headers_of, publish_of, texts_of}
+use Rattle.group_plan.specs.Cleared.{cleared_areas, unused_labels}
+use Rattle.group_plan.specs.declared.state.NewLabel.{NewLabel}
 use Rattle.vg_change.specs.Batches.{clear_batches}
 use Rattle.vg_repair.specs.Stale.{stale_areas, text_of}
 

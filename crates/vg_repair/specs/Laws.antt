@@ -2,15 +2,15 @@
 use Rattle.std.specs.Prelude.{◌≡◌, ◌≢◌, ◌⊎◌, ℕ, false, [], All, Option}
 use Rattle.std.specs.FinSet as set
 use Rattle.sector_base.specs.Spans.{covers}
-use Rattle.disk_batch.specs.InTurn.{HasFirstBatches, with_batches}
 use Rattle.disk_model.specs.Steps.{Image}
 use Rattle.mda_header.specs.declared.header.Locn.{Locn}
 use Rattle.mda_ring.specs.declared.area.Area.{Area}
-use Rattle.vg_commit.specs.SectorReading.{AllShow, new_reading}
-use Rattle.vg_commit.specs.Written.{area_span, header_span}
+use Rattle.disk_batch.specs.InTurn.{HasFirstBatches, with_batches}
 use Rattle.vg_found.specs.Shape.{HasShape}
 use Rattle.vg_found.specs.declared.found.Found.{Found}
-use Rattle.group_ops.specs.declared.state.NewLabel.{NewLabel}
+use Rattle.vg_commit.specs.SectorReading.{AllShow, new_reading}
+use Rattle.vg_commit.specs.Written.{area_span, header_span}
+use Rattle.group_plan.specs.declared.state.NewLabel.{NewLabel}
 use Rattle.vg_change.specs.Laws.{HasLabel, IsEmpty, IsKeptOrEmpty, IsKeptOrNew, LabelsKept, ShowsEntries}
 use Rattle.vg_repair.specs.Batches.{repair_batches, stray_areas, stray_labels}
 use Rattle.vg_repair.specs.Repaired.{repaired_of}

@@ -11,11 +11,11 @@ use Rattle.mda_ring.specs.declared.area.Area.{Area}
 use Rattle.disk_contents.specs.declared.contents.AreaFound.{AreaFound}
 use Rattle.disk_contents.specs.declared.contents.PvFound.{PvFound}
 use Rattle.disk_contents.specs.declared.contents.PvFound.TheVariants.{NoLabel, NoHeader, Whole}
-use Rattle.vg_commit.specs.Written.{new_entry}
 use Rattle.vg_found.specs.Disks.{held_area, held_areas}
 use Rattle.vg_found.specs.declared.disk.Disk.{Disk}
 use Rattle.vg_found.specs.declared.found.Found.{Found}
-use Rattle.group_ops.specs.Cleared.{unused}
+use Rattle.vg_commit.specs.Written.{new_entry}
+use Rattle.group_plan.specs.Cleared.{unused}
 use Rattle.vg_repair.specs.Stale.{is_among, text_of}
 
 -- what a header says in which this text is committed, or none

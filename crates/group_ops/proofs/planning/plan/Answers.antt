@@ -2,11 +2,12 @@ use Rattle.std.proofs.Common.{ℕ, List, [], None, refl, sym, subst}
 use Rattle.command_table.specs.declared.command.Command.{Command}
 use Rattle.command_table.specs.declared.command.Command.TheVariants.{Lvreduce, Lvremove, Lvrename, Vgcfgrestore, Vgextend, Vgrename, Vgreduce}
 use Rattle.lvm_script.specs.declared.line.Line.{Line}
+use Rattle.lv_plans.specs.Lvcreate.{lvcreate_asks, lvcreate_change, lvcreate_rows}
+use Rattle.lv_plans.specs.Lvextend.{lvextend_asks, lvextend_change, lvextend_rows}
+use Rattle.lv_plans.specs.Allocating.{PlansWith}
 use Rattle.group_ops.proofs.NextVersions.{no_zero}
 use Rattle.group_ops.proofs.NoZeros.{extend_none, extends_without_zeros, restore_none, without_zeros, leave_none}
-use Rattle.group_ops.specs.Lvcreate.{lvcreate_asks, lvcreate_change, lvcreate_rows}
-use Rattle.group_ops.specs.Lvextend.{lvextend_asks, lvextend_change, lvextend_rows}
-use Rattle.group_ops.specs.Planning.{PlansWith, asks_of, change_of, rows_of}
+use Rattle.group_ops.specs.Planning.{asks_of, change_of, rows_of}
 use Rattle.group_ops.proofs.planning.plan.Goals as goal
 
 pub returns-in-Lvcreate-clause-plans : goal.returns-in-Lvcreate-clause-plans

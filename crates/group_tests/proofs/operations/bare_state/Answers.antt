@@ -11,7 +11,7 @@ use Rattle.disk_contents.specs.declared.contents.PvFound.TheVariants.{NoHeader}
 use Rattle.vg_found.specs.declared.disk.Disk.{Disk}
 use Rattle.vg_found.specs.Disks.{held_areas}
 use Rattle.vg_found.specs.Shape.{IsDisk}
-use Rattle.group_ops.specs.State.{IsState}
+use Rattle.group_plan.specs.State.{IsState}
 use Rattle.group_tests.proofs.operations.bare_state.Goals as goal
 
 abbrev bare : Disk

@@ -1,10 +1,10 @@
 use Rattle.std.proofs.Common.{ℕ, Option, None, refl, sym, ap, subst, ◌∙◌}
 use Rattle.std.specs.Prelude.{Err}
 use Rattle.disk_model.proofs.IdleAgain.{again_nothing}
+use Rattle.group_plan.specs.State.{IsState}
+use Rattle.group_plan.specs.declared.state.GroupState.{GroupState}
 use Rattle.group_ops.specs.Laws.{state_in}
 use Rattle.group_ops.specs.Planning.{IsBackupOf}
-use Rattle.group_ops.specs.State.{IsState}
-use Rattle.group_ops.specs.declared.state.GroupState.{GroupState}
 use Rattle.group_ops.proofs.WholeState.{whole_is_state}
 use Rattle.vg_change.proofs.Carried.{wanting}
 use Rattle.vg_change.specs.CarryingOut.{IsCarried, sizes_of}

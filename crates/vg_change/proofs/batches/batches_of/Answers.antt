@@ -2,7 +2,7 @@
 use Rattle.std.proofs.Common.{List, map, refl, sym, ap, subst, ◌∙◌}
 use Rattle.std.specs.Prelude.{All, flat_map}
 use Rattle.disk_batch.specs.InTurn.{Put}
-use Rattle.group_ops.specs.declared.state.NewLabel.{NewLabel}
+use Rattle.group_plan.specs.declared.state.NewLabel.{NewLabel}
 use Rattle.vg_change.specs.Batches.{area_puts, areas_of, label_put}
 use Rattle.vg_change.specs.Building.{IsAdded, IsOnFew}
 use Rattle.vg_change.proofs.AreaBatch.{areas_few}

@@ -1,5 +1,5 @@
 use Rattle.std.proofs.Common.{◌≡◌, drop}
-use Rattle.group_ops.specs.Judging.{set_of, with_all}
+use Rattle.group_plan.specs.Judging.{set_of, with_all}
 use Rattle.vg_change.specs.Building.{disks_written}
 use Rattle.vg_change.proofs.batches.disks_of.Given as goal
 

@@ -1,7 +1,7 @@
 use Rattle.std.proofs.Common.{◌<◌, List, length, sym, ap, subst, ◌∙◌, arith}
 use Rattle.std.proofs.lemmas.Bool.{eqb-false}
 use Rattle.disk_batch.specs.InTurn.{Put}
-use Rattle.group_ops.specs.Judging.{set_of}
+use Rattle.group_plan.specs.Judging.{set_of}
 use Rattle.vg_change.specs.Building.{Is, disks_written}
 use Rattle.vg_change.proofs.Adding.{added_one}
 use Rattle.vg_change.proofs.DisksWritten.{flushes_some}

@@ -1,5 +1,5 @@
+use Rattle.group_plan.specs.Judging.{set_of}
 use Rattle.vg_change.specs.Building.{areas_on}
-use Rattle.group_ops.specs.Judging.{set_of}
 use Rattle.vg_change.proofs.Adding.{commit_added, prepared_for}
 use Rattle.vg_change.proofs.batches.push_commit.Goals as goal
 

@@ -1,6 +1,6 @@
 use Rattle.std.proofs.Common.{◌≡◌, ◌++◌, drop, map}
 use Rattle.std.specs.Prelude.{filter}
-use Rattle.group_ops.specs.Judging.{lies_on}
+use Rattle.group_plan.specs.Judging.{lies_on}
 use Rattle.vg_change.specs.Batches.{clear_put}
 use Rattle.vg_change.proofs.clears.clear_writes.Given as goal
 

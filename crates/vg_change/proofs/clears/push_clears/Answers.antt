@@ -2,8 +2,8 @@
 use Rattle.std.proofs.Common.{◌≡◌, List, map, sym, ap, subst, ◌∙◌}
 use Rattle.std.specs.Prelude.{All}
 use Rattle.disk_batch.specs.InTurn.{Put}
-use Rattle.group_ops.specs.Cleared.{cleared_areas, unused_labels}
-use Rattle.group_ops.specs.declared.state.NewLabel.{NewLabel}
+use Rattle.group_plan.specs.Cleared.{cleared_areas, unused_labels}
+use Rattle.group_plan.specs.declared.state.NewLabel.{NewLabel}
 use Rattle.vg_change.specs.Batches.{label_put}
 use Rattle.vg_change.specs.Building.{IsAdded, IsOnFew}
 use Rattle.vg_change.specs.Sound.{CanLabel, FitsFields}

@@ -1,6 +1,6 @@
 use Rattle.std.proofs.Common.{◌≡◌, ◌++◌, drop}
 use Rattle.std.specs.List.{enumerate_from, filter_map}
-use Rattle.group_ops.specs.Cleared.{unused_label, unused_labels}
+use Rattle.group_plan.specs.Cleared.{unused_label, unused_labels}
 use Rattle.vg_change.proofs.clears.unused_labels.Given as goal
 
 abbrev pub invariant-loop-number : goal.invariant-loop-number

@@ -1,6 +1,0 @@
-use Rattle.std.proofs.Common.{◌≤◌}
-use Rattle.group_ops.specs.NewGroup.{free_number, names_in}
-use Rattle.group_ops.proofs.naming.free_name.Given as goal
-
-abbrev pub invariant-loop-number : goal.invariant-loop-number
-invariant-loop-number l = l.number ≤ free_number (names_in l.pvs l.lvs)

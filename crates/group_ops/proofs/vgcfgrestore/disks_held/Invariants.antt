@@ -1,7 +1,0 @@
-use Rattle.std.proofs.Common.{◌≡◌, ◌++◌, drop, filter, length}
-use Rattle.std.specs.Prelude.{nat_lt}
-use Rattle.group_ops.specs.Vgcfgrestore.{disks_held}
-use Rattle.group_ops.proofs.vgcfgrestore.disks_held.Given as goal
-
-abbrev pub invariant-loop-disk : goal.invariant-loop-disk
-invariant-loop-disk l = l.held.items ++ filter (λ disk. nat_lt disk (length l.disks)) (drop l.disk-index l.disk-items) ≡ disks_held l.said l.disks

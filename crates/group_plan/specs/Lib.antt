@@ -1,0 +1,13 @@
+pub mod Added
+pub mod Backup
+pub mod Cleared
+pub mod Committing
+pub mod Ids
+pub mod Judging
+pub mod Members
+pub mod NewGroup
+pub mod Numbers
+pub mod Plans
+pub mod State
+pub mod Stripes
+pub mod Zeroing
