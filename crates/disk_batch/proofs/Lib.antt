@@ -24,3 +24,4 @@ pub mod Elsewhere
 pub mod FlushedStates
 pub mod Starting
 pub mod WritesApart
+pub mod EachFlushed

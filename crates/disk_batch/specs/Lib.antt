@@ -11,3 +11,4 @@ pub mod Laws
 pub mod Along
 pub mod Alone
 pub mod InTurn
+pub mod Flushing

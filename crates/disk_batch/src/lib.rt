@@ -10,12 +10,14 @@
 //! which values a crash may leave, which disks are flushed, and which counts of faults have risen. Their laws stand in
 //! `Laws`, and for any property of values in `proofs/`: `Rounding`, `Calling`, `Beside`, `Flushing`, `Faulting` and
 //! `Written`. `InTurn` has batches that are carried out one after another, each lasting before the next begins: a crash
-//! leaves the first so many of them whole, and of the next one each sector old or new.
+//! leaves the first so many of them whole, and of the next one each sector old or new. `flush_all` flushes each disk and writes
+//! nothing (`Flushing`).
 #![tactic(auto)]
 
 mod alone;
 mod batch;
 mod batching;
+mod flushing;
 mod in_turn;
 mod laws;
 mod submitting;
@@ -24,6 +26,7 @@ mod writes;
 pub use alone::write_all;
 pub use batch::{Batch, BatchRefused};
 pub use batching::{BatchStep, Batching};
+pub use flushing::flush_all;
 pub use in_turn::{reserve_all, reserve_lists, write_in_turn};
 pub use laws::batch_laws;
 pub use writes::Writes;

@@ -1,9 +1,9 @@
 //! Rows of what is written where a group lets a disk go.
+use change_batches::unused;
 use lvm_id::{LvmId, parse_plain};
 use pv_header::{Extents, PvHeader};
 use std::process::Abort;
 use std::test::Fail;
-use vg_change::unused;
 
 fn id(rt: &impl Abort) -> LvmId {
     parse_plain(b"00000000100000000100000030000000").expect(rt, "an id")

@@ -2,6 +2,7 @@
 use Rattle.std.proofs.Common.{◌≡◌, ◌≤◌, ◌⊎◌, ℕ, ◌+◌, ◌/◌, Bool, true, false, List, length, Option, Some, None, Result, Ok, inl, inr, ⊎_elim, refl, sym, ap, subst, ◌∙◌, arith}
 use Rattle.std.proofs.lemmas.Option.{same_Some}
 use Rattle.disk_model.specs.Steps.{Image}
+use Rattle.pv_header.specs.declared.extent_list.Extent.{Extent}
 use Rattle.mda_header.specs.declared.entry.Entry.{Entry}
 use Rattle.mda_header.specs.declared.entry.Entry.TheVariants.{Ignored, Nothing, Text, Refused as RefusedFor}
 use Rattle.mda_header.specs.declared.header.Locn.{Locn}
@@ -14,19 +15,18 @@ use Rattle.mda_ring.specs.declared.area.Area.{Area}
 use Rattle.mda_ring.specs.Areas.{CanTake}
 use Rattle.mda_ring.specs.Ring.{need, room}
 use Rattle.meta_model.specs.declared.group.Group.{Group}
-use Rattle.pv_header.specs.declared.extent_list.Extent.{Extent}
+use Rattle.scan_rules.specs.declared.copy_refusal.CopyRefusal.TheVariants.{HeaderRefused}
+use Rattle.scan_rules.specs.Decision.{Area as AreaOf, AreaReading, Copy, HoldsNone, Refused}
 use Rattle.disk_contents.specs.declared.contents.AreaFound.{AreaFound}
 use Rattle.disk_contents.specs.Contents.{IsAreaFound, IsMdaFound}
 use Rattle.disk_contents.specs.Standing.{area_on}
-use Rattle.scan_rules.specs.declared.copy_refusal.CopyRefusal.TheVariants.{HeaderRefused}
-use Rattle.scan_rules.specs.Decision.{Area as AreaOf, AreaReading, Copy, HoldsNone, Refused}
-use Rattle.vg_commit.specs.SectorReading.{ShowsBy, new_reading, old_reading}
-use Rattle.vg_commit.specs.Showing.{Names, sectors_of}
-use Rattle.vg_commit.specs.Written.{header_after, header_before, header_of, new_entry}
 use Rattle.vg_found.specs.Disks.{held_area, held_by}
 use Rattle.vg_scan.specs.Readings.{IsAreaReading, IsGiven}
 use Rattle.vg_scan.specs.Texts.{IsCopyOf, IsStored, stored_bytes}
-use Rattle.vg_change.specs.Laws.{IsKeptOrNew, text_in}
+use Rattle.vg_commit.specs.SectorReading.{ShowsBy, new_reading, old_reading}
+use Rattle.vg_commit.specs.Showing.{Names, sectors_of}
+use Rattle.vg_commit.specs.Written.{header_after, header_before, header_of, new_entry}
+use Rattle.change_batches.specs.Laws.{IsKeptOrNew, text_in}
 use Rattle.image_scans.proofs.Again.{GivesAgain}
 use Rattle.image_scans.proofs.FoundAreas.{entry_kept}
 use Rattle.image_scans.proofs.Given.{GivenHas}

@@ -11,18 +11,18 @@ use Rattle.mda_header.specs.declared.entry.Entry.{Entry}
 use Rattle.mda_header.specs.declared.entry.Entry.TheVariants.{Ignored, Nothing, Text, Refused}
 use Rattle.mda_header.specs.declared.header.Locn.{Locn}
 use Rattle.mda_ring.specs.declared.area.Area.{Area}
+use Rattle.scan_rules.specs.Decision.{Reading}
 use Rattle.disk_contents.specs.declared.contents.AreaFound.{AreaFound}
 use Rattle.disk_contents.specs.declared.contents.PvFound.{PvFound}
 use Rattle.disk_contents.specs.declared.contents.PvFound.TheVariants.{NoLabel, NoHeader, Whole}
 use Rattle.disk_contents.specs.Contents.{IsAreaFound}
 use Rattle.disk_contents.specs.Standing.{area_on}
-use Rattle.scan_rules.specs.Decision.{Reading}
-use Rattle.vg_commit.specs.Showing.{Names, sectors_of}
 use Rattle.vg_found.specs.declared.disk.Disk.{Disk}
 use Rattle.vg_found.specs.Disks.{areas_on, held_area, held_areas, held_by}
 use Rattle.vg_found.proofs.KeptLists.{all_kept}
 use Rattle.vg_scan.specs.Readings.{AreDiskReadings, IsContents}
-use Rattle.vg_change.specs.Laws.{ShowsEntries}
+use Rattle.vg_commit.specs.Showing.{Names, sectors_of}
+use Rattle.change_batches.specs.Laws.{ShowsEntries}
 
 abbrev ShowsEntry : Image → Area × Option Locn → Type 0
 ShowsEntry image area = Names area.0 area.1 (sectors_of area.0 image 0)

@@ -7,23 +7,22 @@ use Rattle.std.specs.Ordering.{nat_cmp}
 use Rattle.std.proofs.lemmas.List.Elements.{All-from_recursion, recursion_from_All}
 use Rattle.std.proofs.lemmas.Option.{same_Some}
 use Rattle.disk_model.specs.Steps.{Image}
+use Rattle.pv_label.specs.Label.{IsFirstLabel, IsLabelRefusal}
+use Rattle.pv_label.specs.LabelSectors.{first_four}
+use Rattle.pv_header.specs.declared.extent_list.Extent.{Extent}
+use Rattle.pv_header.specs.declared.header.PvHeader.{PvHeader}
+use Rattle.pv_header.specs.PvRefusal.{Reads, Refuses}
 use Rattle.mda_header.specs.declared.entry.Entry.{Entry}
 use Rattle.mda_header.specs.declared.entry.Entry.TheVariants.{Ignored, Nothing, Text, Refused as RefusedFor}
 use Rattle.mda_header.specs.declared.header.Locn.{Locn}
 use Rattle.mda_header.specs.Header.{IsEntry, IsInside}
 use Rattle.mda_ring.specs.declared.area.Area.{Area}
-use Rattle.pv_header.specs.declared.extent_list.Extent.{Extent}
-use Rattle.pv_header.specs.declared.header.PvHeader.{PvHeader}
-use Rattle.pv_header.specs.PvRefusal.{Reads, Refuses}
-use Rattle.pv_label.specs.Label.{IsFirstLabel, IsLabelRefusal}
-use Rattle.pv_label.specs.LabelSectors.{first_four}
+use Rattle.scan_rules.specs.Decision.{Area as AreaOf, AreaReading, Found as PvOf, Reading}
 use Rattle.disk_contents.specs.declared.contents.AreaFound.{AreaFound}
 use Rattle.disk_contents.specs.declared.contents.PvFound.{PvFound}
 use Rattle.disk_contents.specs.declared.contents.PvFound.TheVariants.{NoLabel, NoHeader, Whole}
 use Rattle.disk_contents.specs.Contents.{IsAreaFound, IsMdaFound}
 use Rattle.disk_contents.specs.Standing.{IsUsable, LiesInside, area_on}
-use Rattle.scan_rules.specs.Decision.{Area as AreaOf, AreaReading, Found as PvOf, Reading}
-use Rattle.vg_commit.specs.SectorReading.{ShowsBy, old_reading}
 use Rattle.vg_found.specs.declared.disk.Disk.{Disk}
 use Rattle.vg_found.specs.declared.found.Found.{Found}
 use Rattle.vg_found.specs.Disks.{areas_on, header_on}
@@ -31,8 +30,9 @@ use Rattle.vg_found.specs.Shape.{ContentsCanStand, HasShape, IsDisk}
 use Rattle.vg_scan.specs.Readings.{AreAreaReadings, AreDiskReadings, IsAreaReading, IsContents, IsDiskReading, IsGiven, IsPvReading}
 use Rattle.vg_scan.specs.Scans.{IsScanOf}
 use Rattle.vg_scan.specs.Texts.{IsStored, stored_bytes}
-use Rattle.vg_change.specs.Laws.{text_in}
-use Rattle.vg_change.proofs.BaseShows.{shows_alike, sized}
+use Rattle.vg_commit.specs.SectorReading.{ShowsBy, old_reading}
+use Rattle.change_batches.specs.Laws.{text_in}
+use Rattle.change_batches.proofs.BaseShows.{shows_alike, sized}
 use Rattle.image_scans.proofs.Labels.{four_same}
 use Rattle.image_scans.proofs.Placed.{IsPlaceOn}
 

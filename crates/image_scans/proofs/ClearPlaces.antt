@@ -27,11 +27,11 @@ use Rattle.group_plan.specs.Judging.{lies_on}
 use Rattle.group_plan.specs.declared.backup.Backup.{Backup}
 use Rattle.group_ops.specs.Laws.{state_in}
 use Rattle.group_ops.specs.Planning.{change_of}
-use Rattle.vg_change.specs.Batches.{clears_of}
-use Rattle.vg_change.specs.Building.{AreScanned}
-use Rattle.vg_change.specs.Laws.{IsUncleared}
-use Rattle.vg_change.proofs.ClearedAreas.{each_takes, state_scanned}
-use Rattle.vg_change.proofs.UnusedLabels.{labels_can}
+use Rattle.change_batches.specs.Building.{AreScanned}
+use Rattle.change_batches.specs.Laws.{IsUncleared}
+use Rattle.change_batches.proofs.ClearedAreas.{each_takes, state_scanned}
+use Rattle.change_batches.proofs.UnusedLabels.{labels_can}
+use Rattle.vg_change.specs.LineBatches.{clears_of}
 use Rattle.image_scans.specs.Laws.{CanCarryOut, ClearsKeepPlaces}
 use Rattle.image_scans.proofs.BesideAreas.{beside_areas}
 use Rattle.image_scans.proofs.CommitCommands.{none_missing_of, old_whole}

@@ -27,10 +27,11 @@ use Rattle.group_plan.specs.declared.state.GroupState.{GroupState}
 use Rattle.group_plan.specs.declared.backup.Backup.{Backup}
 use Rattle.group_ops.specs.Laws.{state_in}
 use Rattle.group_ops.specs.Planning.{change_of}
-use Rattle.vg_change.specs.Batches.{areas_of, batches_of, clears_of}
-use Rattle.vg_change.specs.Building.{AreScanned}
-use Rattle.vg_change.specs.Laws.{HoldsAfter}
-use Rattle.vg_change.proofs.ClearedAreas.{state_scanned}
+use Rattle.change_batches.specs.Batches.{areas_of}
+use Rattle.change_batches.specs.Building.{AreScanned}
+use Rattle.change_batches.specs.Laws.{HoldsAfter}
+use Rattle.change_batches.proofs.ClearedAreas.{state_scanned}
+use Rattle.vg_change.specs.LineBatches.{batches_of, clears_of}
 use Rattle.image_scans.specs.Laws.{CanCarryOut, ClearsScan, none_out, version_of}
 use Rattle.image_scans.specs.Versions.{FindsVersion}
 use Rattle.image_scans.proofs.ClearedAgain.{any_bare, any_pv, disk_bare, disk_cleared, others_same}

@@ -1,14 +1,14 @@
 -- What the batch writes that empties areas.
 use Rattle.std.proofs.Common.{◌≡◌, ◌<◌, ℕ, ◌/◌, List, length, get_or, map, Option, None, arith}
-use Rattle.disk_batch.specs.Writes.{IsWrittenBy}
 use Rattle.mda_header.specs.HeaderBytes.{header_bytes}
 use Rattle.mda_header.specs.declared.header.Locn.{Locn}
 use Rattle.mda_ring.proofs.SpanLaws.{covers_tells}
 use Rattle.mda_ring.specs.declared.area.Area.{Area}
-use Rattle.vg_change.proofs.ClearBatch.{clear_where}
-use Rattle.vg_change.specs.Batches.{clear_put}
+use Rattle.disk_batch.specs.Writes.{IsWrittenBy}
 use Rattle.vg_commit.proofs.Disks.{no_area}
 use Rattle.vg_commit.specs.Written.{header_of, header_span}
+use Rattle.change_batches.proofs.ClearBatch.{clear_where}
+use Rattle.change_batches.specs.Batches.{clear_put}
 
 -- the empty header of one of the areas
 pub record IsClearWrite (areas : List (Area × Option Locn)) (pv sector : ℕ) (value : List ℕ) : Type 0 where

@@ -33,15 +33,15 @@ use Rattle.group_plan.specs.Added.{pv_in}
 use Rattle.group_plan.specs.Cleared.{cleared_areas, unused_labels}
 use Rattle.group_plan.specs.Judging.{lies_on}
 use Rattle.group_plan.specs.declared.state.NewLabel.{NewLabel}
-use Rattle.vg_change.specs.Batches.{batch_if, clear_batches, clear_put, label_bytes, label_put}
-use Rattle.vg_change.specs.Building.{AreScanned}
-use Rattle.vg_change.specs.Laws.{ClearsImages, ShowsEntries, text_in}
-use Rattle.vg_change.specs.Sound.{CanLabel}
-use Rattle.vg_change.proofs.BaseShows.{base_shows, base_sized, shows_alike}
-use Rattle.vg_change.proofs.ClearedAreas.{cleared_far, cleared_held, each_takes}
-use Rattle.vg_change.proofs.LabelPuts.{label_where, no_label}
-use Rattle.vg_change.proofs.LabelsRead.{label_read}
-use Rattle.vg_change.proofs.UnusedLabels.{labels_can}
+use Rattle.change_batches.specs.Batches.{batch_if, clear_batches, clear_put, label_bytes, label_put}
+use Rattle.change_batches.specs.Building.{AreScanned}
+use Rattle.change_batches.specs.Laws.{ClearsImages, ShowsEntries, text_in}
+use Rattle.change_batches.specs.Sound.{CanLabel}
+use Rattle.change_batches.proofs.BaseShows.{base_shows, base_sized, shows_alike}
+use Rattle.change_batches.proofs.ClearedAreas.{cleared_far, cleared_held, each_takes}
+use Rattle.change_batches.proofs.LabelPuts.{label_where, no_label}
+use Rattle.change_batches.proofs.LabelsRead.{label_read}
+use Rattle.change_batches.proofs.UnusedLabels.{labels_can}
 use Rattle.image_scans.proofs.Again.{AreasAgain, GivesAgain, PvAgain}
 use Rattle.image_scans.proofs.AreaAgain.{IsCleared, IsKnown, MayBeRefused}
 use Rattle.image_scans.proofs.ClearWrites.{IsClearWrite, clear_write}

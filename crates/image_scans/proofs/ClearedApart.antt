@@ -35,7 +35,7 @@ use Rattle.vg_plans.specs.Vgreduce.{vgreduce_change}
 use Rattle.group_ops.proofs.NoClears.{clears, none_cleared}
 use Rattle.group_ops.specs.Laws.{state_in}
 use Rattle.group_ops.specs.Planning.{IsPlanned, change_of, refusal_of}
-use Rattle.vg_change.proofs.DiskSets.{of_set}
+use Rattle.change_batches.proofs.DiskSets.{of_set}
 use Rattle.image_scans.proofs.Again.{all_there}
 use Rattle.image_scans.proofs.CommitCommands.{none_missing_of, old_whole}
 use Rattle.image_scans.proofs.MadeGroup.{IsListedOn, MakesGroup}

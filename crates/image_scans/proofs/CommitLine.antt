@@ -30,11 +30,11 @@ use Rattle.group_ops.proofs.PlacedChanges.{change_is_placed}
 use Rattle.group_ops.proofs.WholeState.{whole_is_state}
 use Rattle.group_ops.specs.Laws.{ArePlaced, state_in}
 use Rattle.group_ops.specs.Planning.{change_of}
-use Rattle.vg_change.specs.Batches.{areas_of, batch_if, batches_of, commit_batches, label_put, new_area_puts}
-use Rattle.vg_change.specs.CarryingOut.{sizes_of}
-use Rattle.vg_change.specs.Laws.{AreasKeptBy, HasLabel, HoldsAfter, IsKeptOrNew, ShowsEntries, text_in}
-use Rattle.vg_change.specs.Sound.{CanMake, CanTakeText, LiesOn}
-use Rattle.vg_change.proofs.DiskSets.{of_set}
+use Rattle.change_batches.specs.Batches.{areas_of, batch_if, commit_batches, label_put, new_area_puts}
+use Rattle.change_batches.specs.Sound.{sizes_of, CanMake, CanTakeText, LiesOn}
+use Rattle.change_batches.specs.Laws.{AreasKeptBy, HasLabel, HoldsAfter, IsKeptOrNew, ShowsEntries, text_in}
+use Rattle.change_batches.proofs.DiskSets.{of_set}
+use Rattle.vg_change.specs.LineBatches.{batches_of}
 use Rattle.vg_change.proofs.Sound.{can_make, lies_on}
 use Rattle.image_scans.specs.Laws.{CanCarryOut, none_out, version_of}
 use Rattle.image_scans.specs.Versions.{FindsVersion, version_in}

@@ -40,13 +40,13 @@ use Rattle.group_plan.specs.declared.added.Added.{Added}
 use Rattle.group_plan.specs.declared.state.Change.{Change}
 use Rattle.group_plan.specs.declared.state.GroupState.{GroupState}
 use Rattle.group_plan.specs.declared.state.NewLabel.{NewLabel}
-use Rattle.vg_change.specs.Batches.{areas_of, batch_if, label_bytes, label_put}
-use Rattle.vg_change.specs.Laws.{HasLabel, IsKeptOrNew}
-use Rattle.vg_change.specs.Sound.{CanLabel, CanTakeText}
-use Rattle.vg_change.proofs.DiskSets.{of_set}
-use Rattle.vg_change.proofs.FarAreas.{IsFar, areas_far}
-use Rattle.vg_change.proofs.LabelPuts.{AreApart, label_where, labels_there, with_if}
-use Rattle.vg_change.proofs.LabelsRead.{label_read}
+use Rattle.change_batches.specs.Batches.{areas_of, batch_if, label_bytes, label_put}
+use Rattle.change_batches.specs.Laws.{HasLabel, IsKeptOrNew}
+use Rattle.change_batches.specs.Sound.{CanLabel, CanTakeText}
+use Rattle.change_batches.proofs.DiskSets.{of_set}
+use Rattle.change_batches.proofs.FarAreas.{IsFar, areas_far}
+use Rattle.change_batches.proofs.LabelPuts.{AreApart, label_where, labels_there, with_if}
+use Rattle.change_batches.proofs.LabelsRead.{label_read}
 use Rattle.image_scans.proofs.AreaAgain.{HasHeader, IsKeptOrMade, IsKnown, IsOnTheWay, kept_or_made}
 use Rattle.image_scans.proofs.CommitWrites.{IsAreaWrite, commit_writes}
 use Rattle.image_scans.proofs.DiskAgain.{DiskAgain, LabelStands, PvMayBeRefused, disk_again, disk_same}

@@ -7,7 +7,7 @@ use Rattle.disk_model.specs.Steps.{Image}
 use Rattle.disk_batch.specs.InTurn.{HasFirstBatches, Put, with_batches, with_writes}
 use Rattle.disk_batch.specs.Writes.{IsWrittenBy}
 use Rattle.disk_batch.proofs.WritesOnImages.{written_or_kept}
-use Rattle.vg_change.specs.Batches.{batch_if}
+use Rattle.change_batches.specs.Batches.{batch_if}
 
 -- one of the batches writes this value to the sector
 abbrev pub AnyWrites : List (List Put) → ℕ → ℕ → List ℕ → Type 0

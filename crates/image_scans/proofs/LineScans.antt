@@ -15,7 +15,8 @@ use Rattle.group_plan.specs.declared.state.NewLabel.{NewLabel}
 use Rattle.group_plan.specs.declared.backup.Backup.{Backup}
 use Rattle.group_ops.specs.Laws.{state_in}
 use Rattle.group_ops.specs.Planning.{change_of}
-use Rattle.vg_change.specs.Batches.{areas_of, batch_if, batches_of, commit_batches, label_put, new_area_puts}
+use Rattle.change_batches.specs.Batches.{areas_of, batch_if, commit_batches, label_put, new_area_puts}
+use Rattle.vg_change.specs.LineBatches.{batches_of}
 use Rattle.image_scans.specs.Laws.{CanCarryOut, FindsAtEnd, FindsOnTheWay, is_labelled, none_out}
 use Rattle.image_scans.specs.Versions.{FindsVersion, version_in}
 use Rattle.image_scans.proofs.CommitLine.{all_written, at_the_end, before_publishing, on_the_way}

@@ -47,8 +47,9 @@ use Rattle.group_plan.specs.declared.backup.Backup.{Backup}
 use Rattle.pv_plans.specs.Pvcreate.{new_label}
 use Rattle.group_ops.specs.Laws.{state_in}
 use Rattle.group_ops.specs.Planning.{change_of}
-use Rattle.vg_change.specs.Batches.{area_puts, areas_of, batch_if, batches_of, commit_batches, label_put, new_area_puts}
-use Rattle.vg_change.proofs.LabelPuts.{all_if, label_where, labels_keep_other}
+use Rattle.change_batches.specs.Batches.{area_puts, areas_of, batch_if, commit_batches, label_put, new_area_puts}
+use Rattle.change_batches.proofs.LabelPuts.{all_if, label_where, labels_keep_other}
+use Rattle.vg_change.specs.LineBatches.{batches_of}
 use Rattle.vg_change.proofs.LineLabels.{new_labels_are, new_near}
 use Rattle.image_scans.specs.Laws.{CanCarryOut, IsInExtents, IsOutside, place_of, places_in, visible_places}
 use Rattle.image_scans.proofs.CommitCommands.{Commits}

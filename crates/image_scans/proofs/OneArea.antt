@@ -1,7 +1,6 @@
 -- What one area gives, by what its header sector and its ring have.
 use Rattle.std.proofs.Common.{◌≡◌, ◌≤◌, ◌<◌, ◌⊎◌, ℕ, ◌+◌, ◌-◌, ◌^◌, true, false, List, [], length, Option, Some, None, inl, inr, ⊎_elim, refl, sym, ap, subst, ◌∙◌, arith}
 use Rattle.std.proofs.lemmas.Bool.{cases_lt}
-use Rattle.conf_text.specs.Printed.{printed}
 use Rattle.sector_base.specs.Checksum.{checksum, lvm_crc_start}
 use Rattle.mda_header.specs.declared.entry.Entry.TheVariants.{Nothing, Text}
 use Rattle.mda_header.specs.declared.header.Locn.{Locn}
@@ -14,17 +13,18 @@ use Rattle.mda_ring.specs.Areas.{CanTake, IsArea}
 use Rattle.mda_ring.specs.Ring.{need, room}
 use Rattle.mda_ring.specs.Texts.{without_zero}
 use Rattle.mda_ring.proofs.TextBytes.{without_zero-zero}
+use Rattle.conf_text.specs.Printed.{printed}
 use Rattle.meta_model.specs.Standing.{HasTree}
 use Rattle.meta_model.specs.declared.group.Group.{Group}
 use Rattle.meta_print.specs.Layout.{tree_of}
 use Rattle.meta_print.specs.ReadAgain.{IsReadAs}
 use Rattle.meta_print.proofs.ReadAgain.{tree_again}
 use Rattle.volume_rules.specs.Rules.{IsAccepted}
+use Rattle.scan_rules.specs.Decision.{Copy}
+use Rattle.vg_scan.specs.Texts.{IsCopyOf, IsStored}
 use Rattle.vg_commit.specs.Written.{header_after, header_of, new_entry, stored}
 use Rattle.vg_commit.proofs.AreaPuts.{entry_inside, is_placed}
-use Rattle.vg_scan.specs.Texts.{IsCopyOf, IsStored}
-use Rattle.scan_rules.specs.Decision.{Copy}
-use Rattle.vg_change.proofs.ChecksumBound.{checksum_below}
+use Rattle.change_batches.proofs.ChecksumBound.{checksum_below}
 
 -- ---- a header with a committed text
 

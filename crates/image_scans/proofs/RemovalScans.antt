@@ -35,10 +35,11 @@ use Rattle.group_plan.specs.declared.backup.Backup.{Backup}
 use Rattle.vg_plans.specs.Vgremove.{remove_rows}
 use Rattle.group_ops.specs.Laws.{state_in}
 use Rattle.group_ops.specs.Planning.{change_of, refusal_of as line_refusal}
-use Rattle.vg_change.proofs.ClearedAreas.{state_scanned}
-use Rattle.vg_change.specs.Batches.{clear_batches, clears_of}
-use Rattle.vg_change.specs.Building.{AreScanned}
-use Rattle.vg_change.specs.Laws.{ClearsImages, ShowsEntries}
+use Rattle.change_batches.proofs.ClearedAreas.{state_scanned}
+use Rattle.change_batches.specs.Batches.{clear_batches}
+use Rattle.change_batches.specs.Building.{AreScanned}
+use Rattle.change_batches.specs.Laws.{ClearsImages, ShowsEntries}
+use Rattle.vg_change.specs.LineBatches.{clears_of}
 use Rattle.image_scans.proofs.CommitLine.{all_written, is_state, settled}
 use Rattle.image_scans.specs.Laws.{CanCarryOut, none_out}
 use Rattle.image_scans.specs.Versions.{FindsVersion, Version, version_in}

@@ -37,8 +37,9 @@ use Rattle.group_ops.proofs.NextVersions.{drawn_is, zeroes}
 use Rattle.group_ops.proofs.NoZeros.{none_zeroed}
 use Rattle.group_ops.specs.Laws.{state_in}
 use Rattle.group_ops.specs.Planning.{IsPlanned, asks_of, change_of, refusal_of}
-use Rattle.vg_change.specs.Batches.{batch_if, batches_of, zero_put, zeros_of}
-use Rattle.vg_change.specs.Laws.{ShowsEntries}
+use Rattle.change_batches.specs.Batches.{batch_if, zero_put}
+use Rattle.change_batches.specs.Laws.{ShowsEntries}
+use Rattle.vg_change.specs.LineBatches.{batches_of, zeros_of}
 use Rattle.image_scans.specs.Laws.{CanCarryOut, LiesInExtents, ZeroesLie, in_spans}
 use Rattle.image_scans.proofs.BesideAreas.{beside_areas}
 use Rattle.image_scans.proofs.BesideScan.{scan_kept}

@@ -29,7 +29,7 @@ use Rattle.group_plan.specs.declared.backup.Backup.{Backup}
 use Rattle.lv_plans.specs.Allocating.{Takes}
 use Rattle.group_ops.specs.Laws.{state_in}
 use Rattle.group_ops.specs.Planning.{IsBackupOf, IsPlanned, asks_of, change_of, refusal_of}
-use Rattle.vg_change.specs.Batches.{batches_of, clears_of, zeros_of}
+use Rattle.vg_change.specs.LineBatches.{batches_of, clears_of, zeros_of}
 use Rattle.vg_change.specs.CarryingOut.{KeepsImages}
 use Rattle.image_scans.specs.Versions.{FindsVersion, Version, version_in}
 

@@ -4,29 +4,29 @@ use Rattle.std.specs.FinSet as set
 use Rattle.std.specs.Ordering.{nat_cmp}
 use Rattle.std.proofs.lemmas.Bool.{true≢false}
 use Rattle.sector_base.specs.declared.places.At.{At}
-use Rattle.disk_batch.proofs.FrontBatches.{none_front}
-use Rattle.disk_batch.proofs.InTurn.{of_submitted, turns_both}
-use Rattle.disk_batch.specs.InTurn.{HasFirstBatches, Put, WritesInTurn, with_batches}
 use Rattle.disk_model.proofs.StepsSince.{steps_joined}
 use Rattle.disk_model.proofs.SectorImages.{leaves_by_images}
 use Rattle.disk_model.specs.Durability.{IsBase}
 use Rattle.disk_model.specs.Moments.{EveryImageSince, at_moment}
 use Rattle.disk_model.specs.Record.{IsRecord}
 use Rattle.disk_model.specs.Steps.{Image, Step, Told}
+use Rattle.meta_model.specs.declared.group.Group.{Group}
+use Rattle.volume_view.specs.Places.{primary}
+use Rattle.volume_view.specs.View.{at_place}
+use Rattle.disk_batch.proofs.FrontBatches.{none_front}
+use Rattle.disk_batch.proofs.InTurn.{of_submitted, turns_both}
+use Rattle.disk_batch.specs.InTurn.{HasFirstBatches, Put, WritesInTurn, with_batches}
 use Rattle.group_ops.proofs.NoClears.{clears, none_cleared}
 use Rattle.group_ops.specs.Laws.{state_in}
-use Rattle.image_scans.proofs.ClearPlaces.{clears_keep_places}
-use Rattle.image_scans.proofs.CommitLine.{all_written}
-use Rattle.image_scans.specs.Versions.{version_in}
-use Rattle.meta_model.specs.declared.group.Group.{Group}
-use Rattle.repair_scans.specs.Laws.{RepairedScans}
-use Rattle.vg_change.specs.Batches.{clear_batches}
+use Rattle.change_batches.specs.Batches.{clear_batches}
 use Rattle.vg_repair.proofs.Nothing.{leaves_all}
 use Rattle.vg_repair.specs.Batches.{text_batches}
 use Rattle.vg_repair.specs.Repaired.{repaired_of}
 use Rattle.vg_repair.specs.Stale.{stale_areas, text_of}
-use Rattle.volume_view.specs.Places.{primary}
-use Rattle.volume_view.specs.View.{at_place}
+use Rattle.image_scans.proofs.ClearPlaces.{clears_keep_places}
+use Rattle.image_scans.proofs.CommitLine.{all_written}
+use Rattle.image_scans.specs.Versions.{version_in}
+use Rattle.repair_scans.specs.Laws.{RepairedScans}
 use Rattle.volume_history.specs.Chronicles.{Origin, now_at}
 use Rattle.volume_history.specs.Placed.{volumes_of}
 use Rattle.volume_history.specs.Quiet.{AllUntouched}

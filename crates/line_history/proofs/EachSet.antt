@@ -34,11 +34,11 @@ use Rattle.group_plan.specs.declared.state.GroupState.{GroupState}
 use Rattle.group_plan.proofs.Passed.{absent}
 use Rattle.group_ops.specs.Laws.{state_in}
 use Rattle.group_ops.specs.Planning.{change_of}
-use Rattle.vg_change.specs.Batches.{batches_of, clears_of}
-use Rattle.vg_change.specs.Building.{AreScanned}
-use Rattle.vg_change.specs.Laws.{HoldsAfter}
-use Rattle.vg_change.proofs.ClearedAreas.{state_scanned}
-use Rattle.vg_change.proofs.KeptImages.{of_passed}
+use Rattle.change_batches.specs.Building.{AreScanned}
+use Rattle.change_batches.specs.Laws.{HoldsAfter}
+use Rattle.change_batches.proofs.ClearedAreas.{state_scanned}
+use Rattle.change_batches.proofs.KeptImages.{of_passed}
+use Rattle.vg_change.specs.LineBatches.{batches_of, clears_of}
 use Rattle.image_scans.proofs.ClearedAgain.{others_same}
 use Rattle.image_scans.proofs.ClearedApart.{ClearsOthers, clears_others}
 use Rattle.image_scans.proofs.CommitCommands.{Commits}

@@ -4,19 +4,19 @@ use Rattle.std.specs.Prelude.{slice_get}
 use Rattle.std.specs.FinSet as set
 use Rattle.std.specs.List.{AllByRecursion as Each}
 use Rattle.std.specs.Ordering.{nat_cmp}
-use Rattle.disk_batch.specs.InTurn.{with_batches}
 use Rattle.disk_model.specs.Steps.{Image}
 use Rattle.mda_header.specs.declared.header.Locn.{Locn}
 use Rattle.mda_ring.specs.declared.area.Area.{Area}
 use Rattle.meta_model.specs.declared.group.Group.{Group}
 use Rattle.scan_rules.specs.Decision.{AreaReading, Copy, HoldsNone, Reading}
+use Rattle.disk_batch.specs.InTurn.{with_batches}
 use Rattle.vg_found.specs.Disks.{areas_on}
 use Rattle.vg_found.specs.declared.disk.Disk.{Disk}
 use Rattle.vg_scan.specs.Readings.{IsDiskReading}
 use Rattle.vg_scan.specs.Texts.{IsCopyOf}
-use Rattle.vg_change.specs.Batches.{clear_batches}
-use Rattle.vg_change.specs.Building.{AreScanned}
-use Rattle.vg_change.specs.Laws.{ClearsImages, ShowsEntries}
+use Rattle.change_batches.specs.Batches.{clear_batches}
+use Rattle.change_batches.specs.Building.{AreScanned}
+use Rattle.change_batches.specs.Laws.{ClearsImages, ShowsEntries}
 use Rattle.image_scans.proofs.ClearedAgain.{any_bare, any_pv, disk_cleared}
 use Rattle.image_scans.proofs.CommitLine.{all_written}
 use Rattle.image_scans.proofs.DiskAgain.{DiskAgain}

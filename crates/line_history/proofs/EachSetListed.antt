@@ -39,7 +39,7 @@ use Rattle.lv_plans.specs.Allocating.{Takes}
 use Rattle.group_ops.proofs.NextVersions.{append_nil, commits_next, is_next}
 use Rattle.group_ops.specs.Laws.{state_in}
 use Rattle.group_ops.specs.Planning.{IsBackupOf, IsPlanned, asks_of, change_of, refusal_of}
-use Rattle.vg_change.proofs.DiskSets.{of_set}
+use Rattle.change_batches.proofs.DiskSets.{of_set}
 use Rattle.image_scans.proofs.CommitLine.{settled}
 use Rattle.image_scans.proofs.Given.{IsNone, IsSettled, PvGives, pv_weaker}
 use Rattle.image_scans.proofs.ReadingShapes.{gives_at, gives_on}

@@ -27,9 +27,9 @@ use Rattle.group_plan.specs.declared.state.GroupState.{GroupState}
 use Rattle.vg_plans.specs.Vgremove.{remove_rows}
 use Rattle.group_ops.specs.Laws.{state_in}
 use Rattle.group_ops.specs.Planning.{change_of, refusal_of}
-use Rattle.vg_change.specs.Batches.{clears_of}
-use Rattle.vg_change.specs.Building.{AreScanned}
-use Rattle.vg_change.proofs.ClearedAreas.{state_scanned}
+use Rattle.change_batches.specs.Building.{AreScanned}
+use Rattle.change_batches.proofs.ClearedAreas.{state_scanned}
+use Rattle.vg_change.specs.LineBatches.{clears_of}
 use Rattle.image_scans.proofs.ClearedAgain.{others_same}
 use Rattle.image_scans.proofs.CommitLine.{all_written, is_state, settled, shown}
 use Rattle.image_scans.proofs.Given.{IsNone, pv_weaker}

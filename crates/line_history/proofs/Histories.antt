@@ -21,7 +21,7 @@ use Rattle.group_plan.specs.declared.state.GroupState.{GroupState}
 use Rattle.group_ops.proofs.NoClears.{clears}
 use Rattle.group_ops.specs.Laws.{state_in}
 use Rattle.group_ops.specs.Planning.{IsPlanned, change_of}
-use Rattle.vg_change.specs.Batches.{batch_if, zero_put}
+use Rattle.change_batches.specs.Batches.{batch_if, zero_put}
 use Rattle.vg_repair.proofs.RepairedSizes.{repaired_count}
 use Rattle.vg_repair.specs.Repaired.{repaired_of}
 use Rattle.image_scans.specs.Versions.{version_in}

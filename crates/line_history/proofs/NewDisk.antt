@@ -11,7 +11,7 @@ use Rattle.meta_model.specs.declared.group.Group.{Group}
 use Rattle.disk_batch.proofs.InTurn.{of_submitted, turns_both}
 use Rattle.disk_batch.specs.InTurn.{Put, WritesInTurn}
 use Rattle.group_plan.specs.declared.state.NewLabel.{NewLabel}
-use Rattle.vg_change.specs.Batches.{areas_of, batch_if, commit_batches, label_put, new_area_puts, zero_put}
+use Rattle.change_batches.specs.Batches.{areas_of, batch_if, commit_batches, label_put, new_area_puts, zero_put}
 use Rattle.vg_repair.specs.Repaired.{repaired_of}
 use Rattle.image_scans.proofs.LineScans.{images_scan}
 use Rattle.image_scans.specs.Laws.{FindsAtEnd, FindsOnTheWay, is_labelled, none_out}

@@ -11,7 +11,7 @@ use Rattle.disk_model.specs.Steps.{Completed, Flushing, Reading, Step, Submitted
 use Rattle.pv_header.specs.declared.extent_list.Extent.{Extent}
 use Rattle.disk_batch.specs.InTurn.{Put}
 use Rattle.group_plan.specs.declared.state.NewLabel.{NewLabel}
-use Rattle.vg_change.specs.Batches.{area_put, area_puts, batch_if, label_put}
+use Rattle.change_batches.specs.Batches.{area_put, area_puts, batch_if, label_put}
 use Rattle.volume_history.specs.Chronicles.{has_written}
 
 module _ (own : Span → Bool) where

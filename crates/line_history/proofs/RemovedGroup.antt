@@ -27,7 +27,8 @@ use Rattle.vg_plans.specs.Vgremove.{remove_rows, volume_row}
 use Rattle.group_ops.proofs.NextVersions.{zeroes}
 use Rattle.group_ops.specs.Laws.{state_in}
 use Rattle.group_ops.specs.Planning.{change_of, refusal_of}
-use Rattle.vg_change.specs.Batches.{batch_if, batches_of, zero_put}
+use Rattle.change_batches.specs.Batches.{batch_if, zero_put}
+use Rattle.vg_change.specs.LineBatches.{batches_of}
 use Rattle.vg_repair.specs.Repaired.{repaired_of}
 use Rattle.image_scans.proofs.RemovalScans.{removal_ends, removal_scans}
 use Rattle.image_scans.specs.Laws.{CanCarryOut, none_out}

@@ -7,7 +7,8 @@ use Rattle.extent_alloc.specs.declared.part.Part.{Part}
 use Rattle.group_plan.specs.Cleared.{cleared_areas, unused_labels}
 use Rattle.group_plan.specs.declared.state.GroupState.{GroupState}
 use Rattle.group_ops.specs.Planning.{change_of}
-use Rattle.vg_change.specs.Batches.{batch_if, clear_put, clears_of, label_put}
+use Rattle.change_batches.specs.Batches.{batch_if, clear_put, label_put}
+use Rattle.vg_change.specs.LineBatches.{clears_of}
 use Rattle.image_scans.proofs.Front.{any_append, any_if, written_of}
 use Rattle.line_history.specs.Places.{AtCleared, AtUnused, BatchesWrite, IsClearPlace}
 use Rattle.line_history.proofs.WritesLieAny.{any_writes}

@@ -20,7 +20,8 @@ use Rattle.group_plan.specs.declared.state.NewLabel.{NewLabel}
 use Rattle.group_plan.specs.declared.backup.Backup.{Backup}
 use Rattle.group_ops.specs.Laws.{state_in}
 use Rattle.group_ops.specs.Planning.{change_of}
-use Rattle.vg_change.specs.Batches.{area_put, area_puts, areas_of, batch_if, batches_of, commit_batches, label_put, new_area_puts}
+use Rattle.change_batches.specs.Batches.{area_put, area_puts, areas_of, batch_if, commit_batches, label_put, new_area_puts}
+use Rattle.vg_change.specs.LineBatches.{batches_of}
 use Rattle.image_scans.specs.Laws.{CanCarryOut}
 use Rattle.image_scans.proofs.CommitCommands.{Commits}
 use Rattle.image_scans.proofs.CommitLine.{can, is_state, lies}

@@ -6,17 +6,17 @@ use Rattle.disk_model.specs.Steps.{Image}
 use Rattle.mda_header.specs.declared.header.Locn.{Locn}
 use Rattle.mda_ring.specs.declared.area.Area.{Area}
 use Rattle.mda_ring.proofs.SpanLaws.{covers_from}
+use Rattle.vg_found.specs.declared.found.Found.{Found}
 use Rattle.vg_commit.proofs.Disks.{no_area}
 use Rattle.vg_commit.specs.Written.{header_span}
-use Rattle.vg_found.specs.declared.found.Found.{Found}
-use Rattle.vg_change.specs.Batches.{label_put}
+use Rattle.change_batches.specs.Batches.{label_put}
 use Rattle.vg_repair.specs.Batches.{repair_batches, stray_areas, stray_labels}
 use Rattle.vg_repair.specs.Stale.{stale_areas, text_of}
+use Rattle.image_scans.proofs.ClearWrites.{IsClearWrite}
+use Rattle.image_scans.proofs.Front.{written_of}
 use Rattle.repair_scans.specs.Laws.{CanRepair}
 use Rattle.repair_scans.proofs.RepairOnTheWay.{writes}
-use Rattle.image_scans.proofs.ClearWrites.{IsClearWrite}
 use Rattle.line_history.specs.Places.{BatchesWrite, AtStray, AtStrayHeader, InStale, IsRepairPlace}
-use Rattle.image_scans.proofs.Front.{written_of}
 use Rattle.line_history.proofs.WritesLieAny.{any_writes, area_write}
 
 module _ (base : Image) (sizes : List ℕ) (found : Found) (p : CanRepair base sizes found) (pv sector : ℕ) where

@@ -9,7 +9,8 @@ use Rattle.group_plan.specs.declared.state.Change.{Change}
 use Rattle.group_plan.specs.declared.backup.Backup.{Backup}
 use Rattle.group_ops.specs.Laws.{state_in}
 use Rattle.group_ops.specs.Planning.{change_of}
-use Rattle.vg_change.specs.Batches.{zero_put, zeros_of}
+use Rattle.change_batches.specs.Batches.{zero_put}
+use Rattle.vg_change.specs.LineBatches.{zeros_of}
 use Rattle.image_scans.specs.Laws.{CanCarryOut, IsFree}
 use Rattle.image_scans.proofs.Front.{any_if, written_of}
 use Rattle.image_scans.proofs.Zeroes.{zeroes_lie}

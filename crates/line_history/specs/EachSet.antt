@@ -13,7 +13,7 @@ use Rattle.vg_scan.specs.Scans.{IsScanOf}
 use Rattle.group_plan.specs.declared.backup.Backup.{Backup}
 use Rattle.group_ops.specs.Laws.{state_in}
 use Rattle.group_ops.specs.Planning.{change_of}
-use Rattle.vg_change.specs.Batches.{batches_of, clears_of}
+use Rattle.vg_change.specs.LineBatches.{batches_of, clears_of}
 use Rattle.image_scans.specs.Laws.{CanCarryOut, none_out}
 use Rattle.image_scans.specs.Versions.{FindsVersion, Version}
 use Rattle.volume_history.specs.Commands.{commits}

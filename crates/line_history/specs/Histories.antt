@@ -20,7 +20,7 @@ use Rattle.group_plan.specs.declared.backup.Backup.{Backup}
 use Rattle.lv_plans.specs.Allocating.{Takes}
 use Rattle.group_ops.specs.Laws.{state_in}
 use Rattle.group_ops.specs.Planning.{IsBackupOf, asks_of, change_of}
-use Rattle.vg_change.specs.Batches.{batches_of, clears_of, zeros_of}
+use Rattle.vg_change.specs.LineBatches.{batches_of, clears_of, zeros_of}
 use Rattle.vg_repair.specs.Batches.{repair_batches}
 use Rattle.vg_repair.specs.Repaired.{repaired_of}
 use Rattle.image_scans.specs.Laws.{none_out}

@@ -18,7 +18,7 @@ use Rattle.group_plan.specs.declared.backup.Backup.{Backup}
 use Rattle.lv_plans.specs.Allocating.{Takes}
 use Rattle.group_ops.specs.Laws.{state_in}
 use Rattle.group_ops.specs.Planning.{IsBackupOf, IsPlanned, asks_of, refusal_of}
-use Rattle.vg_change.specs.Batches.{batches_of, clears_of, zeros_of}
+use Rattle.vg_change.specs.LineBatches.{batches_of, clears_of, zeros_of}
 use Rattle.vg_change.specs.CarryingOut.{KeepsImages}
 use Rattle.vg_repair.specs.Batches.{repair_batches}
 use Rattle.vg_repair.specs.Laws.{KeepsImages as RepairKeepsImages}

@@ -25,7 +25,8 @@ use Rattle.group_plan.specs.declared.state.NewLabel.{NewLabel}
 use Rattle.group_plan.specs.declared.backup.Backup.{Backup}
 use Rattle.group_ops.specs.Laws.{state_in}
 use Rattle.group_ops.specs.Planning.{change_of}
-use Rattle.vg_change.specs.Batches.{areas_of, batches_of, clears_of, zeros_of}
+use Rattle.change_batches.specs.Batches.{areas_of}
+use Rattle.vg_change.specs.LineBatches.{batches_of, clears_of, zeros_of}
 use Rattle.vg_repair.specs.Batches.{repair_batches, stray_areas, stray_labels}
 use Rattle.vg_repair.specs.Stale.{stale_areas}
 use Rattle.image_scans.specs.Laws.{CanCarryOut, IsFree}

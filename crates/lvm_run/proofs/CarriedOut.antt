@@ -34,9 +34,9 @@ use Rattle.lv_plans.specs.Allocating.{Takes}
 use Rattle.group_ops.specs.Laws.{state_in}
 use Rattle.group_ops.specs.Planning.{IsBackupOf, IsPlanned, asks_of, change_of, refusal_of}
 use Rattle.group_ops.proofs.WholeState.{whole_is_state}
-use Rattle.vg_change.specs.Batches.{batches_of, clears_of, zeros_of}
+use Rattle.change_batches.specs.Laws.{ShowsEntries}
+use Rattle.vg_change.specs.LineBatches.{batches_of, clears_of, zeros_of}
 use Rattle.vg_change.specs.CarryingOut.{Carries, ClearsBehind, HasBegun, HasJudged, IsFault, KeepsImages, WritesBehind}
-use Rattle.vg_change.specs.Laws.{ShowsEntries}
 use Rattle.vg_change.specs.declared.fault.ChangeFault.{ChangeFault}
 use Rattle.vg_change.specs.declared.fault.ChangeFault.TheVariants as fault
 use Rattle.vg_repair.proofs.RepairedSizes.{repaired_count}

@@ -16,7 +16,7 @@ use Rattle.disk_model.proofs.Ordered.{flushed_later, writes_nothing_append}
 use Rattle.disk_model.proofs.ReadingAlone.{now_after-reads, reads_write_nothing}
 use Rattle.disk_model.proofs.StepsSince.{between_both, between_weaker, spans_read-append, steps_joined}
 use Rattle.scan_rules.specs.declared.decision.ScanRefusal.{ScanRefusal as RefusalOfScan}
-use Rattle.vg_change.specs.Flushing.{FlushesAll}
+use Rattle.disk_batch.specs.Flushing.{FlushesAll}
 use Rattle.vg_found.specs.declared.found.Found.{Found}
 use Rattle.vg_found.specs.declared.whole.NotWhole.{NotWhole}
 use Rattle.vg_found.specs.declared.whole.NotWhole.TheVariants as not_whole

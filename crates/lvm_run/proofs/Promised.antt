@@ -26,7 +26,7 @@ use Rattle.group_plan.specs.declared.state.GroupState.{GroupState}
 use Rattle.lv_plans.specs.Allocating.{Takes}
 use Rattle.group_ops.specs.Laws.{state_in}
 use Rattle.group_ops.specs.Planning.{IsBackupOf, IsPlanned, asks_of, change_of, refusal_of}
-use Rattle.vg_change.specs.Batches.{batches_of, clears_of, zeros_of}
+use Rattle.vg_change.specs.LineBatches.{batches_of, clears_of, zeros_of}
 use Rattle.vg_change.specs.CarryingOut.{Carries, ClearsBehind, HasBegun, HasJudged, IsFault, KeepsImages, WritesBehind, WritesBoth, made_at}
 use Rattle.vg_change.specs.declared.fault.ChangeFault.{ChangeFault}
 use Rattle.vg_change.specs.declared.fault.ChangeFault.TheVariants as fault

@@ -22,11 +22,12 @@ use Rattle.group_plan.specs.declared.state.GroupState.{GroupState}
 use Rattle.lv_plans.specs.Allocating.{Takes}
 use Rattle.group_ops.specs.Laws.{state_in}
 use Rattle.group_ops.specs.Planning.{IsBackupOf, asks_of, change_of, refusal_of}
-use Rattle.vg_change.specs.Batches.{batches_of, clears_of, zeros_of}
+use Rattle.change_batches.specs.Laws.{AreCleared, ClearsKeep}
+use Rattle.vg_change.specs.LineBatches.{batches_of, clears_of, zeros_of}
 use Rattle.vg_change.specs.CarryingOut.{HasJudged, IsCarried}
 use Rattle.vg_change.specs.declared.fault.ChangeFault.{ChangeFault}
 use Rattle.vg_change.specs.declared.fault.ChangeFault.TheVariants as fault
-use Rattle.vg_change.specs.Laws.{AreCleared, AreasAreKept, ClearsKeep, IsFoundAfter}
+use Rattle.vg_change.specs.LineLaws.{AreasAreKept, IsFoundAfter}
 use Rattle.vg_repair.specs.Batches.{repair_batches}
 use Rattle.vg_repair.specs.Repaired.{repaired_of}
 use Rattle.vg_repair.specs.Laws.{KeepsImages as RepairKeepsImages, StraysAreOthers}

@@ -6,7 +6,7 @@ ghost use Rattle.vg_found.specs.Whole.{IsWhole};
 ghost use Rattle.group_plan.specs.declared.backup.Backup.{Backup as BackupRecord};
 ghost use Rattle.group_ops.specs.Laws.{state_in};
 ghost use Rattle.group_ops.specs.Planning.{IsBackupOf, IsPlanned};
-ghost use Rattle.vg_change.specs.CarryingOut.{sizes_of};
+ghost use Rattle.change_batches.specs.Sound.{sizes_of};
 ghost use Rattle.lvm_run.specs.Changing.{IsCarriedOut, IsChanged, changing, ending_of, outcome_of, took_of};
 ghost use Rattle.lvm_run.specs.Disks.{AreDisks};
 ghost use Rattle.lvm_run.specs.History.{IsEntered, journal_by, lines_by};

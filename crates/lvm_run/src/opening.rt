@@ -8,9 +8,9 @@ ghost use Rattle.lvm_run.specs.Scan.{IsOpenCause, IsOpened, IsTakenAsFound, Open
 
 use crate::ending::Ending;
 use crate::scanned::{partial_ending, scan_ending};
+use disk_batch::flush_all;
 use disk_model::Shelf;
 use std::alloc::{AllocError, Global};
-use vg_change::flush_all;
 use vg_found::{Found, Whole};
 use vg_scan::scan;
 

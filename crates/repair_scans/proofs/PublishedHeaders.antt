@@ -18,9 +18,9 @@ use Rattle.vg_commit.proofs.Disks.{no_area}
 use Rattle.vg_commit.specs.Written.{area_writes, header_after, header_span, headers_of, publish_of, texts_of}
 use Rattle.vg_commit.proofs.AreasCommit.{header_covers, one_area}
 use Rattle.group_plan.specs.Judging.{lies_on}
-use Rattle.vg_change.specs.Batches.{batch_if, clear_put, label_put}
-use Rattle.vg_change.proofs.LabelPuts.{label_where, one_covers, one_tells, one_value}
-use Rattle.vg_change.specs.Building.{AreHeld}
+use Rattle.change_batches.specs.Batches.{batch_if, clear_put, label_put}
+use Rattle.change_batches.proofs.LabelPuts.{label_where, one_covers, one_tells, one_value}
+use Rattle.change_batches.specs.Building.{AreHeld}
 use Rattle.vg_repair.specs.Batches.{repair_batches, stray_areas, stray_labels, text_batches}
 use Rattle.vg_repair.specs.Stale.{stale_areas, text_of}
 use Rattle.vg_repair.proofs.HeldAreas.{stale_held}

@@ -37,13 +37,13 @@ use Rattle.vg_commit.specs.SectorReading.{IsSized, ShowsBy, old_reading}
 use Rattle.group_plan.specs.Added.{pv_in}
 use Rattle.group_plan.specs.Judging.{lies_on}
 use Rattle.group_plan.specs.declared.state.NewLabel.{NewLabel}
-use Rattle.vg_change.specs.Batches.{batch_if, clear_batches, clear_put, label_bytes, label_put}
-use Rattle.vg_change.specs.Laws.{HasLabel, IsKeptOrNew, ShowsEntries, text_in}
-use Rattle.vg_change.specs.Sound.{CanLabel}
-use Rattle.vg_change.proofs.BaseShows.{base_shows, base_sized, shows_alike}
-use Rattle.vg_change.proofs.FarAreas.{IsFar}
-use Rattle.vg_change.proofs.LabelPuts.{label_where, labels_there, with_if}
-use Rattle.vg_change.proofs.LabelsRead.{label_read}
+use Rattle.change_batches.specs.Batches.{batch_if, clear_batches, clear_put, label_bytes, label_put}
+use Rattle.change_batches.specs.Laws.{HasLabel, IsKeptOrNew, ShowsEntries, text_in}
+use Rattle.change_batches.specs.Sound.{CanLabel}
+use Rattle.change_batches.proofs.BaseShows.{base_shows, base_sized, shows_alike}
+use Rattle.change_batches.proofs.FarAreas.{IsFar}
+use Rattle.change_batches.proofs.LabelPuts.{label_where, labels_there, with_if}
+use Rattle.change_batches.proofs.LabelsRead.{label_read}
 use Rattle.vg_repair.specs.Batches.{repair_batches, stray_areas, stray_labels, text_batches}
 use Rattle.vg_repair.specs.Laws.{IsKept}
 use Rattle.vg_repair.specs.Stale.{stale_areas, text_of}

@@ -24,8 +24,8 @@ use Rattle.vg_found.specs.Disks.{header_on}
 use Rattle.group_plan.specs.Added.{pv_in}
 use Rattle.group_plan.specs.declared.state.NewLabel.{NewLabel}
 use Rattle.group_plan.specs.Cleared.{unused, unused_label}
-use Rattle.vg_change.specs.Laws.{HasLabel}
-use Rattle.vg_change.proofs.LabelPuts.{label_where}
+use Rattle.change_batches.specs.Laws.{HasLabel}
+use Rattle.change_batches.proofs.LabelPuts.{label_where}
 use Rattle.vg_repair.specs.Batches.{repair_batches, stray_labels}
 use Rattle.vg_repair.proofs.Numbered.{all_in}
 use Rattle.image_scans.proofs.CommitLine.{all_written}

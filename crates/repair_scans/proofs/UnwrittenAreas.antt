@@ -19,7 +19,7 @@ use Rattle.vg_found.specs.declared.found.Found.{Found}
 use Rattle.vg_found.specs.Disks.{areas_on, held_area}
 use Rattle.vg_commit.proofs.Disks.{no_area}
 use Rattle.group_plan.specs.Judging.{lies_on}
-use Rattle.vg_change.proofs.LabelPuts.{label_where}
+use Rattle.change_batches.proofs.LabelPuts.{label_where}
 use Rattle.vg_repair.specs.Batches.{repair_batches, stray_areas, stray_labels}
 use Rattle.vg_repair.specs.Stale.{is_among, stale_areas}
 use Rattle.vg_repair.proofs.StrayLabels.{labels_can}

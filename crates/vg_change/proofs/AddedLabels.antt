@@ -20,9 +20,8 @@ use Rattle.group_plan.specs.State.{IsState}
 use Rattle.group_plan.specs.declared.added.Added.{Added}
 use Rattle.group_plan.specs.declared.state.GroupState.{GroupState}
 use Rattle.group_plan.specs.declared.state.NewLabel.{NewLabel}
-use Rattle.vg_change.proofs.HeldInDisks.{HasSize, has_size}
-use Rattle.vg_change.specs.CarryingOut.{sizes_of}
-use Rattle.vg_change.specs.Sound.{CanLabel, LabelLies}
+use Rattle.change_batches.proofs.HeldInDisks.{HasSize, has_size}
+use Rattle.change_batches.specs.Sound.{sizes_of, CanLabel, LabelLies}
 
 -- it stands on one of the disks, its label in one of the first four sectors, and its lists fit behind that
 pub record StandsOn (disks : List Disk) (added : Added) : Type 0 where

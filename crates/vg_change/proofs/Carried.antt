@@ -20,9 +20,10 @@ use Rattle.group_plan.specs.declared.state.Change.{Change}
 use Rattle.group_plan.specs.declared.state.GroupState.{GroupState}
 use Rattle.lv_plans.specs.Allocating.{Asking, Takes, PlansWith}
 use Rattle.group_ops.specs.Planning.{IsPlanned, asks_of, change_of, refusal_of, rows_of}
-use Rattle.vg_change.specs.Batches.{batches_of, change_batches, clear_batches, clears_of, zero_batches, zeros_of}
-use Rattle.vg_change.specs.CarryingOut.{ClearsBehind, IsCarried, IsMade, IsUnclearedBy, KeepsImages, WritesBoth, clear_fault, fault_of, made_at, sizes_of}
-use Rattle.vg_change.specs.Sound.{CanMake, FitsFields, IsReadAgain, LiesOn}
+use Rattle.change_batches.specs.Batches.{change_batches, clear_batches, zero_batches}
+use Rattle.change_batches.specs.Sound.{sizes_of, CanMake, FitsFields, IsReadAgain, LiesOn}
+use Rattle.vg_change.specs.LineBatches.{batches_of, clears_of, zeros_of}
+use Rattle.vg_change.specs.CarryingOut.{ClearsBehind, IsCarried, IsMade, IsUnclearedBy, KeepsImages, WritesBoth, clear_fault, fault_of, made_at}
 use Rattle.vg_change.specs.declared.fault.ChangeFault.{ChangeFault}
 use Rattle.vg_change.specs.declared.fault.ChangeFault.TheVariants.{NoMemory, Failed}
 use Rattle.vg_change.proofs.LineImages.{keeps_images}

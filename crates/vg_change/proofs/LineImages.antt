@@ -16,15 +16,17 @@ use Rattle.group_plan.specs.declared.state.GroupState.{GroupState}
 use Rattle.group_plan.specs.declared.state.NewLabel.{NewLabel}
 use Rattle.lv_plans.specs.Allocating.{Takes}
 use Rattle.group_ops.specs.Planning.{IsPlanned, asks_of, change_of, refusal_of}
-use Rattle.vg_change.specs.Batches.{areas_of, batch_if, batches_of, commit_batches, label_put, new_area_puts}
-use Rattle.vg_change.specs.CarryingOut.{KeepsImages, sizes_of}
-use Rattle.vg_change.specs.Laws.{AreasAreKept, HasLabel, HoldsAfter, IsFoundAfter, ShowsEntries}
-use Rattle.vg_change.specs.Sound.{CanMake, FitsFields, IsReadAgain, LiesOn}
-use Rattle.vg_change.proofs.ClearedAreas.{state_scanned}
-use Rattle.vg_change.proofs.ClearedImages.{clears_images}
-use Rattle.vg_change.proofs.FarAreas.{areas_far}
-use Rattle.vg_change.proofs.KeptImages.{areas_shown, areas_unpublished, change_kept, labels_stand}
-use Rattle.vg_change.proofs.LabelsRead.{header_found, label_read}
+use Rattle.change_batches.specs.Batches.{areas_of, batch_if, commit_batches, label_put, new_area_puts}
+use Rattle.change_batches.specs.Sound.{sizes_of, CanMake, FitsFields, IsReadAgain, LiesOn}
+use Rattle.change_batches.specs.Laws.{HasLabel, HoldsAfter, ShowsEntries}
+use Rattle.change_batches.proofs.ClearedAreas.{state_scanned}
+use Rattle.change_batches.proofs.ClearedImages.{clears_images}
+use Rattle.change_batches.proofs.FarAreas.{areas_far}
+use Rattle.change_batches.proofs.KeptImages.{areas_shown, areas_unpublished, change_kept, labels_stand}
+use Rattle.change_batches.proofs.LabelsRead.{header_found, label_read}
+use Rattle.vg_change.specs.LineBatches.{batches_of}
+use Rattle.vg_change.specs.CarryingOut.{KeepsImages}
+use Rattle.vg_change.specs.LineLaws.{AreasAreKept, IsFoundAfter}
 use Rattle.vg_change.proofs.LineLabels.{headers_found, new_empty, new_labels_are, new_near}
 use Rattle.vg_change.proofs.Sound.{can_make, lies_on}
 

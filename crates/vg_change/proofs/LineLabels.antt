@@ -1,8 +1,7 @@
 -- The labels that a line writes, and the areas behind those of new physical volumes.
 use Rattle.std.proofs.Common.{◌≡◌, ◌≢◌, ◌≤◌, ◌<◌, ◌⊎◌, ℕ, ◌+◌, ◌*◌, ◌^◌, ◌==◌, Bool, true, false, cond, List, [], ◌∷◌, ◌++◌, map, flat_map, Option, None, Some, inl, inr, ⊎_elim, refl, sym, subst, ◌∙◌, arith, lit<}
-use Rattle.std.specs.Prelude.{All, find, slice_get, unwrap_or, IsSomeAnd}
+use Rattle.std.specs.Prelude.{All, slice_get, unwrap_or, IsSomeAnd}
 use Rattle.std.specs.Option.{option_map_or}
-use Rattle.std.proofs.lemmas.Bool.{ltb-false}
 use Rattle.std.proofs.lemmas.List.Elements.{All-append, All-cons, All-head, All-map, All-nil, All-weaker}
 use Rattle.std.proofs.lemmas.Option.{same_Some}
 use Rattle.lvm_id.specs.LvmId.{IsId}
@@ -13,7 +12,6 @@ use Rattle.lvm_script.specs.declared.line.Line.{Line}
 use Rattle.disk_model.specs.Steps.{Image}
 use Rattle.pv_header.specs.declared.extent_list.Extent.{Extent}
 use Rattle.pv_header.specs.declared.header.PvHeader.{PvHeader}
-use Rattle.pv_header.specs.Areas.{is_outside}
 use Rattle.pv_header.specs.Extents.{Fits64}
 use Rattle.pv_header.specs.PvRefusal.{Reads}
 use Rattle.mda_header.specs.Header.{IsHeader}
@@ -44,11 +42,12 @@ use Rattle.vg_plans.specs.Vgextend.{extend_by}
 use Rattle.vg_plans.specs.Vgreduce.{leaving_change, reduce_change}
 use Rattle.group_ops.proofs.NextVersions.{is_next, next_labels}
 use Rattle.group_ops.specs.Planning.{IsPlanned, change_of}
-use Rattle.vg_change.specs.Batches.{area_puts, batch_if, empty_area, label_put}
-use Rattle.vg_change.specs.Sound.{CanLabel}
-use Rattle.vg_change.proofs.KeptImages.{KeepNear}
-use Rattle.vg_change.proofs.LabelPuts.{labels_keep_far, one_covers, one_tells, one_value}
-use Rattle.vg_change.proofs.LabelsRead.{CanBeFound, empty_read}
+use Rattle.change_batches.specs.Batches.{area_puts, batch_if, empty_area, label_put}
+use Rattle.change_batches.specs.Sound.{CanLabel}
+use Rattle.change_batches.proofs.KeptImages.{KeepNear}
+use Rattle.change_batches.proofs.LabelPuts.{labels_keep_far, one_covers, one_tells, one_value}
+use Rattle.change_batches.proofs.LabelsRead.{CanBeFound, empty_read}
+use Rattle.change_batches.proofs.FittingAreas.{fit_both}
 
 -- ---- where no group is committed
 
@@ -202,26 +201,6 @@ reads_on pv sectors None header stands is = absurd cc
 reads_on pv sectors (Some (NoLabel refusal)) header stands is = absurd cc
 reads_on pv sectors (Some (NoHeader label refusal)) header stands is = absurd cc
 reads_on pv sectors (Some (Whole label own areas)) header stands is = subst (λ (h : PvHeader). (sector : List ℕ) × Reads sector (sectors * 512) h) (same_Some own header is) stands.1
-
--- areas that lie on a disk of fewer than 2^64 bytes
-module _ (bytes : ℕ) (few : bytes < 2 ^ 64) where
-  fits_here : (area : Extent) (rest : Option Extent) (b : Bool) → is_outside bytes area ≡ b → cond b (Some area) rest ≡ None → Fits64 area × (rest ≡ None)
-  fits_here area rest true is none = absurd cc
-  fits_here area rest false is none =
-      let inside : area.offset + area.size ≤ bytes = ltb-false bytes (area.offset + area.size) is in
-      ((omega (arith, inside, few), omega (arith, inside, few)), none)
-
-  fit : (xs : List Extent) → find (is_outside bytes) xs ≡ None → All Fits64 xs
-  fit [] none = All-nil Fits64
-  fit (area ∷ xs) none =
-      let here = fits_here area (find (is_outside bytes) xs) (is_outside bytes area) refl none in All-cons Fits64 area xs here.0 (fit xs here.1)
-
-  pub fit_both : (xs ys : List Extent) → find (is_outside bytes) (xs ++ ys) ≡ None → All Fits64 xs × All Fits64 ys
-  fit_both [] ys none = (All-nil Fits64, fit ys none)
-  fit_both (area ∷ xs) ys none =
-      let here = fits_here area (find (is_outside bytes) (xs ++ ys)) (is_outside bytes area) refl none in
-      let rest = fit_both xs ys here.1 in
-      (All-cons Fits64 area xs here.0 rest.0, rest.1)
 
 found_added : (state : GroupState) → IsState state → (added : Added) → IsFoundOn state added → HeaderIsFound (label_of added)
 found_added state is added found =

@@ -39,10 +39,9 @@ use Rattle.vg_plans.specs.Vgcfgrestore.{backup_change, vgcfgrestore_change, vgcf
 use Rattle.lv_plans.specs.Allocating.{Takes}
 use Rattle.group_ops.proofs.NextVersions.{CommitsNext, append_nil, commits_next, extended_none}
 use Rattle.group_ops.specs.Planning.{IsPlanned, asks_of, change_of, refusal_of}
+use Rattle.change_batches.specs.Sound.{sizes_of, AreasLie, CanLabel, CanMake, CanTakeText, LabelLies, LiesOn}
 use Rattle.vg_change.proofs.SoundCommit.{commit_can_make, commit_lies_on}
 use Rattle.vg_change.proofs.SoundPvcreate.{pvcreate_can_make, pvcreate_lies_on}
-use Rattle.vg_change.specs.CarryingOut.{sizes_of}
-use Rattle.vg_change.specs.Sound.{AreasLie, CanLabel, CanMake, CanTakeText, LabelLies, LiesOn}
 
 -- the change can be made at this time, and lies on the disks
 abbrev IsSound : GroupState → Change → ℕ → Type 0

@@ -21,13 +21,12 @@ use Rattle.group_plan.specs.Judging.{area_row, lies_on, set_of, used_row}
 use Rattle.group_plan.specs.NewGroup.{change_with, extended, text_row}
 use Rattle.group_plan.specs.State.{IsState}
 use Rattle.group_plan.specs.declared.state.GroupState.{GroupState}
+use Rattle.change_batches.proofs.DiskSets.{of_disks}
+use Rattle.change_batches.proofs.HeldInDisks.{areas_lie, sizes_below}
+use Rattle.change_batches.specs.Building.{LiesIn}
+use Rattle.change_batches.specs.Sound.{sizes_of, CanMake, CanTakeText, LiesOn}
 use Rattle.vg_change.proofs.AddedLabels.{added_there, all_stand, can_label, labels_differ, labels_lie}
-use Rattle.vg_change.proofs.DiskSets.{of_disks}
-use Rattle.vg_change.proofs.HeldInDisks.{areas_lie, sizes_below}
 use Rattle.vg_change.proofs.TextRoom.{some_area, text_has_room}
-use Rattle.vg_change.specs.Building.{LiesIn}
-use Rattle.vg_change.specs.CarryingOut.{sizes_of}
-use Rattle.vg_change.specs.Sound.{CanMake, CanTakeText, LiesOn}
 
 -- ---- the areas on some of the disks
 

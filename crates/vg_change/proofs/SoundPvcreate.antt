@@ -19,9 +19,8 @@ use Rattle.group_plan.specs.declared.state.GroupState.{GroupState}
 use Rattle.group_plan.specs.declared.state.NewLabel.{NewLabel}
 use Rattle.group_plan.proofs.Rows.{none_holds, test_fails}
 use Rattle.pv_plans.specs.Pvcreate.{disk_rows, few_row, fewest_sectors, label_in, label_sector, new_areas, new_label, pvcreate_change, pvcreate_rows}
-use Rattle.vg_change.proofs.HeldInDisks.{HasSize, has_size}
-use Rattle.vg_change.specs.CarryingOut.{sizes_of}
-use Rattle.vg_change.specs.Sound.{AreasLie, CanLabel, CanMake, IsOnDisk, LabelLies, LiesOn, header_sector}
+use Rattle.change_batches.proofs.HeldInDisks.{HasSize, has_size}
+use Rattle.change_batches.specs.Sound.{sizes_of, AreasLie, CanLabel, CanMake, IsOnDisk, LabelLies, LiesOn, header_sector}
 
 -- ---- its label is one at most
 

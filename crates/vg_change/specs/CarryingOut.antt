@@ -1,5 +1,5 @@
 -- What is promised of a line that is carried out.
-use Rattle.std.specs.Prelude.{◌≡◌, ◌≤◌, ◌<◌, ◌⊎◌, ℕ, Bool, true, false, is_some, List, length, map, take, All, None, Some, Result, Ok, Err, MatchResult}
+use Rattle.std.specs.Prelude.{◌≡◌, ◌≤◌, ◌<◌, ◌⊎◌, ℕ, Bool, true, false, is_some, List, length, take, All, None, Some, Result, Ok, Err, MatchResult}
 use Rattle.lvm_script.specs.declared.line.Line.{Line}
 use Rattle.disk_model.specs.Faults.{HasSameFaults}
 use Rattle.disk_model.specs.Since.{BetweenTold}
@@ -8,21 +8,17 @@ use Rattle.disk_model.specs.Steps.{Image, Told}
 use Rattle.meta_model.specs.declared.group.Group.{Group}
 use Rattle.extent_alloc.specs.declared.part.Part.{Part}
 use Rattle.disk_batch.specs.InTurn.{HasFirstBatches, Put, WritesInTurn, with_batches}
-use Rattle.vg_found.specs.declared.disk.Disk.{Disk}
 use Rattle.vg_commit.specs.SectorReading.{ShowsBy, old_reading}
 use Rattle.group_plan.specs.declared.refusal.PlanRefusal.{PlanRefusal}
 use Rattle.group_plan.specs.declared.refusal.PlanRefusal.TheVariants as plan
 use Rattle.group_plan.specs.declared.state.GroupState.{GroupState}
 use Rattle.lv_plans.specs.Allocating.{Takes}
 use Rattle.group_ops.specs.Planning.{asks_of, change_of, refusal_of}
+use Rattle.change_batches.specs.Laws.{ClearsImages, ShowsEntries, text_in}
 use Rattle.vg_change.specs.declared.fault.ChangeFault.{ChangeFault}
 use Rattle.vg_change.specs.declared.fault.ChangeFault.TheVariants.{NoMemory, Refused, Failed, Uncleared}
-use Rattle.vg_change.specs.Batches.{batches_of, clears_of, zeros_of}
-use Rattle.vg_change.specs.Laws.{AreasAreKept, ClearsImages, IsFoundAfter, ShowsEntries, text_in}
-
--- how many sectors these disks have
-abbrev pub sizes_of : List Disk → List ℕ
-sizes_of disks = map (λ (disk : Disk). disk.sectors) disks
+use Rattle.vg_change.specs.LineBatches.{batches_of, clears_of, zeros_of}
+use Rattle.vg_change.specs.LineLaws.{AreasAreKept, IsFoundAfter}
 
 -- a refusal of the plan, as it is answered
 abbrev pub fault_of : PlanRefusal → ChangeFault

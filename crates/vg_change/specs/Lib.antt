@@ -1,6 +1,3 @@
-pub mod Batches
-pub mod Sound
-pub mod Building
 pub mod CarryingOut
-pub mod Laws
-pub mod Flushing
+pub mod LineBatches
+pub mod LineLaws

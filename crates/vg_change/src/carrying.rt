@@ -7,12 +7,11 @@ ghost use Rattle.disk_batch.specs.Batches.{writes_of};
 ghost use Rattle.disk_batch.specs.InTurn.{CanRun, WritesInTurn, ops_of, sectors_of};
 ghost use Rattle.group_plan.specs.State.{IsState};
 ghost use Rattle.group_ops.specs.Planning.{IsBackupOf, IsPlanned};
-ghost use Rattle.vg_change.specs.CarryingOut.{IsCarried, IsMade, IsUnclearedBy, WritesBoth, clear_fault, made_at, sizes_of};
+ghost use Rattle.change_batches.specs.Sound.{sizes_of};
+ghost use Rattle.vg_change.specs.CarryingOut.{IsCarried, IsMade, IsUnclearedBy, WritesBoth, clear_fault, made_at};
 
 use crate::ChangeFault;
-use crate::batches::batches_of;
-use crate::clears::clears_of;
-use crate::zeros::zeros_of;
+use change_batches::{batches_of, clears_of, zeros_of};
 use disk_batch::{Batch, reserve_lists, write_in_turn};
 use disk_model::Shelf;
 use group_ops::plan;

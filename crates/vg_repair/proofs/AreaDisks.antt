@@ -10,8 +10,8 @@ use Rattle.disk_batch.specs.Writes.{disks_in}
 use Rattle.vg_commit.proofs.Disks.{each_in}
 use Rattle.vg_commit.specs.Preparing.{area_disks, with_disks}
 use Rattle.group_plan.specs.Judging.{with_all}
-use Rattle.vg_change.proofs.DiskSets.{of_disks}
-use Rattle.vg_change.specs.Building.{LiesIn}
+use Rattle.change_batches.proofs.DiskSets.{of_disks}
+use Rattle.change_batches.specs.Building.{LiesIn}
 
 -- each area's is one of them
 pub disks_hold : (areas : List (Area × Option Locn)) → All (λ (a : Area × Option Locn). contains (area_disks areas) a.0.pv ≡ true) areas

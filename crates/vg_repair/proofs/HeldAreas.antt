@@ -6,10 +6,10 @@ use Rattle.mda_ring.specs.Areas.{CanTake, LieApart}
 use Rattle.mda_ring.specs.declared.area.Area.{Area}
 use Rattle.vg_found.specs.Shape.{HasShape}
 use Rattle.vg_found.specs.declared.found.Found.{Found}
-use Rattle.vg_change.specs.Building.{AreHeld, AreScanned, LiesIn}
-use Rattle.vg_change.specs.CarryingOut.{sizes_of}
-use Rattle.vg_change.proofs.ClearedAreas.{each_far as areas_far, each_few, each_lies}
-use Rattle.vg_change.proofs.FarAreas.{IsFar}
+use Rattle.change_batches.specs.Building.{AreHeld, AreScanned, LiesIn}
+use Rattle.change_batches.specs.Sound.{sizes_of}
+use Rattle.change_batches.proofs.ClearedAreas.{each_far as areas_far, each_few, each_lies}
+use Rattle.change_batches.proofs.FarAreas.{IsFar}
 use Rattle.vg_repair.specs.Stale.{stale_areas}
 use Rattle.vg_repair.proofs.Sublists.{AreSomeOf, some_all, some_pairs, stale_some}
 

@@ -20,11 +20,11 @@ use Rattle.vg_commit.specs.Showing.{Names, sectors_of}
 use Rattle.vg_commit.specs.Written.{area_span, header_span}
 use Rattle.group_plan.specs.Judging.{lies_on}
 use Rattle.group_plan.specs.declared.state.NewLabel.{NewLabel}
-use Rattle.vg_change.specs.Batches.{clear_batches}
-use Rattle.vg_change.specs.Sound.{FitsFields}
-use Rattle.vg_change.specs.Laws.{AreCleared, ClearsKeep, HasLabel, IsEmpty, IsKeptOrEmpty, IsKeptOrNew, IsUncleared, LabelsKept, ShowsEntries}
-use Rattle.vg_change.proofs.FarAreas.{IsFar}
-use Rattle.vg_change.proofs.ClearedImages.{all_keep, are_cleared, is_kept as clears_kept}
+use Rattle.change_batches.specs.Batches.{clear_batches}
+use Rattle.change_batches.specs.Sound.{FitsFields}
+use Rattle.change_batches.specs.Laws.{AreCleared, ClearsKeep, HasLabel, IsEmpty, IsKeptOrEmpty, IsKeptOrNew, IsUncleared, LabelsKept, ShowsEntries}
+use Rattle.change_batches.proofs.FarAreas.{IsFar}
+use Rattle.change_batches.proofs.ClearedImages.{all_keep, are_cleared, is_kept as clears_kept}
 use Rattle.vg_repair.specs.Batches.{repair_batches, stray_areas, stray_labels, text_batches}
 use Rattle.vg_repair.specs.Building.{IsMade}
 use Rattle.vg_repair.specs.Laws.{IsKept, IsOther, IsRight, KeepsImages, StraysAreOthers}

@@ -4,23 +4,23 @@ use Rattle.std.specs.Prelude.{All}
 use Rattle.std.proofs.lemmas.List.Elements.{All-nil}
 use Rattle.sector_base.specs.Spans.{covers}
 use Rattle.disk_model.specs.Steps.{Image}
-use Rattle.disk_batch.specs.InTurn.{HasFirstBatches, with_batches}
-use Rattle.disk_batch.proofs.FrontBatches.{KeepsSector}
 use Rattle.mda_header.specs.declared.header.Locn.{Locn}
 use Rattle.mda_ring.specs.declared.area.Area.{Area}
+use Rattle.disk_batch.specs.InTurn.{HasFirstBatches, with_batches}
+use Rattle.disk_batch.proofs.FrontBatches.{KeepsSector}
 use Rattle.vg_commit.specs.Plans.{HeadersRead}
 use Rattle.vg_commit.specs.Preparing.{area_disks}
 use Rattle.vg_commit.specs.SectorReading.{AllShow, AreSized, EachShows, new_reading, old_reading}
 use Rattle.vg_commit.specs.Written.{area_span}
 use Rattle.vg_commit.proofs.AreaPuts.{entry_inside, is_placed}
 use Rattle.vg_commit.proofs.CommitImages.{commit_keeps, commit_shows, commit_shown}
-use Rattle.vg_change.specs.Laws.{ShowsEntries, text_in}
-use Rattle.vg_change.proofs.BaseShows.{base_shows, base_sized, shows_alike}
+use Rattle.change_batches.specs.Laws.{ShowsEntries, text_in}
+use Rattle.change_batches.proofs.BaseShows.{base_shows, base_sized, shows_alike}
+use Rattle.change_batches.specs.Building.{AreHeld}
 use Rattle.vg_repair.specs.Batches.{text_batches}
 use Rattle.vg_repair.specs.Stale.{too_large_among}
 use Rattle.vg_repair.proofs.RepairedShape.{rooms}
 use Rattle.vg_repair.proofs.TextBatches.{all_fit, held_committed}
-use Rattle.vg_change.specs.Building.{AreHeld}
 
 -- each area is outside of the sector
 abbrev pub AreOutside : ℕ → ℕ → List (Area × Option Locn) → Type 0

@@ -19,7 +19,7 @@ use Rattle.group_plan.specs.Added.{pv_in}
 use Rattle.group_plan.specs.Judging.{lies_on}
 use Rattle.group_plan.specs.declared.state.NewLabel.{NewLabel}
 use Rattle.group_plan.specs.Cleared.{unused, unused_label, unused_labels}
-use Rattle.vg_change.specs.Batches.{batch_if, clear_batches, clear_put, label_put}
+use Rattle.change_batches.specs.Batches.{batch_if, clear_batches, clear_put, label_put}
 use Rattle.vg_repair.specs.Batches.{repair_batches, stray_areas, stray_labels, text_batches}
 use Rattle.vg_repair.specs.Laws.{LeavesAll}
 use Rattle.vg_repair.specs.Repaired.{repaired_area, repaired_areas, repaired_contents, repaired_disk, repaired_disks, repaired_held, repaired_of, with_entry}

@@ -1,15 +1,15 @@
 -- All batches of a repair.
 use Rattle.std.proofs.Common.{◌≡◌, ℕ, List, [], ◌++◌, Option, ap, subst, ◌∙◌}
 use Rattle.std.proofs.lemmas.List.Elements.{All-nil}
-use Rattle.disk_batch.specs.InTurn.{CanRun, Put}
-use Rattle.disk_batch.specs.declared.batch.Batch.{Batch}
 use Rattle.mda_header.specs.declared.header.Locn.{Locn}
 use Rattle.mda_ring.specs.declared.area.Area.{Area}
+use Rattle.disk_batch.specs.InTurn.{CanRun, Put}
+use Rattle.disk_batch.specs.declared.batch.Batch.{Batch}
 use Rattle.vg_found.specs.Shape.{HasShape}
 use Rattle.vg_found.specs.declared.found.Found.{Found}
-use Rattle.vg_change.specs.Batches.{clear_batches}
-use Rattle.vg_change.specs.Building.{AreClearsAdded}
-use Rattle.vg_change.specs.CarryingOut.{sizes_of}
+use Rattle.change_batches.specs.Batches.{clear_batches}
+use Rattle.change_batches.specs.Building.{AreClearsAdded}
+use Rattle.change_batches.specs.Sound.{sizes_of}
 use Rattle.vg_repair.specs.Building.{IsMade, IsTextAdded}
 use Rattle.vg_repair.specs.Stale.{stale_areas, text_of}
 use Rattle.vg_repair.proofs.HeldAreas.{stale_lie}

@@ -27,9 +27,9 @@ use Rattle.vg_commit.specs.SectorReading.{ShowsBy, new_reading}
 use Rattle.vg_commit.specs.Showing.{Names, sectors_of}
 use Rattle.vg_commit.specs.Written.{area_span, header_span, new_entry}
 use Rattle.group_plan.specs.Judging.{lies_on}
-use Rattle.vg_change.specs.Laws.{IsEmpty, ShowsEntries}
-use Rattle.vg_change.proofs.FarAreas.{IsFar}
-use Rattle.vg_change.proofs.Filtered.{each_of_filtered}
+use Rattle.change_batches.specs.Laws.{IsEmpty, ShowsEntries}
+use Rattle.change_batches.proofs.FarAreas.{IsFar}
+use Rattle.change_batches.proofs.Filtered.{each_of_filtered}
 use Rattle.vg_repair.specs.Batches.{repair_batches, stray_areas}
 use Rattle.vg_repair.specs.Laws.{IsRight, KeepsImages}
 use Rattle.vg_repair.specs.Repaired.{repaired_area, repaired_contents, repaired_disk, repaired_held, repaired_of, with_entry}

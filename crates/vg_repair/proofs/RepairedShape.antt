@@ -39,10 +39,10 @@ use Rattle.vg_commit.proofs.AreaPuts.{entry_inside, is_placed}
 use Rattle.group_plan.specs.Added.{pv_in}
 use Rattle.group_plan.specs.declared.state.NewLabel.{NewLabel}
 use Rattle.group_plan.specs.Cleared.{unused, unused_label}
-use Rattle.vg_change.specs.Batches.{label_bytes}
-use Rattle.vg_change.specs.Sound.{FitsFields}
-use Rattle.vg_change.proofs.LabelsRead.{header_found}
-use Rattle.vg_change.proofs.UnusedLabels.{IsLabelOf}
+use Rattle.change_batches.specs.Batches.{label_bytes}
+use Rattle.change_batches.specs.Sound.{FitsFields}
+use Rattle.change_batches.proofs.LabelsRead.{header_found}
+use Rattle.change_batches.proofs.UnusedLabels.{IsLabelOf}
 use Rattle.vg_repair.specs.Batches.{stray_labels}
 use Rattle.vg_repair.specs.Repaired.{repaired_area, repaired_areas, repaired_contents, repaired_disk, repaired_disks, repaired_held, repaired_of, with_entry}
 use Rattle.vg_repair.specs.Stale.{is_among, stale_areas, stale_in, stale_on, text_of, too_large, too_large_among}

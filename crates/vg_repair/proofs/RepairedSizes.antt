@@ -1,8 +1,8 @@
 -- A repair leaves the disks as many and as large as they are.
 use Rattle.std.proofs.Common.{◌≡◌, length, refl}
-use Rattle.vg_change.specs.CarryingOut.{sizes_of}
 use Rattle.vg_found.specs.declared.disk.Disk.{Disk}
 use Rattle.vg_found.specs.declared.found.Found.{Found}
+use Rattle.change_batches.specs.Sound.{sizes_of}
 use Rattle.vg_repair.specs.Repaired.{repaired_disk, repaired_of}
 use Rattle.vg_repair.specs.Stale.{text_of}
 use Rattle.vg_repair.proofs.Numbered.{mapped_length, mapped_same}

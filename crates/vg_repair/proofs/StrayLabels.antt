@@ -6,9 +6,8 @@ use Rattle.vg_found.specs.declared.disk.Disk.{Disk}
 use Rattle.vg_found.specs.declared.found.Found.{Found}
 use Rattle.group_plan.specs.Cleared.{unused_label}
 use Rattle.group_plan.specs.declared.state.NewLabel.{NewLabel}
-use Rattle.vg_change.specs.CarryingOut.{sizes_of}
-use Rattle.vg_change.specs.Sound.{CanLabel}
-use Rattle.vg_change.proofs.UnusedLabels.{IsLabelOf, label_is as unused_is, labels_can as unused_can, labels_differ as unused_differ}
+use Rattle.change_batches.specs.Sound.{sizes_of, CanLabel}
+use Rattle.change_batches.proofs.UnusedLabels.{IsLabelOf, label_is as unused_is, labels_can as unused_can, labels_differ as unused_differ}
 use Rattle.vg_repair.specs.Batches.{stray_labels}
 use Rattle.vg_repair.proofs.HeldAreas.{are_scanned}
 

@@ -3,23 +3,23 @@ use Rattle.std.proofs.Common.{◌≡◌, ◌<◌, ℕ, ◌+◌, Bool, true, fals
 use Rattle.std.specs.Prelude.{All}
 use Rattle.std.proofs.lemmas.List.{append-nil, append_assoc, map-append}
 use Rattle.std.proofs.lemmas.List.Elements.{All-append, All-cons, All-nil}
-use Rattle.disk_batch.specs.Batches.{writes_of}
-use Rattle.disk_batch.specs.InTurn.{CanRun, Put}
-use Rattle.disk_batch.specs.declared.batch.Batch.{Batch}
 use Rattle.mda_header.specs.declared.header.Locn.{Locn}
 use Rattle.mda_ring.specs.Ring.{need, room}
 use Rattle.mda_ring.specs.declared.area.Area.{Area}
+use Rattle.disk_batch.specs.Batches.{writes_of}
+use Rattle.disk_batch.specs.InTurn.{CanRun, Put}
+use Rattle.disk_batch.specs.declared.batch.Batch.{Batch}
 use Rattle.vg_commit.specs.Plans.{HeadersRead}
 use Rattle.vg_commit.specs.Preparing.{AreCommitted, AreWithin, IsPrepared, area_disks}
 use Rattle.vg_commit.specs.TooLarge.{first_too_large}
 use Rattle.vg_commit.specs.Written.{area_writes, headers_of, publish_of, texts_of}
 use Rattle.vg_commit.specs.declared.prepared.Prepared.{Prepared}
 use Rattle.vg_commit.proofs.CommitCanRun.{headers_can_run, publish_can_run, texts_can_run}
+use Rattle.change_batches.specs.Building.{AreHeld, LiesIn}
 use Rattle.vg_repair.specs.Batches.{text_batches}
 use Rattle.vg_repair.specs.Building.{IsTextAdded}
 use Rattle.vg_repair.specs.Stale.{too_large_among}
 use Rattle.vg_repair.proofs.AreaDisks.{disks_hold, disks_within}
-use Rattle.vg_change.specs.Building.{AreHeld, LiesIn}
 
 -- ---- room
 

@@ -7,7 +7,7 @@ use Rattle.vg_found.specs.declared.found.Found.{Found}
 use Rattle.vg_commit.specs.Written.{area_writes, headers_of, publish_of, texts_of}
 use Rattle.group_plan.specs.Cleared.{cleared_areas, unused_labels}
 use Rattle.group_plan.specs.declared.state.NewLabel.{NewLabel}
-use Rattle.vg_change.specs.Batches.{clear_batches}
+use Rattle.change_batches.specs.Batches.{clear_batches}
 use Rattle.vg_repair.specs.Stale.{stale_areas, text_of}
 
 -- ---- stale areas

@@ -1,15 +1,14 @@
 -- The batches of a repair while they are put together.
 use Rattle.std.specs.Prelude.{◌≡◌, ◌++◌, ℕ, List, map, All, Option, None}
+use Rattle.mda_header.specs.declared.header.Locn.{Locn}
+use Rattle.mda_ring.specs.declared.area.Area.{Area}
 use Rattle.disk_batch.specs.Batches.{writes_of}
 use Rattle.disk_batch.specs.InTurn.{CanRun}
 use Rattle.disk_batch.specs.declared.batch.Batch.{Batch}
-use Rattle.mda_header.specs.declared.header.Locn.{Locn}
-use Rattle.mda_ring.specs.declared.area.Area.{Area}
-use Rattle.vg_change.specs.Building.{LiesIn}
-use Rattle.vg_change.specs.CarryingOut.{sizes_of}
-use Rattle.vg_change.specs.Sound.{FitsFields}
-use Rattle.vg_commit.specs.Plans.{HeadersRead}
 use Rattle.vg_found.specs.declared.found.Found.{Found}
+use Rattle.vg_commit.specs.Plans.{HeadersRead}
+use Rattle.change_batches.specs.Building.{LiesIn}
+use Rattle.change_batches.specs.Sound.{sizes_of, FitsFields}
 use Rattle.vg_repair.specs.Batches.{repair_batches, stray_labels, text_batches}
 use Rattle.vg_repair.specs.Stale.{stale_areas, text_of, too_large, too_large_among}
 

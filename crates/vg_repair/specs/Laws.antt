@@ -11,7 +11,7 @@ use Rattle.vg_found.specs.declared.found.Found.{Found}
 use Rattle.vg_commit.specs.SectorReading.{AllShow, new_reading}
 use Rattle.vg_commit.specs.Written.{area_span, header_span}
 use Rattle.group_plan.specs.declared.state.NewLabel.{NewLabel}
-use Rattle.vg_change.specs.Laws.{HasLabel, IsEmpty, IsKeptOrEmpty, IsKeptOrNew, LabelsKept, ShowsEntries}
+use Rattle.change_batches.specs.Laws.{HasLabel, IsEmpty, IsKeptOrEmpty, IsKeptOrNew, LabelsKept, ShowsEntries}
 use Rattle.vg_repair.specs.Batches.{repair_batches, stray_areas, stray_labels}
 use Rattle.vg_repair.specs.Repaired.{repaired_of}
 use Rattle.vg_repair.specs.Stale.{stale_areas, text_of}

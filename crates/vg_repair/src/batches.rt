@@ -1,18 +1,18 @@
 //! The batches of a repair.
 ghost use Rattle.std.specs.Prelude.{◌≡◌, ◌<◌, All, MatchResult, unwrap_or};
-ghost use Rattle.vg_commit.specs.Preparing.{area_disks};
 ghost use Rattle.vg_found.specs.Shape.{HasShape};
-ghost use Rattle.vg_change.specs.Building.{AreHeld};
+ghost use Rattle.vg_commit.specs.Preparing.{area_disks};
+ghost use Rattle.change_batches.specs.Building.{AreHeld};
 ghost use Rattle.vg_repair.specs.Building.{IsMade, IsTextAdded};
 ghost use Rattle.vg_repair.specs.Stale.{IsCause, stale_areas, text_of};
 
 use crate::RepairFault;
 use crate::areas::{have_room, stale_areas};
+use change_batches::{prepared, push_clears};
 use disk_batch::Batch;
 use mda_ring::Areas;
 use sector_base::{PvSet, Text};
 use std::alloc::Global;
-use vg_change::{prepared, push_clears};
 use vg_found::Found;
 
 // The batches of the repair of what was found. The error is `TooLarge` exactly where a stale area can't take the text; else

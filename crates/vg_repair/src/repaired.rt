@@ -4,12 +4,12 @@ ghost use Rattle.sector_base.specs.Checksum.{checksum, lvm_crc_start};
 ghost use Rattle.mda_ring.specs.Areas.{CanTake, IsArea};
 ghost use Rattle.mda_ring.specs.Ring.{need, room};
 ghost use Rattle.disk_contents.specs.Standing.{CanStand, HasTextInside, IsUsable, area_on, areas_in};
-ghost use Rattle.vg_change.specs.Sound.{FitsFields};
-ghost use Rattle.vg_commit.specs.Written.{new_entry, stored};
 ghost use Rattle.vg_found.specs.Disks.{areas_on};
 ghost use Rattle.vg_found.specs.declared.disk.Disk.{Disk as DiskOf};
 ghost use Rattle.vg_found.specs.Shape.{ContentsCanStand, HasShape, IsDisk};
 ghost use Rattle.vg_found.specs.Whole.{IsWhole};
+ghost use Rattle.vg_commit.specs.Written.{new_entry, stored};
+ghost use Rattle.change_batches.specs.Sound.{FitsFields};
 ghost use Rattle.vg_repair.specs.Batches.{stray_labels};
 ghost use Rattle.vg_repair.specs.Putting.{AreaHasRoom, HasRoom, IsSummed, text_put};
 ghost use Rattle.vg_repair.specs.Repaired.{repaired_area, repaired_areas, repaired_contents, repaired_disk, repaired_disks, repaired_of, with_entry};
@@ -17,12 +17,12 @@ ghost use Rattle.vg_repair.specs.Stale.{too_large};
 
 use crate::areas::held_area;
 use crate::stale_set::StaleSet;
+use change_batches::unused;
 use disk_contents::{AreaFound, AreasFound, PvFound};
 use mda_header::{Entry, Locn, MdaHeader};
 use mda_ring::{Area, plan_next};
 use sector_base::{ItemList, LVM_CRC_START, PvSet, Text, crc};
 use std::alloc::{AllocError, Global};
-use vg_change::unused;
 use vg_found::{Disk, DiskTable, Found, Whole, held_areas};
 
 // What is put right: the stale areas, which get the text that was found, and the strays. The checksum is that of the text

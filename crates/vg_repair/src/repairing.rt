@@ -2,8 +2,8 @@
 ghost use Rattle.std.specs.Prelude.{◌≡◌, [], MatchResult};
 ghost use Rattle.disk_model.specs.Idle.{IsIdleAgain};
 ghost use Rattle.disk_model.specs.Since.{BetweenTold};
-ghost use Rattle.vg_change.specs.CarryingOut.{sizes_of};
 ghost use Rattle.vg_found.specs.Shape.{HasShape};
+ghost use Rattle.change_batches.specs.Sound.{sizes_of};
 ghost use Rattle.vg_repair.specs.Batches.{repair_batches};
 ghost use Rattle.vg_repair.specs.Building.{IsMade};
 ghost use Rattle.vg_repair.specs.Laws.{KeepsImages, StraysAreOthers};

@@ -6,8 +6,9 @@ use Rattle.group_plan.specs.declared.state.GroupState.{GroupState}
 use Rattle.group_ops.specs.Laws.{state_in}
 use Rattle.group_ops.specs.Planning.{IsBackupOf}
 use Rattle.group_ops.proofs.WholeState.{whole_is_state}
+use Rattle.change_batches.specs.Sound.{sizes_of}
 use Rattle.vg_change.proofs.Carried.{wanting}
-use Rattle.vg_change.specs.CarryingOut.{IsCarried, sizes_of}
+use Rattle.vg_change.specs.CarryingOut.{IsCarried}
 use Rattle.vg_change.specs.declared.fault.ChangeFault.TheVariants as fault
 use Rattle.lvm_run.specs.declared.outcome.Outcome.{Outcome}
 use Rattle.lvm_run.proofs.changing.change_found.Goals as goal

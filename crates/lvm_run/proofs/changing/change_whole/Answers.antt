@@ -3,8 +3,8 @@ use Rattle.std.specs.Prelude.{Ok, Err}
 use Rattle.vg_found.specs.Shape.{HasShape}
 use Rattle.vg_found.specs.Whole.{IsWhole}
 use Rattle.vg_found.specs.declared.found.Found.{Found}
+use Rattle.change_batches.specs.Sound.{sizes_of}
 use Rattle.vg_repair.proofs.RepairedSizes.{repaired_count, repaired_sizes}
-use Rattle.vg_change.specs.CarryingOut.{sizes_of}
 use Rattle.lvm_run.specs.Changing.{IsCarriedOut}
 use Rattle.lvm_run.specs.declared.ending.Ending.{Ending}
 use Rattle.lvm_run.specs.declared.outcome.Outcome.TheVariants.{Ended}

@@ -2,13 +2,13 @@
 use Rattle.std.proofs.Common.{ℕ, List, map, refl, sym, ap, subst, ◌∙◌}
 use Rattle.std.proofs.lemmas.Result.{err_from_is_err_and}
 use Rattle.std.specs.Prelude.{All}
+use Rattle.disk_model.specs.State.{State}
 use Rattle.disk_batch.specs.Batches.{writes_of}
 use Rattle.disk_batch.specs.InTurn.{CanRun}
-use Rattle.disk_model.specs.State.{State}
+use Rattle.change_batches.proofs.HeldInDisks.{sizes_kept}
+use Rattle.change_batches.proofs.ZeroBatch.{planned_few, planned_lie}
+use Rattle.change_batches.specs.Sound.{sizes_of}
 use Rattle.vg_change.proofs.Carried.{cleared, failed, lies, made, unplanned, wanting}
-use Rattle.vg_change.proofs.HeldInDisks.{sizes_kept}
-use Rattle.vg_change.proofs.ZeroBatch.{planned_few, planned_lie}
-use Rattle.vg_change.specs.CarryingOut.{sizes_of}
 use Rattle.vg_change.proofs.carrying.carry_out.Goals as goal
 
 pub zeros_of-requires : goal.zeros_of-requires

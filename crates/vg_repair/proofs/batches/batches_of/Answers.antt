@@ -3,7 +3,7 @@ use Rattle.std.proofs.Common.{◌≡◌, ℕ, List, Option, unwrap_or, sym, ap, 
 use Rattle.mda_header.specs.declared.header.Locn.{Locn}
 use Rattle.mda_ring.specs.declared.area.Area.{Area}
 use Rattle.vg_found.specs.declared.disk.Disk.{Disk}
-use Rattle.vg_change.specs.Building.{AreClearsAdded, AreHeld, AreScanned}
+use Rattle.change_batches.specs.Building.{AreClearsAdded, AreHeld, AreScanned}
 use Rattle.vg_repair.specs.Stale.{stale_areas, stale_by, text_of}
 use Rattle.vg_repair.proofs.HeldAreas.{are_scanned, stale_held}
 use Rattle.vg_repair.proofs.RepairBatches.{all_made, text_added}

@@ -2,8 +2,8 @@
 use Rattle.std.proofs.Common.{ℕ, List, subst}
 use Rattle.std.specs.Prelude.{All}
 use Rattle.disk_batch.specs.InTurn.{CanRun}
-use Rattle.vg_change.specs.CarryingOut.{sizes_of}
-use Rattle.vg_change.proofs.HeldInDisks.{sizes_kept}
+use Rattle.change_batches.specs.Sound.{sizes_of}
+use Rattle.change_batches.proofs.HeldInDisks.{sizes_kept}
 use Rattle.vg_repair.proofs.KeptImages.{keeps_images}
 use Rattle.vg_repair.proofs.repairing.repair.Goals as goal
 

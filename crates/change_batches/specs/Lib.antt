@@ -1,0 +1,4 @@
+pub mod Batches
+pub mod Building
+pub mod Laws
+pub mod Sound

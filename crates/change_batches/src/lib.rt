@@ -1,0 +1,17 @@
+//! The batches of writes that make a change, and those that clear disks.
+//!
+//! What a change writes is a list of batches, each lasting before the next begins: the zeros of a new volume; the empty headers of
+//! a new physical volume's areas; label sectors; the three of a commit; and those that clear the disks which the group lets go.
+//! `specs/Batches` has them, `specs/Building` how they are put together, `specs/Sound` for which changes they can be made, and
+//! `specs/Laws` what images keep on the way, and have afterwards.
+#![tactic(auto)]
+
+mod batches;
+mod clears;
+mod label_sector;
+mod zeros;
+
+pub use batches::{batches_of, label_writes, prepared, push_batch};
+pub use clears::{clears_of, push_clears, unused};
+pub use label_sector::area_write;
+pub use zeros::zeros_of;

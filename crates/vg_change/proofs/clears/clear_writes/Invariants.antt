@@ -1,8 +1,0 @@
-use Rattle.std.proofs.Common.{◌≡◌, ◌++◌, drop, map}
-use Rattle.std.specs.Prelude.{filter}
-use Rattle.group_plan.specs.Judging.{lies_on}
-use Rattle.vg_change.specs.Batches.{clear_put}
-use Rattle.vg_change.proofs.clears.clear_writes.Given as goal
-
-abbrev pub invariant-loop-area : goal.invariant-loop-area
-invariant-loop-area l = l.list.items ++ map clear_put (filter (lies_on l.cleared) (drop l.area-index l.areas)) ≡ map clear_put (filter (lies_on l.cleared) l.areas)

@@ -1,6 +1,0 @@
-use Rattle.std.proofs.Common.{◌≡◌, ◌++◌, drop, map}
-use Rattle.vg_change.specs.Batches.{zero_put}
-use Rattle.vg_change.proofs.zeros.zero_writes.Given as goal
-
-abbrev pub invariant-loop-span : goal.invariant-loop-span
-invariant-loop-span l = l.list.items ++ map zero_put (drop l.span-index l.spans) ≡ map zero_put l.spans
