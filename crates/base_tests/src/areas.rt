@@ -1,5 +1,5 @@
 //! Entries at the area's ends, each refusal, and what is written byte for byte.
-use mda_header::{Entry, Locn, MdaHeader, MdaRefusal, read_entry, read_mda, write_mda};
+use mda_header::{HeaderEntry, Locn, MdaHeader, MdaRefusal, read_entry, read_mda, write_mda};
 use sector_base::{Bytes512, LVM_CRC_START, crc, put_u32, put_u64};
 
 // A header of version 1 of the area of 4,096 bytes at byte 8,192, with these entries, and its checksum.
@@ -160,7 +160,7 @@ fn a_header_says_what_is_committed(rt: HostRuntime) {
     let outside = header((511, 1), (0, 0));
     let mut version = empty;
     put_u32(&mut version, 20, 2);
-    let text = Entry::Text(Locn {
+    let text = HeaderEntry::Text(Locn {
         offset: 512,
         size: 100,
         sum: 17,
@@ -171,22 +171,58 @@ fn a_header_says_what_is_committed(rt: HostRuntime) {
         offset: 511,
         size: 1,
     };
-    let unread = Entry::Refused(MdaRefusal::BadVersion(2));
+    let unread = HeaderEntry::Refused(MdaRefusal::BadVersion(2));
     // What is said, and what is said with the ignored bit.
     let rows = [
-        (empty, 8192, 4096, Entry::Nothing, Entry::Ignored),
-        (empty, 8191, 4096, Entry::Nothing, Entry::Ignored),
-        (empty, 8192, 4095, Entry::Nothing, Entry::Ignored),
-        (full, 8192, 4096, text, Entry::Ignored),
-        (full, 8191, 4096, Entry::Refused(start), Entry::Ignored),
-        (full, 8192, 4095, Entry::Refused(size), Entry::Ignored),
-        (outside, 8192, 4096, Entry::Refused(locn), Entry::Ignored),
+        (
+            empty,
+            8192,
+            4096,
+            HeaderEntry::Nothing,
+            HeaderEntry::Ignored,
+        ),
+        (
+            empty,
+            8191,
+            4096,
+            HeaderEntry::Nothing,
+            HeaderEntry::Ignored,
+        ),
+        (
+            empty,
+            8192,
+            4095,
+            HeaderEntry::Nothing,
+            HeaderEntry::Ignored,
+        ),
+        (full, 8192, 4096, text, HeaderEntry::Ignored),
+        (
+            full,
+            8191,
+            4096,
+            HeaderEntry::Refused(start),
+            HeaderEntry::Ignored,
+        ),
+        (
+            full,
+            8192,
+            4095,
+            HeaderEntry::Refused(size),
+            HeaderEntry::Ignored,
+        ),
+        (
+            outside,
+            8192,
+            4096,
+            HeaderEntry::Refused(locn),
+            HeaderEntry::Ignored,
+        ),
         (summed(version), 8192, 4096, unread, unread),
     ];
     for (sector, start, size, want, with_bit) in rows {
         assert_eq!(rt; read_entry(&sector, start, size), want);
         assert_eq!(rt; read_entry(&ignored(sector), start, size), with_bit);
     }
-    let blank = Entry::Refused(MdaRefusal::BadSum(0, SUM_OF_ZEROS));
+    let blank = HeaderEntry::Refused(MdaRefusal::BadSum(0, SUM_OF_ZEROS));
     assert_eq!(rt; read_entry(&Bytes512::zeroed(), 8192, 4096), blank);
 }

@@ -12,7 +12,7 @@ mod plan;
 mod sink;
 mod source;
 mod source_text;
-mod text_sink;
+mod text_buffer;
 mod writing;
 
 pub use failed::Failed;
@@ -21,5 +21,5 @@ pub use mem_source::MemSource;
 pub use sink::Sink;
 pub use source::Source;
 pub use source_text::{ReadFault, read_all};
-pub use text_sink::TextSink;
+pub use text_buffer::TextBuffer;
 pub use writing::{write_all, write_bytes, write_number};

@@ -6,8 +6,8 @@ use Rattle.std.proofs.lemmas.List.Elements.{All-append, All-cons, All-nil}
 use Rattle.std.proofs.lemmas.Option.{same_Some}
 use Rattle.pv_header.specs.declared.extent_list.Extent.{Extent}
 use Rattle.pv_header.specs.Areas.{is_misshapen}
-use Rattle.mda_header.specs.declared.entry.Entry.{Entry}
-use Rattle.mda_header.specs.declared.entry.Entry.TheVariants.{Ignored, Nothing, Text, Refused}
+use Rattle.mda_header.specs.declared.entry.HeaderEntry.{HeaderEntry}
+use Rattle.mda_header.specs.declared.entry.HeaderEntry.TheVariants.{Ignored, Nothing, Text, Refused}
 use Rattle.mda_header.specs.declared.header.Locn.{Locn}
 use Rattle.mda_ring.specs.declared.area.Area.{Area}
 use Rattle.disk_contents.specs.declared.contents.AreaFound.{AreaFound}
@@ -47,7 +47,7 @@ founds_far (found ∷ founds) none = step (λ later. founds_far founds later) (i
     step rest true is none' = cc
     step rest false is none' = All-cons IsFarFound found founds (shaped_far found.area is) (rest none')
 
-far_kept : (area : Area) (entry : Entry) (kept : Area × Option Locn) → 2048 ≤ area.start → held_by area entry ≡ Some kept → IsFar kept
+far_kept : (area : Area) (entry : HeaderEntry) (kept : Area × Option Locn) → 2048 ≤ area.start → held_by area entry ≡ Some kept → IsFar kept
 far_kept area Ignored kept far is = absurd cc
 far_kept area Nothing kept far is = subst IsFar (same_Some (area, None) kept is) far
 far_kept area (Text locn) kept far is = subst IsFar (same_Some (area, Some locn) kept is) far

@@ -6,8 +6,8 @@ use Rattle.std.proofs.lemmas.List.Elements.{All-nil, All-append, All-weaker}
 use Rattle.std.proofs.lemmas.Option.{get_or_from_slice_get, same_Some, slice_get-map, slice_get_within}
 use Rattle.disk_model.specs.Calls.{Reserves}
 use Rattle.disk_model.specs.State.{State}
-use Rattle.mda_header.specs.declared.entry.Entry.{Entry}
-use Rattle.mda_header.specs.declared.entry.Entry.TheVariants.{Ignored, Nothing, Text, Refused}
+use Rattle.mda_header.specs.declared.entry.HeaderEntry.{HeaderEntry}
+use Rattle.mda_header.specs.declared.entry.HeaderEntry.TheVariants.{Ignored, Nothing, Text, Refused}
 use Rattle.mda_header.specs.declared.header.Locn.{Locn}
 use Rattle.mda_ring.specs.declared.area.Area.{Area}
 use Rattle.disk_contents.specs.declared.contents.AreaFound.{AreaFound}
@@ -49,7 +49,7 @@ record EndsOn (pv sectors : ℕ) (area : Area) : Type 0 where
   same : area.pv ≡ pv
   within : area.start / 512 + area.size / 512 ≤ sectors
 
-kept_ends : (pv sectors : ℕ) (area : Area) (entry : Entry) (kept : Area × Option Locn) → held_by area entry ≡ Some kept → EndsOn pv sectors area → EndsOn pv sectors kept.0
+kept_ends : (pv sectors : ℕ) (area : Area) (entry : HeaderEntry) (kept : Area × Option Locn) → held_by area entry ≡ Some kept → EndsOn pv sectors area → EndsOn pv sectors kept.0
 kept_ends pv sectors area Ignored kept is ends = absurd cc
 kept_ends pv sectors area Nothing kept is ends = subst (λ (a : Area × Option Locn). EndsOn pv sectors a.0) (same_Some (area, None) kept is) ends
 kept_ends pv sectors area (Text locn) kept is ends = subst (λ (a : Area × Option Locn). EndsOn pv sectors a.0) (same_Some (area, Some locn) kept is) ends

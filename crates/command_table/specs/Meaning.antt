@@ -22,36 +22,36 @@ use Rattle.command_table.specs.declared.refusal.CommandRefusal.{CommandRefusal}
 use Rattle.command_table.specs.declared.refusal.CommandRefusal.TheVariants.{Faulty, WrongWords}
 use Rattle.command_table.specs.declared.line_fault.LineFault.{LineFault}
 use Rattle.command_table.specs.declared.line_fault.LineFault.TheVariants as fault
-use Rattle.command_table.specs.declared.given.Given.{Given as GivenPairs}
+use Rattle.command_table.specs.declared.given_options.GivenOptions.{GivenOptions}
 use Rattle.command_table.specs.Options.{Word, is_key}
 use Rattle.command_table.specs.Table.{command_named, is_for_words}
 use Rattle.command_table.specs.Values.{halves, has_plus, is_group_name, number_of, size_of, without_plus}
 use Rattle.command_table.specs.Words.{Read as ReadWords, Split, is_complete, numbered_from, read}
 
 -- the value of each option, the empty word for one that takes none
-abbrev pub Given : Type 0
-Given = OptionKey → Option Word
+abbrev pub OptionValues : Type 0
+OptionValues = OptionKey → Option Word
 
 -- the value of an option among pairs of an option and its value
-abbrev pub value_in : List (OptionKey × Word) → Given
+abbrev pub value_in : List (OptionKey × Word) → OptionValues
 value_in pairs key = option_map (λ pair. pair.1) (find (λ pair. is_key pair.0 key) pairs)
 
 -- what the code holds of them
-abbrev pub given_by : GivenPairs → Given
+abbrev pub given_by : GivenOptions → OptionValues
 given_by given = value_in (map (λ pair. (pair.0, pair.1.now)) given.pairs.now)
 
 -- ---- values
 
 -- the number that is the value of an option
-abbrev pub number : Given → OptionKey → Option ℕ
+abbrev pub number : OptionValues → OptionKey → Option ℕ
 number given key = option_and_then number_of (given key)
 
 -- the number that is its value, and where there is none this one
-abbrev pub number_or : Given → OptionKey → ℕ → ℕ
+abbrev pub number_or : OptionValues → OptionKey → ℕ → ℕ
 number_or given key default = unwrap_or (number given key) default
 
 -- the size that is its value, in sectors, where a number without a letter counts so many
-abbrev pub size : Given → OptionKey → ℕ → Option ℕ
+abbrev pub size : OptionValues → OptionKey → ℕ → Option ℕ
 size given key unit = option_and_then (size_of unit) (given key)
 
 -- the volume that a word VG/LV names
@@ -74,7 +74,7 @@ amount_with None (Some sectors) = Some (Sectors sectors)
 amount_with _ _ = None
 
 -- how large a volume is to be
-abbrev pub amount_of : Given → Option Amount
+abbrev pub amount_of : OptionValues → Option Amount
 amount_of given = amount_with (number given key.Extents) (size given key.Size 2048)
 
 -- so much, or so much more behind a `+`
@@ -88,18 +88,18 @@ growth_with None (Some word) = option_map (λ n. growth_by word (Sectors n)) (si
 growth_with _ _ = None
 
 -- what a volume grows to, by its options
-abbrev pub growth_of : Given → Option Growth
+abbrev pub growth_of : OptionValues → Option Growth
 growth_of given = growth_with (given key.Extents) (given key.Size)
 
 -- ---- commands
 
 -- one disk, with one copy of the metadata where no number is given
-abbrev pub pvcreate : Given → List Word → Option Command
+abbrev pub pvcreate : OptionValues → List Word → Option Command
 pvcreate given (pv ∷ []) = Some (Pvcreate pv (number_or given key.MetadataCopies 1))
 pvcreate given _ = None
 
 -- `--abort` alone, or nothing, or the disk to empty and then the disks to take its extents
-abbrev pub pvmove : Given → List Word → Option Command
+abbrev pub pvmove : OptionValues → List Word → Option Command
 pvmove given arguments = by (is_some (given key.Abort)) arguments
   where
     by : Bool → List Word → Option Command
@@ -109,22 +109,22 @@ pvmove given arguments = by (is_some (given key.Abort)) arguments
     by false (pv ∷ onto) = Some (Pvmove (From pv onto))
 
 -- a group's name and one or more disks, with extents of 4 MiB where no size is given
-abbrev pub vgcreate : Given → List Word → Option Command
+abbrev pub vgcreate : OptionValues → List Word → Option Command
 vgcreate given (vg ∷ pv ∷ pvs) = Some (Vgcreate vg (unwrap_or (size given key.PhysicalExtentSize 2048) 8192) (pv ∷ pvs))
 vgcreate given _ = None
 
 -- the options of lvcreate go together: `-m` excludes `-i`, and `-I` needs an `-i` above 1
-abbrev pub goes_together : Given → Bool
+abbrev pub goes_together : OptionValues → Bool
 goes_together given =
     not (is_some (given key.Mirrors) && is_some (given key.Stripes))
     && (not (is_some (given key.StripeSize)) || nat_lt 1 (number_or given key.Stripes 1))
 
 -- the policy is `contiguous`
-abbrev is_contiguous : Given → Bool
+abbrev is_contiguous : OptionValues → Bool
 is_contiguous given = option_map_or (bytes_eq (codes "contiguous")) (given key.Alloc) false
 
 -- a new volume of this name and size: pieces of 64 KiB where no stripe size is given
-abbrev pub new_volume : Given → Option Word → Option Amount → Word → List Word → Option Command
+abbrev pub new_volume : OptionValues → Option Word → Option Amount → Word → List Word → Option Command
 new_volume given (Some lv) (Some amount) vg pvs = Some (Lvcreate (record {
   vg = vg;
   lv = lv;
@@ -138,7 +138,7 @@ new_volume given (Some lv) (Some amount) vg pvs = Some (Lvcreate (record {
 new_volume given _ _ vg pvs = None
 
 -- `-n NAME` and one of `-l` and `-L`, a group, and the disks to take extents of
-abbrev pub lvcreate : Given → List Word → Option Command
+abbrev pub lvcreate : OptionValues → List Word → Option Command
 lvcreate given [] = None
 lvcreate given (vg ∷ pvs) = if goes_together given then new_volume given (given key.Name) (amount_of given) vg pvs else None
 
@@ -148,7 +148,7 @@ longer pvs (Some growth) (Some path) = Some (Lvextend path growth pvs)
 longer pvs _ _ = None
 
 -- one of `-l` and `-L`, a volume, and the disks to take extents of
-abbrev pub lvextend : Given → List Word → Option Command
+abbrev pub lvextend : OptionValues → List Word → Option Command
 lvextend given [] = None
 lvextend given (path ∷ pvs) = longer pvs (growth_of given) (path_in path)
 
@@ -158,7 +158,7 @@ shorter (Some amount) (Some path) = Some (Lvreduce path amount)
 shorter _ _ = None
 
 -- one of `-l` and `-L`, and a volume
-abbrev pub lvreduce : Given → List Word → Option Command
+abbrev pub lvreduce : OptionValues → List Word → Option Command
 lvreduce given arguments = shorter (amount_of given) (one_path arguments)
 
 -- a group's new name
@@ -211,7 +211,7 @@ write_words (path ∷ start ∷ hex ∷ []) = from_sector (path_in path) (number
 write_words _ = None
 
 -- the command of this name, by its options and arguments; session and demo are none
-abbrev pub command_by_name : CommandName → Given → List Word → Option Command
+abbrev pub command_by_name : CommandName → OptionValues → List Word → Option Command
 command_by_name name.Pvcreate given arguments = pvcreate given arguments
 command_by_name name.Pvmove given arguments = pvmove given arguments
 command_by_name name.Pvck given arguments = option_map Pvck (one_word arguments)
@@ -247,7 +247,7 @@ abbrev pub narrow : ℕ → Option ℕ
 narrow n = if nat_lt n (2 ^ 32) then Some n else None
 
 -- how many workers are to run
-abbrev pub workers_in : Given → Option ℕ
+abbrev pub workers_in : OptionValues → Option ℕ
 workers_in given = option_and_then narrow (number given key.Workers)
 
 -- a session with so many workers on the group of this name
@@ -256,7 +256,7 @@ session_on None vg = None
 session_on (Some workers) vg = if is_group_name vg then Some (Session vg workers) else None
 
 -- `--workers W` and a group
-abbrev pub session : Given → List Word → Option Request
+abbrev pub session : OptionValues → List Word → Option Request
 session given arguments = option_and_then (session_on (workers_in given)) (one_word arguments)
 
 -- the demo of these numbers
@@ -270,7 +270,7 @@ demo (seed ∷ lines ∷ workers ∷ []) = demo_of (number_of seed) (number_of l
 demo _ = None
 
 -- what the words of this name ask for: a session, the demo, or one command
-abbrev pub request_by_name : CommandName → Given → List Word → Option Request
+abbrev pub request_by_name : CommandName → OptionValues → List Word → Option Request
 request_by_name name.Session given arguments = session given arguments
 request_by_name name.Demo given arguments = demo arguments
 request_by_name name given arguments = option_map One (command_by_name name given arguments)

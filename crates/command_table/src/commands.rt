@@ -4,7 +4,7 @@ ghost use Rattle.command_table.specs.declared.command.Command.TheVariants.{Pvck,
 ghost use Rattle.command_table.specs.Meaning.{alone, amount_of, fill_words, given_by, goes_together, lvcreate, lvextend, lvreduce, lvrename, new_volume, number_or, one_path, one_word, path_in, pvcreate, pvmove, read_words, vgcreate, vgextend, vgreduce, vgrename, write_words};
 ghost use Rattle.command_table.specs.Options.{words_in};
 
-use crate::given::Given;
+use crate::given_options::GivenOptions;
 use crate::values::{halves, number_of};
 use crate::{Command, Moving, Names, NewVolume, OptionKey, Path};
 use sector_base::{ItemList, Text};
@@ -13,7 +13,7 @@ use std::alloc::{AllocError, Global};
 /// What a function here answers: the command, or that the words are too few, too many or don't go together.
 type Meant = Result<Option<Command>, AllocError>;
 
-pub fn pvcreate(alloc: Global, given: &Given, arguments: &[&[u8]]) -> Meant
+pub fn pvcreate(alloc: Global, given: &GivenOptions, arguments: &[&[u8]]) -> Meant
     ensures { IfOk result (λ command. command ≡ pvcreate (given_by given.now) (words_in arguments.now)) }
 {
     match arguments {
@@ -25,7 +25,7 @@ pub fn pvcreate(alloc: Global, given: &Given, arguments: &[&[u8]]) -> Meant
     }
 }
 
-pub fn pvmove(alloc: Global, given: &Given, arguments: &[&[u8]]) -> Meant
+pub fn pvmove(alloc: Global, given: &GivenOptions, arguments: &[&[u8]]) -> Meant
     ensures { IfOk result (λ command. command ≡ pvmove (given_by given.now) (words_in arguments.now)) }
 {
     let aborts = given.value(OptionKey::Abort).is_some();
@@ -40,7 +40,7 @@ pub fn pvmove(alloc: Global, given: &Given, arguments: &[&[u8]]) -> Meant
     }
 }
 
-pub fn vgcreate(alloc: Global, given: &Given, arguments: &[&[u8]]) -> Meant
+pub fn vgcreate(alloc: Global, given: &GivenOptions, arguments: &[&[u8]]) -> Meant
     ensures { IfOk result (λ command. command ≡ vgcreate (given_by given.now) (words_in arguments.now)) }
 {
     match arguments {
@@ -55,7 +55,7 @@ pub fn vgcreate(alloc: Global, given: &Given, arguments: &[&[u8]]) -> Meant
     }
 }
 
-pub fn lvcreate(alloc: Global, given: &Given, arguments: &[&[u8]]) -> Meant
+pub fn lvcreate(alloc: Global, given: &GivenOptions, arguments: &[&[u8]]) -> Meant
     ensures { IfOk result (λ command. command ≡ lvcreate (given_by given.now) (words_in arguments.now)) }
 {
     match arguments {
@@ -65,21 +65,21 @@ pub fn lvcreate(alloc: Global, given: &Given, arguments: &[&[u8]]) -> Meant
 }
 
 // Whether the options of lvcreate go together: `-m` excludes `-i`, and `-I` needs an `-i` above 1.
-fn goes_together(given: &Given) -> bool
+fn goes_together(given: &GivenOptions) -> bool
     ensures { result ≡ goes_together (given_by given.now) }
 {
     let excludes = given.has(OptionKey::Mirrors) && given.has(OptionKey::Stripes);
     !excludes && (!given.has(OptionKey::StripeSize) || stripes_of(given) > 1)
 }
 
-fn stripes_of(given: &Given) -> u64
+fn stripes_of(given: &GivenOptions) -> u64
     ensures { result ≡ number_or (given_by given.now) OptionKey.Stripes 1 }
 {
     given.number(OptionKey::Stripes).unwrap_or(1)
 }
 
 // What lvcreate makes in this group.
-fn new_volume(alloc: Global, given: &Given, vg: &[u8], pvs: &[&[u8]]) -> Meant
+fn new_volume(alloc: Global, given: &GivenOptions, vg: &[u8], pvs: &[&[u8]]) -> Meant
     ensures { IfOk result (λ command. command ≡ new_volume (given_by given.now) (given_by given.now OptionKey.Name) (amount_of (given_by given.now)) vg.now (words_in pvs.now)) }
 {
     let (Some(lv), Some(amount)) = (given.value(OptionKey::Name), given.amount()) else {
@@ -97,7 +97,7 @@ fn new_volume(alloc: Global, given: &Given, vg: &[u8], pvs: &[&[u8]]) -> Meant
     })))
 }
 
-pub fn lvextend(alloc: Global, given: &Given, arguments: &[&[u8]]) -> Meant
+pub fn lvextend(alloc: Global, given: &GivenOptions, arguments: &[&[u8]]) -> Meant
     ensures { IfOk result (λ command. command ≡ lvextend (given_by given.now) (words_in arguments.now)) }
 {
     let [word, pvs @ ..] = arguments else {
@@ -116,7 +116,7 @@ pub fn lvextend(alloc: Global, given: &Given, arguments: &[&[u8]]) -> Meant
     }
 }
 
-pub fn lvreduce(alloc: Global, given: &Given, arguments: &[&[u8]]) -> Meant
+pub fn lvreduce(alloc: Global, given: &GivenOptions, arguments: &[&[u8]]) -> Meant
     ensures { IfOk result (λ command. command ≡ lvreduce (given_by given.now) (words_in arguments.now)) }
 {
     let Some(amount) = given.amount() else {

@@ -4,12 +4,11 @@ ghost use Rattle.command_table.specs.Meaning.{command_by_name, command_of, demo,
 ghost use Rattle.command_table.specs.Options.{words_in};
 ghost use Rattle.command_table.specs.Words.{placed, read, read_by, split_by};
 
-use crate::given::Given;
+use crate::given_options::GivenOptions;
 use crate::reading::Reading;
 use crate::refusal::CommandRefusal;
 use crate::values::number_of;
-use crate::{Command, CommandName, OptionKey, Request};
-use crate::commands;
+use crate::{Command, CommandName, OptionKey, Request, commands};
 use lvm_name::{GroupName, NameRefusal};
 use sector_base::Text;
 use std::alloc::{AllocError, Global};
@@ -19,7 +18,7 @@ use std::alloc::{AllocError, Global};
 pub(crate) fn command_by_name(
     alloc: Global,
     name: CommandName,
-    given: &Given,
+    given: &GivenOptions,
     arguments: &[&[u8]],
 ) -> Result<Option<Command>, AllocError>
     ensures { IfOk result (λ command. command ≡ command_by_name name (given_by given.now) (words_in arguments.now)) }
@@ -59,7 +58,7 @@ pub(crate) fn command_by_name(
 pub fn request_by_name(
     alloc: Global,
     name: CommandName,
-    given: &Given,
+    given: &GivenOptions,
     arguments: &[&[u8]],
 ) -> Result<Option<Request>, AllocError>
     ensures { IfOk result (λ request. request ≡ request_by_name name (given_by given.now) (words_in arguments.now)) }
@@ -74,7 +73,11 @@ pub fn request_by_name(
     }
 }
 
-fn session(alloc: Global, given: &Given, arguments: &[&[u8]]) -> Result<Option<Request>, AllocError>
+fn session(
+    alloc: Global,
+    given: &GivenOptions,
+    arguments: &[&[u8]],
+) -> Result<Option<Request>, AllocError>
     ensures { IfOk result (λ request. request ≡ session (given_by given.now) (words_in arguments.now)) }
 {
     match commands::one_word(alloc, arguments)? {
@@ -84,7 +87,7 @@ fn session(alloc: Global, given: &Given, arguments: &[&[u8]]) -> Result<Option<R
 }
 
 // How many workers are to run.
-fn workers_in(given: &Given) -> Option<u32>
+fn workers_in(given: &GivenOptions) -> Option<u32>
     ensures { result ≡ workers_in (given_by given.now) }
 {
     narrow(given.number(OptionKey::Workers)?)

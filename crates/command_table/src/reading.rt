@@ -4,7 +4,7 @@ ghost use Rattle.command_table.specs.Words.{after_role, after_word, fault_of, fi
 ghost use Rattle.command_table.specs.Meaning.{given_by, value_in};
 ghost use Rattle.command_table.specs.Table.{options_of};
 
-use crate::given::Given;
+use crate::given_options::GivenOptions;
 use crate::role::Role;
 use crate::values::fault_in;
 use crate::{CommandName, Fault, Kind, OptionKey, OptionRow};
@@ -70,10 +70,10 @@ impl<'a> Reading<'a> {
     }
 
     /// The options with their values.
-    pub fn options(&self) -> Given<'_>
+    pub fn options(&self) -> GivenOptions<'_>
         ensures { given_by result ≡ value_in (split_by self.now).given }
     {
-        Given {
+        GivenOptions {
             pairs: self.given.as_slice(),
         }
     }

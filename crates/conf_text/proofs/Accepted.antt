@@ -7,7 +7,7 @@ use Rattle.std.specs.Option.{option_and_then}
 use Rattle.conf_text.specs.declared.kind.Kind.{Kind}
 use Rattle.conf_text.specs.declared.kind.Kind.TheVariants.{Digit, Letter, OpenBrace, CloseBrace, OpenBracket, CloseBracket, Equals, Comma}
 use Rattle.conf_text.specs.Bytes.{kind}
-use Rattle.conf_text.specs.Entries.{Scalar, Number, Text, Value, One, Many, Entry, Open, Close, Assign, after_entry, after_entries, sections, is_given, fits_scalar, scalars_of, keeps_limits, keep_limits}
+use Rattle.conf_text.specs.Entries.{Scalar, Number, Text, Value, One, Many, ConfEntry, Open, Close, Assign, after_entry, after_entries, sections, is_given, fits_scalar, scalars_of, keeps_limits, keep_limits}
 use Rattle.conf_text.specs.Grammar.{is_name, gap_byte, after_gap, IsGap, IsName, EndsWord, IsScalar, IsArray, IsValue, IsKey, IsEntry, EndsEntry, BeginsWith, IsTextOf}
 use Rattle.conf_text.specs.declared.reader.Mode.TheVariants.{Between, Word}
 use Rattle.conf_text.specs.declared.reader.Phase.{Phase}
@@ -16,10 +16,10 @@ use Rattle.conf_text.specs.Reader.{Reader, in_mode, outcome, reading, ended}
 use Rattle.conf_text.proofs.Depth.{sections-append, some_before, after_open, after_assign}
 use Rattle.conf_text.proofs.Steps.{in_state, reaches_then, reaches_itself, reaches_step, gap_mode, step_is, gap_reaches, name_more, name_begins, word_ends, both_true, Arrives, arrives_then, EndsScalar, scalar_arrives}
 
-abbrev pub between : Phase → List ℕ → List Scalar → List Entry → List ℕ → Reader
+abbrev pub between : Phase → List ℕ → List Scalar → List ConfEntry → List ℕ → Reader
 between p n ss es bs = in_state Between p [] n ss es bs
 
-abbrev pub item : List Entry → List ℕ → Reader
+abbrev pub item : List ConfEntry → List ℕ → Reader
 item es bs = between Item [] [] es bs
 
 pub kind-open_brace : kind 123 ≡ OpenBrace
@@ -47,7 +47,7 @@ unfolding kind
 kind-comma = refl
 
 -- a gap
-pub gap_arrives : (g rest : List ℕ) (at : ℕ) (p : Phase) (n : List ℕ) (ss : List Scalar) (es : List Entry) (bs : List ℕ) → IsGap g → Arrives at (between p n ss es bs) (g ++ rest) (between p n ss es bs) rest
+pub gap_arrives : (g rest : List ℕ) (at : ℕ) (p : Phase) (n : List ℕ) (ss : List Scalar) (es : List ConfEntry) (bs : List ℕ) → IsGap g → Arrives at (between p n ss es bs) (g ++ rest) (between p n ss es bs) rest
 gap_arrives g rest at p n ss es bs h = (at + length g, gap_reaches false g rest at p [] n ss es bs false h)
 
 first_of_gap : (k : Kind) (f : Bool → Option Bool) (d : Bool) → option_and_then f (gap_byte false k) ≡ Some d → is_name k ≡ false
@@ -72,7 +72,7 @@ pub byte_arrives : (b : ℕ) (k : Kind) (rest : List ℕ) (at : ℕ) (r s : Read
 byte_arrives b k rest at r s m e f = (at + 1, reaches_step at b r s rest (step_is Between k b at r m e ∙ f))
 
 -- a name
-pub name_arrives : (name rest : List ℕ) (at : ℕ) (es : List Entry) (bs : List ℕ) → IsName name → is_given (sections es) name ≡ false → EndsWord rest → Arrives at (item es bs) (name ++ rest) (between Named name [] es bs) rest
+pub name_arrives : (name rest : List ℕ) (at : ℕ) (es : List ConfEntry) (bs : List ℕ) → IsName name → is_given (sections es) name ≡ false → EndsWord rest → Arrives at (item es bs) (name ++ rest) (between Named name [] es bs) rest
 name_arrives [] rest at es bs h fresh ends = absurd (h.0 refl)
 name_arrives (b ∷ name) rest at es bs h fresh ends =
     let (first, others) = both_true (is_name (kind b)) (list_all (λ b. is_name (kind b)) name) h.1 in
@@ -82,7 +82,7 @@ name_arrives (b ∷ name) rest at es bs h fresh ends =
     (at + 1 + length name, reaches_then one (reaches_then more last))
 
 -- what stands before a value
-pub key_arrives : (key name rest : List ℕ) (at : ℕ) (es : List Entry) (bs : List ℕ) → IsKey key name → is_given (sections es) name ≡ false → Arrives at (item es bs) (key ++ rest) (between Wanted name [] es bs) rest
+pub key_arrives : (key name rest : List ℕ) (at : ℕ) (es : List ConfEntry) (bs : List ℕ) → IsKey key name → is_given (sections es) name ≡ false → Arrives at (item es bs) (key ++ rest) (between Wanted name [] es bs) rest
 key_arrives key name rest at es bs (g, h, k, gap, name_is, gap_h, gap_k, parts) fresh =
     let whole : key ++ rest ≡ g ++ (name ++ (h ++ 61 ∷ (k ++ rest))) = rw parts (simp append_assoc refl) in
     rw whole (
@@ -99,20 +99,20 @@ abbrev pub in_array : Bool → ℕ → Phase
 in_array true q = First q
 in_array false q = Next q
 
-array_scalar : (c : Bool) (q : ℕ) (s : Scalar) (x rest : List ℕ) (at : ℕ) (n : List ℕ) (ss : List Scalar) (es : List Entry) (bs : List ℕ) → IsScalar x s → fits_scalar s ≡ true → EndsScalar s rest
+array_scalar : (c : Bool) (q : ℕ) (s : Scalar) (x rest : List ℕ) (at : ℕ) (n : List ℕ) (ss : List Scalar) (es : List ConfEntry) (bs : List ℕ) → IsScalar x s → fits_scalar s ≡ true → EndsScalar s rest
     → Arrives at (between (in_array c q) n ss es bs) (x ++ rest) (between (After q) n (ss ++ s ∷ []) es bs) rest
 array_scalar true q s x rest at n ss es bs h fits ends = scalar_arrives s x rest at (First q) n ss es bs refl h fits ends
 array_scalar false q s x rest at n ss es bs h fits ends = scalar_arrives s x rest at (Next q) n ss es bs refl h fits ends
 
 -- a scalar of an array with the gaps round it
-spaced_arrives : (c : Bool) (q : ℕ) (s : Scalar) (g x h rest : List ℕ) (at : ℕ) (n : List ℕ) (ss : List Scalar) (es : List Entry) (bs : List ℕ) → IsGap g → IsScalar x s → IsGap h → fits_scalar s ≡ true → EndsWord rest
+spaced_arrives : (c : Bool) (q : ℕ) (s : Scalar) (g x h rest : List ℕ) (at : ℕ) (n : List ℕ) (ss : List Scalar) (es : List ConfEntry) (bs : List ℕ) → IsGap g → IsScalar x s → IsGap h → fits_scalar s ≡ true → EndsWord rest
     → Arrives at (between (in_array c q) n ss es bs) (g ++ (x ++ (h ++ rest))) (between (After q) n (ss ++ s ∷ []) es bs) rest
 spaced_arrives c q s g x h rest at n ss es bs gap scalar gap_h fits ends =
     arrives_then (gap_arrives g (x ++ (h ++ rest)) at (in_array c q) n ss es bs gap) λ a.
     arrives_then (array_scalar c q s x (h ++ rest) a n ss es bs scalar fits (ends_scalar s (h ++ rest) (gap_ends h rest gap_h ends))) λ b.
     gap_arrives h rest b (After q) n (ss ++ s ∷ []) es bs gap_h
 
-array_arrives : (c : Bool) (q : ℕ) (ts : List Scalar) (t : Scalar) (inner rest : List ℕ) (at : ℕ) (n : List ℕ) (ss : List Scalar) (es : List Entry) (bs : List ℕ) → IsArray inner (t ∷ ts) → list_all fits_scalar (t ∷ ts) ≡ true
+array_arrives : (c : Bool) (q : ℕ) (ts : List Scalar) (t : Scalar) (inner rest : List ℕ) (at : ℕ) (n : List ℕ) (ss : List Scalar) (es : List ConfEntry) (bs : List ℕ) → IsArray inner (t ∷ ts) → list_all fits_scalar (t ∷ ts) ≡ true
     → Arrives at (between (in_array c q) n ss es bs) (inner ++ 93 ∷ rest) (item (es ++ Assign n (Many (ss ++ t ∷ ts)) ∷ []) bs) rest
 array_arrives c q [] t inner rest at n ss es bs (g, x, h, gap, scalar, gap_h, parts) fits =
     let whole : inner ++ 93 ∷ rest ≡ g ++ (x ++ (h ++ 93 ∷ rest)) = rw parts (simp append_assoc refl) in
@@ -130,7 +130,7 @@ array_arrives c q (u ∷ ts) t inner rest at n ss es bs (g, x, h, more, gap, sca
 
 -- ---- values and entries
 
-value_arrives : (v : Value) (x name rest : List ℕ) (at : ℕ) (es : List Entry) (bs : List ℕ) → IsValue x v → list_all fits_scalar (scalars_of v) ≡ true → EndsEntry (Assign name v) rest
+value_arrives : (v : Value) (x name rest : List ℕ) (at : ℕ) (es : List ConfEntry) (bs : List ℕ) → IsValue x v → list_all fits_scalar (scalars_of v) ≡ true → EndsEntry (Assign name v) rest
     → Arrives at (between Wanted name [] es bs) (x ++ rest) (item (es ++ Assign name v ∷ []) bs) rest
 value_arrives (One (Number n)) x name rest at es bs h fits ends = scalar_arrives (Number n) x rest at Wanted name [] es bs refl h (both_true (fits_scalar (Number n)) true fits).0 ends
 value_arrives (One (Text s)) x name rest at es bs h fits ends = scalar_arrives (Text s) x rest at Wanted name [] es bs refl h refl tt
@@ -151,7 +151,7 @@ not_true true e = absurd cc
 not_true false e = refl
 
 -- the reader after an entry, with as many braces open as sections
-abbrev pub AfterEntry : (given : List (List (List ℕ))) (at : ℕ) (r : Reader) (text : List ℕ) (es : List Entry) (rest : List ℕ) → Type 0
+abbrev pub AfterEntry : (given : List (List (List ℕ))) (at : ℕ) (r : Reader) (text : List ℕ) (es : List ConfEntry) (rest : List ℕ) → Type 0
 AfterEntry given at r text es rest = (bs : List ℕ) × (length given ≡ suc (length bs)) × Arrives at r text (item es bs) rest
 
 pub closing : (given : List (List (List ℕ))) (bs : List ℕ) → length given ≡ suc (length bs) → 0 < length (after_entry given Close) → (b : ℕ) × (more : List ℕ) × (bs ≡ b ∷ more) × (length (after_entry given Close) ≡ suc (length more))
@@ -159,15 +159,15 @@ closing [] bs e h = absurd cc
 closing (names ∷ outer) [] e h = absurd (omega (arith, e, h))
 closing (names ∷ outer) (b ∷ bs) e h = (b, bs, refl, omega (arith, e))
 
-pub open_step : (at : ℕ) (name : List ℕ) (es : List Entry) (bs : List ℕ) → ltb (length (sections es)) 17 ≡ true → in_mode Between OpenBrace 123 at (between Named name [] es bs) ≡ Ok (item (es ++ Open name ∷ []) (at ∷ bs))
+pub open_step : (at : ℕ) (name : List ℕ) (es : List ConfEntry) (bs : List ℕ) → ltb (length (sections es)) 17 ≡ true → in_mode Between OpenBrace 123 at (between Named name [] es bs) ≡ Ok (item (es ++ Open name ∷ []) (at ∷ bs))
 open_step at name es bs deep = rw deep refl
 
-pub close_arrives : (g rest : List ℕ) (at : ℕ) (es : List Entry) (b : ℕ) (more : List ℕ) → IsGap g → Arrives at (item es (b ∷ more)) (g ++ 125 ∷ rest) (item (es ++ Close ∷ []) more) rest
+pub close_arrives : (g rest : List ℕ) (at : ℕ) (es : List ConfEntry) (b : ℕ) (more : List ℕ) → IsGap g → Arrives at (item es (b ∷ more)) (g ++ 125 ∷ rest) (item (es ++ Close ∷ []) more) rest
 close_arrives g rest at es b more gap =
     arrives_then (gap_arrives g (125 ∷ rest) at Item [] [] es (b ∷ more) gap) λ a.
     byte_arrives 125 CloseBrace rest a (item es (b ∷ more)) (item (es ++ Close ∷ []) more) refl kind-close_brace refl
 
-pub entry_arrives : (e : Entry) (x rest : List ℕ) (at : ℕ) (es : List Entry) (bs : List ℕ) → length (sections es) ≡ suc (length bs) → IsEntry x e → keeps_limits (sections es) e ≡ true → 0 < length (after_entry (sections es) e) → EndsEntry e rest
+pub entry_arrives : (e : ConfEntry) (x rest : List ℕ) (at : ℕ) (es : List ConfEntry) (bs : List ℕ) → length (sections es) ≡ suc (length bs) → IsEntry x e → keeps_limits (sections es) e ≡ true → 0 < length (after_entry (sections es) e) → EndsEntry e rest
     → AfterEntry (after_entry (sections es) e) at (item es bs) (x ++ rest) (es ++ e ∷ []) rest
 entry_arrives (Open name) x rest at es bs open_ (front, (g, h, gap, name_is, gap_h, front_is), parts) limits some ends =
     let (fresh, deep) = both_true (not (is_given (sections es) name)) (ltb (length (sections es)) 17) limits in
@@ -193,7 +193,7 @@ entry_arrives (Assign name v) x rest at es bs open_ (key, y, key_is, value, part
 
 -- ---- whole texts
 
-pub entries_arrive : (fs : List Entry) (text rest : List ℕ) (at : ℕ) (es : List Entry) (bs : List ℕ) → length (sections es) ≡ suc (length bs) → BeginsWith text fs rest → keep_limits (sections es) fs ≡ true → 0 < length (after_entries (sections es) fs)
+pub entries_arrive : (fs : List ConfEntry) (text rest : List ℕ) (at : ℕ) (es : List ConfEntry) (bs : List ℕ) → length (sections es) ≡ suc (length bs) → BeginsWith text fs rest → keep_limits (sections es) fs ≡ true → 0 < length (after_entries (sections es) fs)
     → AfterEntry (after_entries (sections es) fs) at (item es bs) text (es ++ fs) rest
 entries_arrive [] text rest at es bs open_ same limits some =
     (bs, open_, (at, rw (same, append-nil) (reaches_itself at (item es bs) rest)))
@@ -209,7 +209,7 @@ pub no_braces : (given : List (List (List ℕ))) (bs : List ℕ) → length give
 no_braces given [] e f = refl
 no_braces given (b ∷ bs) e f = absurd (omega (arith, e, f))
 
-pub ended_item : (d : Bool) (at : ℕ) (es : List Entry) → outcome at (in_state (gap_mode d) Item [] [] [] es []) [] ≡ Ok es
+pub ended_item : (d : Bool) (at : ℕ) (es : List ConfEntry) → outcome at (in_state (gap_mode d) Item [] [] [] es []) [] ≡ Ok es
 unfolding outcome ended
 ended_item true at es = refl
 ended_item false at es = refl
@@ -219,7 +219,7 @@ last_gap None h = absurd cc
 last_gap (Some d) h = (d, refl)
 
 -- a text of the grammar is read as its tree
-pub accepted : (text : List ℕ) (es : List Entry) → IsTextOf text es → reading text ≡ Ok es
+pub accepted : (text : List ℕ) (es : List ConfEntry) → IsTextOf text es → reading text ≡ Ok es
 accepted text es h =
     let s = h.spelled in
     let some : 0 < length (sections es) = omega (arith, s.balanced) in
@@ -230,7 +230,7 @@ accepted text es h =
     one.same ∙ ap (outcome a (item es bs)) (sym (append-nil s.gap)) ∙ two.same ∙ rw none (ended_item d (a + length s.gap) es)
 
 -- the scalars of an array up to the comma behind them
-pub array_to_comma : (c : Bool) (q : ℕ) (ts : List Scalar) (t : Scalar) (inner rest : List ℕ) (at : ℕ) (n : List ℕ) (ss : List Scalar) (es : List Entry) (bs : List ℕ) → IsArray inner (t ∷ ts) → list_all fits_scalar (t ∷ ts) ≡ true
+pub array_to_comma : (c : Bool) (q : ℕ) (ts : List Scalar) (t : Scalar) (inner rest : List ℕ) (at : ℕ) (n : List ℕ) (ss : List Scalar) (es : List ConfEntry) (bs : List ℕ) → IsArray inner (t ∷ ts) → list_all fits_scalar (t ∷ ts) ≡ true
     → Arrives at (between (in_array c q) n ss es bs) (inner ++ 44 ∷ rest) (between (Next q) n (ss ++ t ∷ ts) es bs) rest
 array_to_comma c q [] t inner rest at n ss es bs (g, x, h, gap, scalar, gap_h, parts) fits =
     let whole : inner ++ 44 ∷ rest ≡ g ++ (x ++ (h ++ 44 ∷ rest)) = rw parts (simp append_assoc refl) in

@@ -6,7 +6,7 @@ use Rattle.std.proofs.lemmas.Bool.{ltb-true, ltb-false, cases_order, cases_lt}
 use Rattle.std.specs.Prelude.{◌⊎◌}
 use Rattle.conf_text.specs.declared.refusal.ConfRefusal.{ConfRefusal}
 use Rattle.conf_text.specs.declared.refusal.ConfRefusal.TheVariants.{NoMemory, BadToken, Unclosed, DuplicateKey, NumberTooWide, TooDeep}
-use Rattle.conf_text.specs.Entries.{Entry, Open}
+use Rattle.conf_text.specs.Entries.{ConfEntry, Open}
 use Rattle.conf_text.specs.Grammar.{Spells, IsTextOf}
 use Rattle.conf_text.specs.Reader.{start, reading}
 use Rattle.conf_text.specs.ReaderViews.{Fails}
@@ -21,13 +21,13 @@ use Rattle.conf_text.proofs.Standing.{begins_less, begins_front}
 use Rattle.conf_text.proofs.Told.{IsOpen, Tells, reading_told, bad_after}
 use Rattle.conf_text.proofs.WordStepping.{some_length}
 
-abbrev refused : ConfRefusal → Result (List Entry) ConfRefusal
+abbrev refused : ConfRefusal → Result (List ConfEntry) ConfRefusal
 refused e = Err e
 
-abbrev read : List Entry → Result (List Entry) ConfRefusal
+abbrev read : List ConfEntry → Result (List ConfEntry) ConfRefusal
 read es = Ok es
 
-not_both : (es : List Entry) (e : ConfRefusal) → read es ≡ refused e → ⊥
+not_both : (es : List ConfEntry) (e : ConfRefusal) → read es ≡ refused e → ⊥
 not_both es e h = absurd cc
 
 same_refusal : (e f : ConfRefusal) → refused e ≡ refused f → e ≡ f
@@ -66,13 +66,13 @@ brace_byte text p h =
 
 -- ---- what may be the answer where something is open
 
-abbrev MayEndOpen : ℕ → Result (List Entry) ConfRefusal → Type 0
+abbrev MayEndOpen : ℕ → Result (List ConfEntry) ConfRefusal → Type 0
 MayEndOpen n (Ok es) = ⊥
 MayEndOpen n (Err NoMemory) = ⊥
 MayEndOpen n (Err (BadToken p)) = p < n
 MayEndOpen n (Err _) = Unit {0}
 
-stopped_open : (n : ℕ) (a : Result (List Entry) ConfRefusal) → IsStopped true n a → MayEndOpen n a
+stopped_open : (n : ℕ) (a : Result (List ConfEntry) ConfRefusal) → IsStopped true n a → MayEndOpen n a
 stopped_open n (Ok es) h = absurd h
 stopped_open n (Err NoMemory) h = absurd h
 stopped_open n (Err (BadToken p)) h = h
@@ -81,7 +81,7 @@ stopped_open n (Err (DuplicateKey p)) h = tt
 stopped_open n (Err (NumberTooWide p)) h = tt
 stopped_open n (Err (TooDeep p)) h = tt
 
-unclosed_open : (n p : ℕ) (a : Result (List Entry) ConfRefusal) → a ≡ refused (Unclosed p) → MayEndOpen n a
+unclosed_open : (n p : ℕ) (a : Result (List ConfEntry) ConfRefusal) → a ≡ refused (Unclosed p) → MayEndOpen n a
 unclosed_open n p a e = subst (MayEndOpen n) (sym e) tt
 
 halts_open : (c : Bool) (p : ℕ) (text : List ℕ) → Halts c p 0 start text → MayEndOpen (length text) (reading text)
@@ -100,7 +100,7 @@ innermost_open text p (inr (inr h)) = halts_open true p text (brace_read text p 
 
 -- ---- which place is unclosed
 
-not_stopped : (n q : ℕ) (a : Result (List Entry) ConfRefusal) → a ≡ refused (Unclosed q) → IsStopped true n a → ⊥
+not_stopped : (n q : ℕ) (a : Result (List ConfEntry) ConfRefusal) → a ≡ refused (Unclosed q) → IsStopped true n a → ⊥
 not_stopped n q a e h = subst (IsStopped true n) e h
 
 string_place : (text : List ℕ) (p q : ℕ) → reading text ≡ refused (Unclosed q) → IsOpenString text p → p ≡ q
@@ -190,7 +190,7 @@ keeps text e h same n = λ p less broken. no p broken
     no p (inr (inl k)) = token_only e (NumberTooWide p) h (sym (too_wide_refused text p k) ∙ same)
     no p (inr (inr k)) = token_only e (TooDeep p) h (sym (too_deep_refused text p k) ∙ same)
 
-not_bad : (n p : ℕ) (a : Result (List Entry) ConfRefusal) (es : List Entry) → a ≡ refused (BadToken p) → (a ≡ read es) ⊎ IsStopped false n a → ⊥
+not_bad : (n p : ℕ) (a : Result (List ConfEntry) ConfRefusal) (es : List ConfEntry) → a ≡ refused (BadToken p) → (a ≡ read es) ⊎ IsStopped false n a → ⊥
 not_bad n p a es e (inl h) = not_both es (BadToken p) (sym h ∙ e)
 not_bad n p a es e (inr stops) = subst (IsStopped false n) e stops
 
@@ -227,7 +227,7 @@ told_cause text (TooDeep p) e h = h.0
 pub refused_cause : (text : List ℕ) (e : ConfRefusal) → reading text ≡ refused e → IsCause text e
 refused_cause text e same = told_cause text e same (subst (Tells 0 text) same (reading_told text))
 
-pub read_text : (text : List ℕ) (es : List Entry) → reading text ≡ read es → IsTextOf text es
+pub read_text : (text : List ℕ) (es : List ConfEntry) → reading text ≡ read es → IsTextOf text es
 read_text text es same = subst (Tells 0 text) same (reading_told text)
 
 -- ---- from the relation to the answer
@@ -237,7 +237,7 @@ shorter : (text : List ℕ) (n m : ℕ) → n ≤ m → m ≤ length text → Be
 shorter text n m less inside h =
     subst (λ z. Begins (take n z)) (take-append-drop m text) (begins_front (take m text) (drop m text) n (omega (arith, length-take m text, less, inside)) h)
 
-spelled_begins : (text : List ℕ) (es : List Entry) → Spells text es → Begins text
+spelled_begins : (text : List ℕ) (es : List ConfEntry) → Spells text es → Begins text
 spelled_begins text es h = ([], es, subst (λ z. Spells z es) (sym (append-nil text)) h)
 
 first_not : (text : List ℕ) (p n : ℕ) → IsFirstBad text p → p < n → n ≤ length text → Begins (take n text) → ⊥
@@ -285,11 +285,11 @@ not_unclosed : (text : List ℕ) (p q : ℕ) → reading text ≡ refused (Unclo
 not_unclosed text p q e begins is (inl h) = first_not_all text p h begins
 not_unclosed text p q e begins is (inr (last, cut)) = cut.2 q (open_innermost text q e is)
 
-not_tree : (text : List ℕ) (p : ℕ) (es : List Entry) → IsTextOf text es → BadKind text p → ⊥
+not_tree : (text : List ℕ) (p : ℕ) (es : List ConfEntry) → IsTextOf text es → BadKind text p → ⊥
 not_tree text p es is (inl h) = first_not_all text p h (spelled_begins text es is.spelled)
 not_tree text p es is (inr (last, cut)) = cut.1 es is.spelled
 
-bad_of : (text : List ℕ) (p : ℕ) (a : Result (List Entry) ConfRefusal) → reading text ≡ a → Tells 0 text a → IsBadToken text p → a ≡ refused (BadToken p)
+bad_of : (text : List ℕ) (p : ℕ) (a : Result (List ConfEntry) ConfRefusal) → reading text ≡ a → Tells 0 text a → IsBadToken text p → a ≡ refused (BadToken p)
 bad_of text p (Ok es) e h (keep, bad) = absurd (not_tree text p es h bad)
 bad_of text p (Err NoMemory) e h (keep, bad) = absurd h
 bad_of text p (Err (BadToken q)) e (from, inside, begins) (keep, bad) = ap (λ z. refused (BadToken z)) (sym (same_bad text p q e inside begins bad))
@@ -303,7 +303,7 @@ bad_open text p q e begins innermost =
     let less : q < length text = subst (MayEndOpen (length text)) e (innermost_open text p innermost) in
     not_begins text q e less (begins_less text (suc q) begins)
 
-unclosed_of : (text : List ℕ) (p : ℕ) (a : Result (List Entry) ConfRefusal) → reading text ≡ a → Tells 0 text a → IsUnclosed text p → a ≡ refused (Unclosed p)
+unclosed_of : (text : List ℕ) (p : ℕ) (a : Result (List ConfEntry) ConfRefusal) → reading text ≡ a → Tells 0 text a → IsUnclosed text p → a ≡ refused (Unclosed p)
 unclosed_of text p (Ok es) e h (keep, begins, innermost) = absurd (subst (MayEndOpen (length text)) e (innermost_open text p innermost))
 unclosed_of text p (Err NoMemory) e h (keep, begins, innermost) = absurd h
 unclosed_of text p (Err (BadToken q)) e h (keep, begins, innermost) = absurd (bad_open text p q e begins innermost)
@@ -325,10 +325,10 @@ cause_refused text (TooDeep p) other h = too_deep_refused text p h
 
 -- ---- one outcome at most
 
-pub one_tree : (text : List ℕ) (a b : List Entry) → IsTextOf text a → IsTextOf text b → a ≡ b
+pub one_tree : (text : List ℕ) (a b : List ConfEntry) → IsTextOf text a → IsTextOf text b → a ≡ b
 one_tree text a b h k = let same : read a ≡ read b = sym (accepted text a h) ∙ accepted text b k in cc
 
-pub tree_or_cause : (text : List ℕ) (tree : List Entry) (e : ConfRefusal) → e ≢ no_memory → IsTextOf text tree → IsCause text e → ⊥
+pub tree_or_cause : (text : List ℕ) (tree : List ConfEntry) (e : ConfRefusal) → e ≢ no_memory → IsTextOf text tree → IsCause text e → ⊥
 tree_or_cause text tree e other h cause = not_both tree e (sym (accepted text tree h) ∙ cause_refused text e other cause)
 
 pub one_cause : (text : List ℕ) (a b : ConfRefusal) → a ≢ no_memory → b ≢ no_memory → IsCause text a → IsCause text b → a ≡ b

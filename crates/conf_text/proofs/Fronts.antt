@@ -4,7 +4,7 @@ use Rattle.std.proofs.lemmas.List.{append-nil}
 use Rattle.conf_text.specs.Bytes.{kind}
 use Rattle.conf_text.specs.declared.reader.Phase.{Phase}
 use Rattle.conf_text.specs.declared.reader.Phase.TheVariants.{Item, Named, Wanted, First, Next, After}
-use Rattle.conf_text.specs.Entries.{Scalar, Text, One, Many, Entry, Open, Close, Assign}
+use Rattle.conf_text.specs.Entries.{Scalar, Text, One, Many, ConfEntry, Open, Close, Assign}
 use Rattle.conf_text.specs.Grammar.{IsName, EndsWord, IsGap, IsScalar, IsArray, IsHeader, IsKey, IsEntry}
 use Rattle.conf_text.specs.Refusals.{IsBeforeScalar}
 use Rattle.conf_text.proofs.Pieces.{gap_gap, array_gap, array_more}
@@ -112,16 +112,16 @@ before_next base q n (s ∷ ss) f (key, list, g, key_is, list_is, gap, parts, pl
 -- ---- how each goes on to a whole entry
 
 -- the entry is a key
-abbrev pub IsAssign : Entry → Type 0
+abbrev pub IsAssign : ConfEntry → Type 0
 IsAssign (Assign n v) = Unit {0}
 IsAssign _ = ⊥
 
 abbrev pub Completes : List ℕ → Type 0
-Completes f = (closing : List ℕ) × (e : Entry) × (0 < length closing) × IsEntry (f ++ closing) e × IsAssign e
+Completes f = (closing : List ℕ) × (e : ConfEntry) × (0 < length closing) × IsEntry (f ++ closing) e × IsAssign e
 
 -- the same, by bytes that end a word
 abbrev pub CompletesMark : List ℕ → Type 0
-CompletesMark f = (b : ℕ) × (more : List ℕ) × (e : Entry) × (EndsWord (b ∷ [])) × IsEntry (f ++ (b ∷ more)) e × IsAssign e
+CompletesMark f = (b : ℕ) × (more : List ℕ) × (e : ConfEntry) × (EndsWord (b ∷ [])) × IsEntry (f ++ (b ∷ more)) e × IsAssign e
 
 pub completes : (f : List ℕ) → CompletesMark f → Completes f
 completes f (b, more, e, ends, entry, assign) = (b ∷ more, e, omega arith, entry, assign)
@@ -157,7 +157,7 @@ letter_name = (λ e. absurd cc, refl)
 nothing : IsScalar (34 ∷ 34 ∷ []) (Text [])
 nothing = (refl, refl)
 
-regrouped : (f a b : List ℕ) (e : Entry) → IsEntry ((f ++ a) ++ b) e → IsEntry (f ++ (a ++ b)) e
+regrouped : (f a b : List ℕ) (e : ConfEntry) → IsEntry ((f ++ a) ++ b) e → IsEntry (f ++ (a ++ b)) e
 regrouped f a b e h = subst (λ z. IsEntry z e) (append_assoc f a b) h
 
 wanted_completes : (base : ℕ) (n : List ℕ) (ss : List Scalar) (f : List ℕ) → IsFront base Wanted n ss f → IsEntry (f ++ (91 ∷ 93 ∷ [])) (Assign n (Many []))

@@ -6,8 +6,8 @@ use Rattle.std.specs.Cmp.Lexicographic.{pointwise}
 use Rattle.std.proofs.lemmas.Cmp.{nat_list_eq_equiv}
 use Rattle.std.proofs.lemmas.List.{length-reverse, reverse-append, map_push}
 use Rattle.conf_text.specs.declared.outline.Outer.{Outer}
-use Rattle.conf_text.specs.declared.tree.Entry as code
-use Rattle.conf_text.specs.Entries.{Entry, Open, Close, Many, Assign, after_entry}
+use Rattle.conf_text.specs.declared.tree.ConfEntry as code
+use Rattle.conf_text.specs.Entries.{ConfEntry, Open, Close, Many, Assign, after_entry}
 use Rattle.conf_text.specs.Views.{entry_view}
 use Rattle.conf_text.specs.Outline.{Seen, HasNames, HasOuter, HasSections, IsKeyed}
 
@@ -35,7 +35,7 @@ names_put name old new k names put has = λ q.
     ∙ ap (λ x. x || list_any (λ x. pointwise nat_eq q (name x)) old) (nat_list_eq_equiv.symm k q) ∙ ap (λ x. pointwise nat_eq q k || x) (has q)
 
 -- a key more
-pub key_put : {K : Type 0} (name : K → List ℕ) (old new : List K) (k : List ℕ) (outer : List Outer) (given : List (List (List ℕ))) (e : Entry) → IsPut name old new k → IsKeyed k e → HasSections name old outer given → HasSections name new outer (after_entry given e)
+pub key_put : {K : Type 0} (name : K → List ℕ) (old new : List K) (k : List ℕ) (outer : List Outer) (given : List (List (List ℕ))) (e : ConfEntry) → IsPut name old new k → IsKeyed k e → HasSections name old outer given → HasSections name new outer (after_entry given e)
 key_put name old new k outer [] e put keyed has = absurd has
 key_put name old new k outer (names ∷ given) (Open n) put keyed has = absurd keyed
 key_put name old new k outer (names ∷ given) Close put keyed has = absurd keyed
@@ -62,8 +62,8 @@ section_entered name inner k before after o (names ∷ given) has e none =
 pub braces_pushed : (before after : List Outer) (o : Outer) → after ≡ before ++ o ∷ [] → reverse (map (λ o. o.brace) after) ≡ o.brace ∷ reverse (map (λ o. o.brace) before)
 braces_pushed before after o e = ap (λ x. reverse (map (λ o. o.brace) x)) e ∙ ap reverse (map_push (λ o. o.brace) before o) ∙ reverse-append (map (λ o. o.brace) before) (o.brace ∷ [])
 
-pub entries_pushed : (old new : List code.Entry) (e : code.Entry) → new ≡ old ++ e ∷ [] → map entry_view new ≡ map entry_view old ++ entry_view e ∷ []
+pub entries_pushed : (old new : List code.ConfEntry) (e : code.ConfEntry) → new ≡ old ++ e ∷ [] → map entry_view new ≡ map entry_view old ++ entry_view e ∷ []
 entries_pushed old new e h = ap (map entry_view) h ∙ map_push entry_view old e
 
-abbrev pub seen : List Entry → List ℕ → Seen
+abbrev pub seen : List ConfEntry → List ℕ → Seen
 seen es bs = record { entries = es; braces = bs }

@@ -6,7 +6,7 @@ use Rattle.conf_text.specs.declared.refusal.ConfRefusal.{ConfRefusal}
 use Rattle.conf_text.specs.declared.refusal.ConfRefusal.TheVariants.{NoMemory, BadToken, Unclosed, DuplicateKey, NumberTooWide, TooDeep}
 use Rattle.conf_text.specs.declared.reader.Phase.{Phase}
 use Rattle.conf_text.specs.declared.reader.Phase.TheVariants.{Wanted, First, Next}
-use Rattle.conf_text.specs.Entries.{Scalar, Entry, Open, sections, IsBalanced}
+use Rattle.conf_text.specs.Entries.{Scalar, ConfEntry, Open, sections, IsBalanced}
 use Rattle.conf_text.specs.Grammar.{IsContent, escaped, IsEntry, BeginsWith}
 use Rattle.conf_text.specs.Reader.{Reader, start, outcome, reading}
 use Rattle.conf_text.specs.Refusals.{IsBeforeScalar, IsOpenString, IsOpenArray, IsOpenBrace}
@@ -21,18 +21,18 @@ use Rattle.conf_text.proofs.Steps.{wants_scalar, Reaches, reaches_then, reaches_
 -- ---- strings
 
 -- the reader before a scalar, where the earlier ones are read
-abbrev AtScalar : ℕ → Reader → List ℕ → List ℕ → List Scalar → List Entry → List ℕ → List ℕ → Type 0
+abbrev AtScalar : ℕ → Reader → List ℕ → List ℕ → List Scalar → List ConfEntry → List ℕ → List ℕ → Type 0
 AtScalar at r text name earlier es bs rest = ((p : Phase) × (wants_scalar p ≡ true) × Arrives at r text (between p name earlier es bs) rest) ⊎ Stops true at r text
 
-scalar_joined : (at m : ℕ) (r s : Reader) (x y name : List ℕ) (earlier : List Scalar) (es : List Entry) (bs rest : List ℕ) → Reaches at r x m s y → AtScalar m s y name earlier es bs rest → AtScalar at r x name earlier es bs rest
+scalar_joined : (at m : ℕ) (r s : Reader) (x y name : List ℕ) (earlier : List Scalar) (es : List ConfEntry) (bs rest : List ℕ) → Reaches at r x m s y → AtScalar m s y name earlier es bs rest → AtScalar at r x name earlier es bs rest
 scalar_joined at m r s x y name earlier es bs rest one (inl (p, wants, arrives)) = inl (p, wants, (arrives.0, reaches_then one arrives.1))
 scalar_joined at m r s x y name earlier es bs rest one (inr stops) = inr (stops_before true one stops)
 
-scalar_then : (at : ℕ) (r s : Reader) (x y name : List ℕ) (earlier : List Scalar) (es : List Entry) (bs rest : List ℕ) → Goes true at r x s y → ((m : ℕ) → AtScalar m s y name earlier es bs rest) → AtScalar at r x name earlier es bs rest
+scalar_then : (at : ℕ) (r s : Reader) (x y name : List ℕ) (earlier : List Scalar) (es : List ConfEntry) (bs rest : List ℕ) → Goes true at r x s y → ((m : ℕ) → AtScalar m s y name earlier es bs rest) → AtScalar at r x name earlier es bs rest
 scalar_then at r s x y name earlier es bs rest (inl (m, one)) on = scalar_joined at m r s x y name earlier es bs rest one (on m)
 scalar_then at r s x y name earlier es bs rest (inr stops) on = inr stops
 
-scalar_read : (earlier : List Scalar) (front name rest : List ℕ) (at : ℕ) (es : List Entry) (bs : List ℕ) → IsBeforeScalar front name earlier → AtScalar at (item es bs) (front ++ rest) name earlier es bs rest
+scalar_read : (earlier : List Scalar) (front name rest : List ℕ) (at : ℕ) (es : List ConfEntry) (bs : List ℕ) → IsBeforeScalar front name earlier → AtScalar at (item es bs) (front ++ rest) name earlier es bs rest
 scalar_read [] front name rest at es bs (inl key) =
     scalar_then at (item es bs) (between Wanted name [] es bs) (front ++ rest) rest name [] es bs rest (key_goes true front name rest at es bs key) λ m.
     inl (Wanted, refl, (m, reaches_itself m (between Wanted name [] es bs) rest))
@@ -53,10 +53,10 @@ scalar_read (s ∷ ss) front name rest at es bs (key, list, g, key_is, array, ga
     inl (Next a, refl, (m, reaches_itself m (between (Next a) name (s ∷ ss) es bs) rest)))
 
 -- the reader after entries of the whole text
-abbrev FromStart : List ℕ → List Entry → List ℕ → Type 0
+abbrev FromStart : List ℕ → List ConfEntry → List ℕ → Type 0
 FromStart text es rest = ((over : List ℕ) × Arrives 0 start text (item es over) rest) ⊎ Stops true 0 start text
 
-from_start : (text : List ℕ) (es : List Entry) (rest : List ℕ) → BeginsWith text es rest → FromStart text es rest
+from_start : (text : List ℕ) (es : List ConfEntry) (rest : List ℕ) → BeginsWith text es rest → FromStart text es rest
 from_start text es rest begins = from (entries_go true es text rest 0 ([] ∷ []) [] [] [] (inl refl) refl begins tt)
   where
     from : AfterEntries true (sections es) 0 start text es [] rest → FromStart text es rest
@@ -66,7 +66,7 @@ from_start text es rest begins = from (entries_go true es text rest 0 ([] ∷ []
 stops_whole : (c : Bool) (text : List ℕ) → Stops c 0 start text → IsStopped c (length text) (reading text)
 stops_whole c text stops = let same : 0 + length text ≡ length text = omega arith in subst (λ n. IsStopped c n (reading text)) same stops
 
-content_part : (content inside : List ℕ) (q : ℕ) (p : Phase) (n : List ℕ) (ss : List Scalar) (es : List Entry) (bs : List ℕ) → IsContent content → (inside ≡ escaped content) ⊎ (inside ≡ escaped content ++ 92 ∷ []) → StringOpen q p n ss es bs inside
+content_part : (content inside : List ℕ) (q : ℕ) (p : Phase) (n : List ℕ) (ss : List Scalar) (es : List ConfEntry) (bs : List ℕ) → IsContent content → (inside ≡ escaped content) ⊎ (inside ≡ escaped content ++ 92 ∷ []) → StringOpen q p n ss es bs inside
 content_part content inside q p n ss es bs is (inl e) = string_part content inside [] q p n ss es bs is (sym e ∙ sym (append-nil inside))
 content_part content inside q p n ss es bs is (inr e) =
     let whole : escaped (content ++ 34 ∷ []) ≡ inside ++ 34 ∷ [] = escaped_mark content 34 quote_escaped ∙ sym (append_assoc (escaped content) (92 ∷ []) (34 ∷ [])) ∙ ap (λ z. z ++ 34 ∷ []) (sym e) in
@@ -90,7 +90,7 @@ string_read text p h = read (from_start text h.before (h.front ++ 34 ∷ h.insid
 -- ---- arrays
 
 -- the place of what is left is known
-halts_from : (c : Bool) (q : ℕ) (text : List ℕ) (es : List Entry) (rest : List ℕ) → BeginsWith text es rest → ((m : ℕ) (over : List ℕ) → m + length rest ≡ length text → Halts c q m (item es over) rest) → Halts c q 0 start text
+halts_from : (c : Bool) (q : ℕ) (text : List ℕ) (es : List ConfEntry) (rest : List ℕ) → BeginsWith text es rest → ((m : ℕ) (over : List ℕ) → m + length rest ≡ length text → Halts c q m (item es over) rest) → Halts c q 0 start text
 halts_from c q text es rest begins on = from (from_start text es rest begins)
   where
     from : FromStart text es rest → Halts c q 0 start text
@@ -119,12 +119,12 @@ array_read text p h =
 
 -- ---- sections
 
-pub begins_last : (es : List Entry) (e : Entry) (text rest : List ℕ) → BeginsWith text (es ++ e ∷ []) rest → (x : List ℕ) × BeginsWith text es (x ++ rest) × IsEntry x e
+pub begins_last : (es : List ConfEntry) (e : ConfEntry) (text rest : List ℕ) → BeginsWith text (es ++ e ∷ []) rest → (x : List ℕ) × BeginsWith text es (x ++ rest) × IsEntry x e
 begins_last [] e text rest (x, more, parts, entry, ends, same) = (x, parts ∙ ap (λ z. x ++ z) same, entry)
 begins_last (f ∷ es) e text rest (x, more, parts, entry, ends, others) =
     let (y, begins, last) = begins_last es e more rest others in (y, (x, more, parts, entry, ends, begins), last)
 
-stopped_more : (n : ℕ) (a : Result (List Entry) ConfRefusal) → IsStopped false n a → IsStopped true n a
+stopped_more : (n : ℕ) (a : Result (List ConfEntry) ConfRefusal) → IsStopped false n a → IsStopped true n a
 stopped_more n (Ok es) h = absurd h
 stopped_more n (Err NoMemory) h = absurd h
 stopped_more n (Err (BadToken p)) h = absurd h
@@ -137,7 +137,7 @@ none_over : (over : List ℕ) (given : List (List (List ℕ))) → length given 
 none_over [] given e f = refl
 none_over (b ∷ over) given e f = absurd (omega (arith, e, f))
 
-inner_halts : (p k m : ℕ) (es inner : List Entry) (inside rest closing over : List ℕ) (e : Entry) → k ≡ p → BeginsWith inside inner rest → IsBalanced inner → 0 < length closing → IsEntry (rest ++ closing) e
+inner_halts : (p k m : ℕ) (es inner : List ConfEntry) (inside rest closing over : List ℕ) (e : ConfEntry) → k ≡ p → BeginsWith inside inner rest → IsBalanced inner → 0 < length closing → IsEntry (rest ++ closing) e
     → AfterEntries false (sections inner) m (item es (k ∷ over)) inside (es ++ inner) (k ∷ over) rest → Halts true p m (item es (k ∷ over)) inside
 inner_halts p k m es inner inside rest closing over e same begins balanced some entry (inl (up, deep, (n, one))) =
     let (chunk, whole) = begins_suffix inner inside rest begins in

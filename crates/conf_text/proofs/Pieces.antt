@@ -4,7 +4,7 @@ use Rattle.std.proofs.lemmas.List.{append-nil}
 use Rattle.std.specs.Prelude.{unwrap_or}
 use Rattle.std.specs.Option.{option_and_then}
 use Rattle.conf_text.specs.Bytes.{kind}
-use Rattle.conf_text.specs.Entries.{Scalar, Entry}
+use Rattle.conf_text.specs.Entries.{Scalar, ConfEntry}
 use Rattle.conf_text.specs.Grammar.{after_gap, gap_byte, IsGap, IsScalar, IsArray, IsEntry, EndsEntry, BeginsWith}
 use Rattle.conf_text.proofs.Steps.{and_then_some}
 
@@ -33,17 +33,17 @@ array_more (u ∷ ss) s t list k y (g, x, h, rest, gap, scalar, gap_h, others, p
 -- ---- texts that begin with entries
 
 -- one entry more
-pub begins_more : (es : List Entry) (text x more : List ℕ) (e : Entry) → BeginsWith text es (x ++ more) → IsEntry x e → EndsEntry e more → BeginsWith text (es ++ e ∷ []) more
+pub begins_more : (es : List ConfEntry) (text x more : List ℕ) (e : ConfEntry) → BeginsWith text es (x ++ more) → IsEntry x e → EndsEntry e more → BeginsWith text (es ++ e ∷ []) more
 begins_more [] text x more e same entry ends = (x, more, same, entry, ends, refl)
 begins_more (f ∷ es) text x more e (y, rest, parts, first, first_ends, others) entry ends = (y, rest, parts, first, first_ends, begins_more es rest x more e others entry ends)
 
 -- more entries
-pub begins_both : (es fs : List Entry) (text middle rest : List ℕ) → BeginsWith text es middle → BeginsWith middle fs rest → BeginsWith text (es ++ fs) rest
+pub begins_both : (es fs : List ConfEntry) (text middle rest : List ℕ) → BeginsWith text es middle → BeginsWith middle fs rest → BeginsWith text (es ++ fs) rest
 begins_both [] fs text middle rest same others = subst (λ x. BeginsWith x fs rest) (sym same) others
 begins_both (e ∷ es) fs text middle rest (x, more, parts, entry, ends, inner) others = (x, more, parts, entry, ends, begins_both es fs more middle rest inner others)
 
 -- the rest is the end of the text
-pub begins_suffix : (es : List Entry) (text rest : List ℕ) → BeginsWith text es rest → (front : List ℕ) × (text ≡ front ++ rest)
+pub begins_suffix : (es : List ConfEntry) (text rest : List ℕ) → BeginsWith text es rest → (front : List ℕ) × (text ≡ front ++ rest)
 begins_suffix [] text rest same = ([], same)
 begins_suffix (e ∷ es) text rest (x, more, parts, entry, ends, others) =
     let (front, same) = begins_suffix es more rest others in (x ++ front, parts ∙ ap (λ z. x ++ z) same ∙ sym (append_assoc x front rest))

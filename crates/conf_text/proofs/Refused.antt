@@ -10,18 +10,18 @@ use Rattle.conf_text.specs.Bytes.{kind}
 use Rattle.conf_text.specs.declared.reader.Mode.TheVariants.{Between, Word}
 use Rattle.conf_text.specs.declared.reader.Phase.{Phase}
 use Rattle.conf_text.specs.declared.reader.Phase.TheVariants.{Item, Named, Wanted, First, Next}
-use Rattle.conf_text.specs.Entries.{Scalar, Entry, sections, is_given, fits_scalar}
+use Rattle.conf_text.specs.Entries.{Scalar, ConfEntry, sections, is_given, fits_scalar}
 use Rattle.conf_text.specs.Grammar.{is_name, is_digit, IsName, IsDigits, EndsWord}
 use Rattle.conf_text.specs.Refusals.{IsBeforeScalar, IsDuplicate, IsTooWide, IsTooDeep}
 use Rattle.conf_text.specs.Reader.{Read, ◌>>=◌, step, outcome, reading, ended, begun, word_ended}
 use Rattle.conf_text.proofs.Steps.{in_state, reaches_then, reaches_step, step_is, name_more, name_begins, digits_more, digit_begins, word_step, both_true, Arrives, wants_scalar}
 use Rattle.conf_text.proofs.Accepted.{between, item, gap_arrives, name_arrives, key_arrives, byte_arrives, gap_ends, mark_ends, array_to_comma, entries_arrive, kind-open_bracket, kind-open_brace}
 
-abbrev refused : ConfRefusal → Result (List Entry) ConfRefusal
+abbrev refused : ConfRefusal → Result (List ConfEntry) ConfRefusal
 refused e = Err e
 
 -- a word that is refused where it ends
-word_refused : (rest : List ℕ) (at : ℕ) (p : Phase) (w n : List ℕ) (ss : List Scalar) (es : List Entry) (bs : List ℕ) (e : ConfRefusal) → EndsWord rest
+word_refused : (rest : List ℕ) (at : ℕ) (p : Phase) (w n : List ℕ) (ss : List Scalar) (es : List ConfEntry) (bs : List ℕ) (e : ConfRefusal) → EndsWord rest
     → word_ended p (at - length w) (in_state Word p w n ss es bs) ≡ Err e → outcome at (in_state Word p w n ss es bs) rest ≡ Err e
 unfolding outcome step ended
 word_refused [] at p w n ss es bs e ends h = rw h refl
@@ -34,7 +34,7 @@ some_given : (given : List (List (List ℕ))) (name : List ℕ) → is_given giv
 some_given [] name h = absurd cc
 some_given (names ∷ outer) name h = omega arith
 
-pub name_refused : (name more : List ℕ) (at place : ℕ) (es : List Entry) (bs : List ℕ) → IsName name → EndsWord more → is_given (sections es) name ≡ true → at ≡ place → outcome at (item es bs) (name ++ more) ≡ Err (DuplicateKey place)
+pub name_refused : (name more : List ℕ) (at place : ℕ) (es : List ConfEntry) (bs : List ℕ) → IsName name → EndsWord more → is_given (sections es) name ≡ true → at ≡ place → outcome at (item es bs) (name ++ more) ≡ Err (DuplicateKey place)
 name_refused [] more at place es bs h ends given same = absurd (h.0 refl)
 name_refused (b ∷ name) more at place es bs h ends given same =
     let (first, others) = both_true (is_name (kind b)) (list_all (λ b. is_name (kind b)) name) h.1 in
@@ -52,10 +52,10 @@ duplicate_refused text place h =
     one.same ∙ ap (outcome a (item h.before bs)) parts ∙ two.same ∙ name_refused h.name h.more m place h.before bs h.name_is h.name_ends h.given same
 
 -- the reader before a scalar, where the earlier ones are read
-AtScalar : ℕ → List ℕ → List ℕ → List ℕ → List Scalar → List Entry → List ℕ → Type 0
+AtScalar : ℕ → List ℕ → List ℕ → List ℕ → List Scalar → List ConfEntry → List ℕ → Type 0
 AtScalar at front rest name earlier es bs = (p : Phase) × (wants_scalar p ≡ true) × Arrives at (item es bs) (front ++ rest) (between p name earlier es bs) rest
 
-scalar_awaited : (earlier : List Scalar) (front name rest : List ℕ) (at : ℕ) (es : List Entry) (bs : List ℕ) → IsBeforeScalar front name earlier → list_all fits_scalar earlier ≡ true → is_given (sections es) name ≡ false → AtScalar at front rest name earlier es bs
+scalar_awaited : (earlier : List Scalar) (front name rest : List ℕ) (at : ℕ) (es : List ConfEntry) (bs : List ℕ) → IsBeforeScalar front name earlier → list_all fits_scalar earlier ≡ true → is_given (sections es) name ≡ false → AtScalar at front rest name earlier es bs
 unfolding AtScalar
 scalar_awaited [] front name rest at es bs (inl key) fits fresh = (Wanted, refl, key_arrives front name rest at es bs key fresh)
 scalar_awaited [] front name rest at es bs (inr (key, g, key_is, gap, parts)) fits fresh =
@@ -72,13 +72,13 @@ scalar_awaited (s ∷ ss) front name rest at es bs (key, list, g, key_is, array,
     let whole : front ++ rest ≡ key ++ 91 ∷ (list ++ 44 ∷ (g ++ rest)) = rw parts (simp append_assoc refl) in
     (Next a, refl, (four.0, rw whole (reaches_then one (reaches_then two.1 (reaches_then three.1 four.1)))))
 
-number_refused : (p : Phase) (at : ℕ) (w n : List ℕ) (ss : List Scalar) (es : List Entry) (bs : List ℕ) (place : ℕ) → wants_scalar p ≡ true → ltb (digits_value 10 w) (2 ^ 64) ≡ false → word_ended p place (in_state Word p w n ss es bs) ≡ Err (NumberTooWide place)
+number_refused : (p : Phase) (at : ℕ) (w n : List ℕ) (ss : List Scalar) (es : List ConfEntry) (bs : List ℕ) (place : ℕ) → wants_scalar p ≡ true → ltb (digits_value 10 w) (2 ^ 64) ≡ false → word_ended p place (in_state Word p w n ss es bs) ≡ Err (NumberTooWide place)
 number_refused Wanted at w n ss es bs place f e = rw e refl
 number_refused (First q) at w n ss es bs place f e = rw e refl
 number_refused (Next q) at w n ss es bs place f e = rw e refl
 number_refused _ at w n ss es bs place f e = absurd cc
 
-pub digits_refused : (p : Phase) (digits more : List ℕ) (at place : ℕ) (n : List ℕ) (ss : List Scalar) (es : List Entry) (bs : List ℕ) → wants_scalar p ≡ true → IsDigits digits → EndsWord more → 2 ^ 64 ≤ digits_value 10 digits → at ≡ place → outcome at (between p n ss es bs) (digits ++ more) ≡ Err (NumberTooWide place)
+pub digits_refused : (p : Phase) (digits more : List ℕ) (at place : ℕ) (n : List ℕ) (ss : List Scalar) (es : List ConfEntry) (bs : List ℕ) → wants_scalar p ≡ true → IsDigits digits → EndsWord more → 2 ^ 64 ≤ digits_value 10 digits → at ≡ place → outcome at (between p n ss es bs) (digits ++ more) ≡ Err (NumberTooWide place)
 digits_refused p [] more at place n ss es bs f h ends wide same = absurd (h.0 refl)
 digits_refused p (b ∷ x) more at place n ss es bs f h ends wide same =
     let (first, others) = both_true (is_digit (kind b)) (list_all (λ b. is_digit (kind b)) x) h.1 in
@@ -97,7 +97,7 @@ too_wide_refused text place h =
     let same : m ≡ place = omega (arith, one.place, two.place, h.place_is, ap length parts) in
     one.same ∙ ap (outcome a (item h.before bs)) parts ∙ two.same ∙ digits_refused p h.digits h.more m place h.name h.earlier h.before bs wants h.digits_are h.digits_end h.wide same
 
-pub deep_step : (at : ℕ) (name : List ℕ) (es : List Entry) (bs rest : List ℕ) → ltb (length (sections es)) 17 ≡ false → outcome at (between Named name [] es bs) (123 ∷ rest) ≡ Err (TooDeep at)
+pub deep_step : (at : ℕ) (name : List ℕ) (es : List ConfEntry) (bs rest : List ℕ) → ltb (length (sections es)) 17 ≡ false → outcome at (between Named name [] es bs) (123 ∷ rest) ≡ Err (TooDeep at)
 unfolding outcome
 deep_step at name es bs rest deep =
     let one : step at 123 (between Named name [] es bs) ≡ Err (TooDeep at) = step_is Between OpenBrace 123 at (between Named name [] es bs) refl kind-open_brace ∙ rw deep refl in

@@ -13,7 +13,7 @@ use Rattle.conf_text.specs.declared.reader.Mode.{Mode}
 use Rattle.conf_text.specs.declared.reader.Mode.TheVariants.{Between, Comment, Word, String, Escape}
 use Rattle.conf_text.specs.declared.reader.Phase.{Phase}
 use Rattle.conf_text.specs.declared.reader.Phase.TheVariants.{Item, Named, Wanted, First, Next, After}
-use Rattle.conf_text.specs.Entries.{Scalar, Number, Text, Value, One, Entry, Assign, sections, is_given, fits_scalar, scalars_of, keeps_limits}
+use Rattle.conf_text.specs.Entries.{Scalar, Number, Text, Value, One, ConfEntry, Assign, sections, is_given, fits_scalar, scalars_of, keeps_limits}
 use Rattle.conf_text.specs.Grammar.{is_digit, is_allowed, is_escaped, after_gap, IsName, IsDigits, IsContent, escaped, EndsWord, IsScalar, IsEntry, EndsEntry, Spells}
 use Rattle.conf_text.specs.Refusals.{Begins, IsDuplicate, IsTooWide, IsTooDeep}
 use Rattle.conf_text.specs.Reader.{Reader}
@@ -55,17 +55,17 @@ pub record Stands (P : List ℕ → Type 0) (x : List ℕ) (r : Reader) : Type 0
   pub tail : IsTail base r.mode r.phase r.word r.name r.scalars front
 
 -- why a text is refused before its end, by a byte from this place on
-abbrev pub Told : ℕ → List ℕ → ConfRefusal → Type 0
-Told from text NoMemory = ⊥
-Told from text (BadToken p) = (from ≤ p) × (p ≤ length text) × Begins (take p text)
-Told from text (Unclosed p) = ⊥
-Told from text (DuplicateKey p) = IsDuplicate text p × Begins (take (suc p) text)
-Told from text (NumberTooWide p) = IsTooWide text p × Begins (take (suc p) text)
-Told from text (TooDeep p) = IsTooDeep text p × Begins (take (suc p) text)
+abbrev pub RefusedEarly : ℕ → List ℕ → ConfRefusal → Type 0
+RefusedEarly from text NoMemory = ⊥
+RefusedEarly from text (BadToken p) = (from ≤ p) × (p ≤ length text) × Begins (take p text)
+RefusedEarly from text (Unclosed p) = ⊥
+RefusedEarly from text (DuplicateKey p) = IsDuplicate text p × Begins (take (suc p) text)
+RefusedEarly from text (NumberTooWide p) = IsTooWide text p × Begins (take (suc p) text)
+RefusedEarly from text (TooDeep p) = IsTooDeep text p × Begins (take (suc p) text)
 
 -- ---- going on
 
-pub weaken : {P Q : List ℕ → Type 0} (x : List ℕ) (es : List Entry) (bs front : List ℕ) → ((y : List ℕ) → Q y → P y) → Upto P x es bs front → Upto Q x es bs front
+pub weaken : {P Q : List ℕ → Type 0} (x : List ℕ) (es : List ConfEntry) (bs front : List ℕ) → ((y : List ℕ) → Q y → P y) → Upto P x es bs front → Upto Q x es bs front
 weaken x es bs front may h = record { opened = h.opened; inside = h.inside; done = h.done; inner = h.inner; bytes = h.bytes; listed = h.listed; stack = h.stack; balanced = h.balanced; entries = λ y q. h.entries y (may y q); limits = h.limits }
 
 -- a byte that ends no entry
@@ -82,11 +82,11 @@ goes_on x b r may h m p w n ss fresh fit early tail = record {
 }
 
 -- an entry may begin
-pub new_entry : {P : List ℕ → Type 0} (x : List ℕ) (es : List Entry) (bs : List ℕ) → Upto P x es bs [] → Stands P x (item es bs)
+pub new_entry : {P : List ℕ → Type 0} (x : List ℕ) (es : List ConfEntry) (bs : List ℕ) → Upto P x es bs [] → Stands P x (item es bs)
 new_entry x es bs h = record { base = length x; front = []; upto = h; place = omega arith; fresh = tt; fit = refl; early = refl; tail = (refl, refl) }
 
 -- a byte that ends a key's entry
-pub ends_key : {P : List ℕ → Type 0} (x : List ℕ) (b : ℕ) (r : Reader) → ((y : List ℕ) → P (b ∷ y)) → (h : Stands P x r) → (e : Entry) → IsAssign e → IsEntry (h.front ++ b ∷ []) e → ((y : List ℕ) → EndsEntry e y) → keeps_limits (sections r.entries) e ≡ true → Stands Any (x ++ b ∷ []) (item (r.entries ++ e ∷ []) r.braces)
+pub ends_key : {P : List ℕ → Type 0} (x : List ℕ) (b : ℕ) (r : Reader) → ((y : List ℕ) → P (b ∷ y)) → (h : Stands P x r) → (e : ConfEntry) → IsAssign e → IsEntry (h.front ++ b ∷ []) e → ((y : List ℕ) → EndsEntry e y) → keeps_limits (sections r.entries) e ≡ true → Stands Any (x ++ b ∷ []) (item (r.entries ++ e ∷ []) r.braces)
 ends_key x b r may h e is entry ends keeps =
     new_entry (x ++ b ∷ []) (r.entries ++ e ∷ []) r.braces
     (assigned (x ++ b ∷ []) r.entries r.braces (h.front ++ b ∷ []) e is entry (λ y any. any) (λ y any. ends y) keeps (grow x b r.entries r.braces h.front may h.upto))
@@ -106,14 +106,14 @@ pub begins_front : (x y : List ℕ) (n : ℕ) → n ≤ length x → Begins x �
 begins_front x y n less begins = subst Begins (sym (take-append-le n x y less)) (begins_less x n begins)
 
 -- a byte is refused here, and what is before it goes on otherwise
-pub bad_here : (x : List ℕ) (at : ℕ) (y : List ℕ) → at ≡ length x → Begins x → Told (length x) (x ++ y) (BadToken at)
+pub bad_here : (x : List ℕ) (at : ℕ) (y : List ℕ) → at ≡ length x → Begins x → RefusedEarly (length x) (x ++ y) (BadToken at)
 bad_here x at y same begins = (
   omega (arith, same),
   omega (arith, same, length-append x y),
   subst Begins (sym (ap (λ n. take n (x ++ y)) same ∙ take-append_seam x y)) begins,
 )
 
-pub front_begins : {P : List ℕ → Type 0} (x : List ℕ) (p : Phase) (base : ℕ) (n : List ℕ) (ss : List Scalar) (es : List Entry) (bs front : List ℕ) → ((y : List ℕ) → EndsWord y → P y) → Upto P x es bs front → IsFront base p n ss front → Begins x
+pub front_begins : {P : List ℕ → Type 0} (x : List ℕ) (p : Phase) (base : ℕ) (n : List ℕ) (ss : List Scalar) (es : List ConfEntry) (bs front : List ℕ) → ((y : List ℕ) → EndsWord y → P y) → Upto P x es bs front → IsFront base p n ss front → Begins x
 front_begins x p base n ss es bs front may h is =
     let (b, more, e, ends, entry, assign) = front_completes p base n ss front is in
     viable x es bs front (b ∷ more) e assign entry (λ y. may (b ∷ (more ++ y)) ends) h

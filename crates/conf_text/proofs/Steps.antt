@@ -8,7 +8,7 @@ use Rattle.conf_text.specs.declared.kind.Kind.{Kind}
 use Rattle.conf_text.specs.declared.kind.Kind.TheVariants.{Digit, Letter, Blank, LineFeed, Hash, Quote, Backslash, Zero}
 use Rattle.conf_text.specs.Bytes.{kind}
 use Rattle.std.specs.Str.Parse.{digits_value}
-use Rattle.conf_text.specs.Entries.{Scalar, Number, Text, One, Entry, Assign, fits_scalar}
+use Rattle.conf_text.specs.Entries.{Scalar, Number, Text, One, ConfEntry, Assign, fits_scalar}
 use Rattle.conf_text.specs.Grammar.{is_digit, is_name, is_allowed, is_escaped, gap_byte, after_gap, EndsWord, escaped, IsScalar}
 use Rattle.conf_text.specs.declared.reader.Mode.{Mode}
 use Rattle.conf_text.specs.declared.reader.Mode.TheVariants.{Between, Comment, Word, String, Escape}
@@ -17,7 +17,7 @@ use Rattle.conf_text.specs.declared.reader.Phase.TheVariants.{Item, Wanted, Firs
 use Rattle.conf_text.specs.Reader.{Reader, Read, ◌>>=◌, in_mode, step, outcome, ended, with_scalar, word_ended, begun}
 
 -- a reader in this mode
-abbrev pub in_state : Mode → Phase → List ℕ → List ℕ → List Scalar → List Entry → List ℕ → Reader
+abbrev pub in_state : Mode → Phase → List ℕ → List ℕ → List Scalar → List ConfEntry → List ℕ → Reader
 in_state m p w n ss es bs = record { mode = m; phase = p; word = w; name = n; scalars = ss; entries = es; braces = bs }
 
 -- From this place and reader, reading the text comes to that place and reader, with the rest to read.
@@ -40,7 +40,7 @@ abbrev pub gap_mode : Bool → Mode
 gap_mode true = Comment
 gap_mode false = Between
 
-gap_step : (c : Bool) (k : Kind) (b at : ℕ) (p : Phase) (w n : List ℕ) (ss : List Scalar) (es : List Entry) (bs : List ℕ) (d : Bool) → gap_byte c k ≡ Some d → in_mode (gap_mode c) k b at (in_state (gap_mode c) p w n ss es bs) ≡ Ok (in_state (gap_mode d) p w n ss es bs)
+gap_step : (c : Bool) (k : Kind) (b at : ℕ) (p : Phase) (w n : List ℕ) (ss : List Scalar) (es : List ConfEntry) (bs : List ℕ) (d : Bool) → gap_byte c k ≡ Some d → in_mode (gap_mode c) k b at (in_state (gap_mode c) p w n ss es bs) ≡ Ok (in_state (gap_mode d) p w n ss es bs)
 gap_step true LineFeed b at p w n ss es bs d e = ap (λ o. Ok (in_state (gap_mode (unwrap_or o false)) p w n ss es bs)) e
 gap_step true Zero b at p w n ss es bs d e = absurd cc
 gap_step true _ b at p w n ss es bs d e = ap (λ o. Ok (in_state (gap_mode (unwrap_or o false)) p w n ss es bs)) e
@@ -54,7 +54,7 @@ unfolding step
 step_is m k b at r e f = ap (λ x. in_mode x (kind b) b at r) e ∙ ap (λ x. in_mode m x b at r) f
 
 -- a byte between tokens
-gap_byte_step : (c : Bool) (b at : ℕ) (p : Phase) (w n : List ℕ) (ss : List Scalar) (es : List Entry) (bs : List ℕ) (d : Bool) → gap_byte c (kind b) ≡ Some d → step at b (in_state (gap_mode c) p w n ss es bs) ≡ Ok (in_state (gap_mode d) p w n ss es bs)
+gap_byte_step : (c : Bool) (b at : ℕ) (p : Phase) (w n : List ℕ) (ss : List Scalar) (es : List ConfEntry) (bs : List ℕ) (d : Bool) → gap_byte c (kind b) ≡ Some d → step at b (in_state (gap_mode c) p w n ss es bs) ≡ Ok (in_state (gap_mode d) p w n ss es bs)
 gap_byte_step c b at p w n ss es bs d e =
     step_is (gap_mode c) (kind b) b at (in_state (gap_mode c) p w n ss es bs) refl refl ∙ gap_step c (kind b) b at p w n ss es bs d e
 
@@ -63,7 +63,7 @@ and_then_some f None d e = absurd cc
 and_then_some f (Some c) d e = (c, refl, e)
 
 -- bytes between tokens
-pub gap_reaches : (c : Bool) (g rest : List ℕ) (at : ℕ) (p : Phase) (w n : List ℕ) (ss : List Scalar) (es : List Entry) (bs : List ℕ) (d : Bool) → after_gap c g ≡ Some d → Reaches at (in_state (gap_mode c) p w n ss es bs) (g ++ rest) (at + length g) (in_state (gap_mode d) p w n ss es bs) rest
+pub gap_reaches : (c : Bool) (g rest : List ℕ) (at : ℕ) (p : Phase) (w n : List ℕ) (ss : List Scalar) (es : List ConfEntry) (bs : List ℕ) (d : Bool) → after_gap c g ≡ Some d → Reaches at (in_state (gap_mode c) p w n ss es bs) (g ++ rest) (at + length g) (in_state (gap_mode d) p w n ss es bs) rest
 gap_reaches c [] rest at p w n ss es bs d e =
     let same : c ≡ d = ap (λ o. unwrap_or o false) e in
     subst (λ x. Reaches at (in_state (gap_mode c) p w n ss es bs) rest (at + 0) (in_state (gap_mode x) p w n ss es bs) rest) same (subst (λ k. Reaches at (in_state (gap_mode c) p w n ss es bs) rest k (in_state (gap_mode c) p w n ss es bs) rest) (omega arith) (reaches_itself at (in_state (gap_mode c) p w n ss es bs) rest))
@@ -75,17 +75,17 @@ gap_reaches c (b ∷ g) rest at p w n ss es bs d e =
     subst (λ k. Reaches at (in_state (gap_mode c) p w n ss es bs) (b ∷ (g ++ rest)) k (in_state (gap_mode d) p w n ss es bs) rest) place (reaches_then one more)
 
 -- bytes of a name
-pub name_step : (k : Kind) (b at : ℕ) (w n : List ℕ) (ss : List Scalar) (es : List Entry) (bs : List ℕ) → is_name k ≡ true → in_mode Word k b at (in_state Word Item w n ss es bs) ≡ Ok (in_state Word Item (w ++ b ∷ []) n ss es bs)
+pub name_step : (k : Kind) (b at : ℕ) (w n : List ℕ) (ss : List Scalar) (es : List ConfEntry) (bs : List ℕ) → is_name k ≡ true → in_mode Word k b at (in_state Word Item w n ss es bs) ≡ Ok (in_state Word Item (w ++ b ∷ []) n ss es bs)
 name_step Digit b at w n ss es bs e = refl
 name_step Letter b at w n ss es bs e = refl
 name_step _ b at w n ss es bs e = absurd cc
 
-pub name_begins : (k : Kind) (b at : ℕ) (n : List ℕ) (ss : List Scalar) (es : List Entry) (bs : List ℕ) → is_name k ≡ true → in_mode Between k b at (in_state Between Item [] n ss es bs) ≡ Ok (in_state Word Item (b ∷ []) n ss es bs)
+pub name_begins : (k : Kind) (b at : ℕ) (n : List ℕ) (ss : List Scalar) (es : List ConfEntry) (bs : List ℕ) → is_name k ≡ true → in_mode Between k b at (in_state Between Item [] n ss es bs) ≡ Ok (in_state Word Item (b ∷ []) n ss es bs)
 name_begins Digit b at n ss es bs e = refl
 name_begins Letter b at n ss es bs e = refl
 name_begins _ b at n ss es bs e = absurd cc
 
-digit_step : (k : Kind) (b at : ℕ) (p : Phase) (w n : List ℕ) (ss : List Scalar) (es : List Entry) (bs : List ℕ) → is_digit k ≡ true → in_mode Word k b at (in_state Word p w n ss es bs) ≡ Ok (in_state Word p (w ++ b ∷ []) n ss es bs)
+digit_step : (k : Kind) (b at : ℕ) (p : Phase) (w n : List ℕ) (ss : List Scalar) (es : List ConfEntry) (bs : List ℕ) → is_digit k ≡ true → in_mode Word k b at (in_state Word p w n ss es bs) ≡ Ok (in_state Word p (w ++ b ∷ []) n ss es bs)
 digit_step Digit b at p w n ss es bs e = refl
 digit_step _ b at p w n ss es bs e = absurd cc
 
@@ -96,7 +96,7 @@ wants_scalar (First q) = true
 wants_scalar (Next q) = true
 wants_scalar _ = false
 
-pub digit_begins : (k : Kind) (b at : ℕ) (p : Phase) (n : List ℕ) (ss : List Scalar) (es : List Entry) (bs : List ℕ) → wants_scalar p ≡ true → is_digit k ≡ true → in_mode Between k b at (in_state Between p [] n ss es bs) ≡ Ok (in_state Word p (b ∷ []) n ss es bs)
+pub digit_begins : (k : Kind) (b at : ℕ) (p : Phase) (n : List ℕ) (ss : List Scalar) (es : List ConfEntry) (bs : List ℕ) → wants_scalar p ≡ true → is_digit k ≡ true → in_mode Between k b at (in_state Between p [] n ss es bs) ≡ Ok (in_state Word p (b ∷ []) n ss es bs)
 digit_begins Digit b at Wanted n ss es bs f e = refl
 digit_begins Digit b at (First q) n ss es bs f e = refl
 digit_begins Digit b at (Next q) n ss es bs f e = refl
@@ -108,7 +108,7 @@ both_true true b e = (refl, e)
 both_true false b e = absurd cc
 
 -- more bytes of a name
-pub name_more : (x rest : List ℕ) (at : ℕ) (w n : List ℕ) (ss : List Scalar) (es : List Entry) (bs : List ℕ) → list_all (λ b. is_name (kind b)) x ≡ true → Reaches at (in_state Word Item w n ss es bs) (x ++ rest) (at + length x) (in_state Word Item (w ++ x) n ss es bs) rest
+pub name_more : (x rest : List ℕ) (at : ℕ) (w n : List ℕ) (ss : List Scalar) (es : List ConfEntry) (bs : List ℕ) → list_all (λ b. is_name (kind b)) x ≡ true → Reaches at (in_state Word Item w n ss es bs) (x ++ rest) (at + length x) (in_state Word Item (w ++ x) n ss es bs) rest
 name_more [] rest at w n ss es bs e = rw (append-nil, add-zero) (reaches_itself at (in_state Word Item w n ss es bs) rest)
 name_more (b ∷ x) rest at w n ss es bs e =
     let (first, others) = both_true (is_name (kind b)) (list_all (λ b. is_name (kind b)) x) e in
@@ -118,7 +118,7 @@ name_more (b ∷ x) rest at w n ss es bs e =
     let both = reaches_then one more in
     rw (← place, ← append_assoc w (b ∷ []) x) both
 
-pub digits_more : (x rest : List ℕ) (at : ℕ) (p : Phase) (w n : List ℕ) (ss : List Scalar) (es : List Entry) (bs : List ℕ) → list_all (λ b. is_digit (kind b)) x ≡ true → Reaches at (in_state Word p w n ss es bs) (x ++ rest) (at + length x) (in_state Word p (w ++ x) n ss es bs) rest
+pub digits_more : (x rest : List ℕ) (at : ℕ) (p : Phase) (w n : List ℕ) (ss : List Scalar) (es : List ConfEntry) (bs : List ℕ) → list_all (λ b. is_digit (kind b)) x ≡ true → Reaches at (in_state Word p w n ss es bs) (x ++ rest) (at + length x) (in_state Word p (w ++ x) n ss es bs) rest
 digits_more [] rest at p w n ss es bs e = rw (append-nil, add-zero) (reaches_itself at (in_state Word p w n ss es bs) rest)
 digits_more (b ∷ x) rest at p w n ss es bs e =
     let (first, others) = both_true (is_digit (kind b)) (list_all (λ b. is_digit (kind b)) x) e in
@@ -134,7 +134,7 @@ word_step p Digit b at r f e = absurd cc
 word_step p Letter b at r f e = absurd cc
 word_step p _ b at r f e = refl
 
-pub word_ends : (rest : List ℕ) (at : ℕ) (p p' : Phase) (w n n' : List ℕ) (ss ss' : List Scalar) (es es' : List Entry) (bs bs' : List ℕ) → EndsWord rest
+pub word_ends : (rest : List ℕ) (at : ℕ) (p p' : Phase) (w n n' : List ℕ) (ss ss' : List Scalar) (es es' : List ConfEntry) (bs bs' : List ℕ) → EndsWord rest
     → word_ended p (at - length w) (in_state Word p w n ss es bs) ≡ Ok (in_state Between p' [] n' ss' es' bs') → Reaches at (in_state Word p w n ss es bs) rest at (in_state Between p' [] n' ss' es' bs') rest
 unfolding outcome step ended
 word_ends [] at p p' w n n' ss ss' es es' bs bs' ends e = record { same = rw e refl; place = refl }
@@ -154,20 +154,20 @@ pub kind-backslash : kind 92 ≡ Backslash
 unfolding kind
 kind-backslash = refl
 
-plain_step : (k : Kind) (b at q : ℕ) (p : Phase) (w n : List ℕ) (ss : List Scalar) (es : List Entry) (bs : List ℕ) → is_allowed k ≡ true → is_escaped k ≡ false → in_mode (String q) k b at (in_state (String q) p w n ss es bs) ≡ Ok (in_state (String q) p (w ++ b ∷ []) n ss es bs)
+plain_step : (k : Kind) (b at q : ℕ) (p : Phase) (w n : List ℕ) (ss : List Scalar) (es : List ConfEntry) (bs : List ℕ) → is_allowed k ≡ true → is_escaped k ≡ false → in_mode (String q) k b at (in_state (String q) p w n ss es bs) ≡ Ok (in_state (String q) p (w ++ b ∷ []) n ss es bs)
 plain_step LineFeed b at q p w n ss es bs e f = absurd cc
 plain_step Zero b at q p w n ss es bs e f = absurd cc
 plain_step Quote b at q p w n ss es bs e f = absurd cc
 plain_step Backslash b at q p w n ss es bs e f = absurd cc
 plain_step _ b at q p w n ss es bs e f = refl
 
-escaped_step : (k : Kind) (b at q : ℕ) (p : Phase) (w n : List ℕ) (ss : List Scalar) (es : List Entry) (bs : List ℕ) → is_escaped k ≡ true → in_mode (Escape q) k b at (in_state (Escape q) p w n ss es bs) ≡ Ok (in_state (String q) p (w ++ b ∷ []) n ss es bs)
+escaped_step : (k : Kind) (b at q : ℕ) (p : Phase) (w n : List ℕ) (ss : List Scalar) (es : List ConfEntry) (bs : List ℕ) → is_escaped k ≡ true → in_mode (Escape q) k b at (in_state (Escape q) p w n ss es bs) ≡ Ok (in_state (String q) p (w ++ b ∷ []) n ss es bs)
 escaped_step Quote b at q p w n ss es bs e = refl
 escaped_step Backslash b at q p w n ss es bs e = refl
 escaped_step _ b at q p w n ss es bs e = absurd cc
 
 -- one byte of a string
-pub letter_reaches : (c : Bool) (b : ℕ) (rest : List ℕ) (at q : ℕ) (p : Phase) (w n : List ℕ) (ss : List Scalar) (es : List Entry) (bs : List ℕ) → is_allowed (kind b) ≡ true → is_escaped (kind b) ≡ c
+pub letter_reaches : (c : Bool) (b : ℕ) (rest : List ℕ) (at q : ℕ) (p : Phase) (w n : List ℕ) (ss : List Scalar) (es : List ConfEntry) (bs : List ℕ) → is_allowed (kind b) ≡ true → is_escaped (kind b) ≡ c
     → (m : ℕ) × Reaches at (in_state (String q) p w n ss es bs) (cond c (92 ∷ b ∷ rest) (b ∷ rest)) m (in_state (String q) p (w ++ b ∷ []) n ss es bs) rest
 letter_reaches false b rest at q p w n ss es bs e f =
     (at + 1, reaches_step at b (in_state (String q) p w n ss es bs) (in_state (String q) p (w ++ b ∷ []) n ss es bs) rest (step_is (String q) (kind b) b at (in_state (String q) p w n ss es bs) refl refl ∙ plain_step (kind b) b at q p w n ss es bs e f))
@@ -180,7 +180,7 @@ pub cond-append : (c : Bool) (x y rest : List ℕ) → (cond c x y) ++ rest ≡ 
 cond-append true x y rest = refl
 cond-append false x y rest = refl
 
-pub string_more : (s rest : List ℕ) (at q : ℕ) (p : Phase) (w n : List ℕ) (ss : List Scalar) (es : List Entry) (bs : List ℕ) → list_all (λ b. is_allowed (kind b)) s ≡ true
+pub string_more : (s rest : List ℕ) (at q : ℕ) (p : Phase) (w n : List ℕ) (ss : List Scalar) (es : List ConfEntry) (bs : List ℕ) → list_all (λ b. is_allowed (kind b)) s ≡ true
     → (m : ℕ) × Reaches at (in_state (String q) p w n ss es bs) (escaped s ++ rest) m (in_state (String q) p (w ++ s) n ss es bs) rest
 string_more [] rest at q p w n ss es bs e = (at, rw append-nil (reaches_itself at (in_state (String q) p w n ss es bs) rest))
 string_more (b ∷ s) rest at q p w n ss es bs e =
@@ -196,7 +196,7 @@ abbrev pub EndsScalar : Scalar → List ℕ → Type 0
 EndsScalar (Number n) rest = EndsWord rest
 EndsScalar (Text s) rest = Unit {0}
 
-pub quote_begins : (p : Phase) (at : ℕ) (n : List ℕ) (ss : List Scalar) (es : List Entry) (bs : List ℕ) → wants_scalar p ≡ true → in_mode Between Quote 34 at (in_state Between p [] n ss es bs) ≡ Ok (in_state (String at) p [] n ss es bs)
+pub quote_begins : (p : Phase) (at : ℕ) (n : List ℕ) (ss : List Scalar) (es : List ConfEntry) (bs : List ℕ) → wants_scalar p ≡ true → in_mode Between Quote 34 at (in_state Between p [] n ss es bs) ≡ Ok (in_state (String at) p [] n ss es bs)
 quote_begins Wanted at n ss es bs f = refl
 quote_begins (First q) at n ss es bs f = refl
 quote_begins (Next q) at n ss es bs f = refl
@@ -208,20 +208,20 @@ Arrives at r text s rest = (m : ℕ) × Reaches at r text m s rest
 pub arrives_then : {at : ℕ} {r s t : Reader} {x y z : List ℕ} → Arrives at r x s y → ((m : ℕ) → Arrives m s y t z) → Arrives at r x t z
 arrives_then p q = ((q p.0).0, reaches_then p.1 (q p.0).1)
 
-number_ends : (p : Phase) (at : ℕ) (w n : List ℕ) (ss : List Scalar) (es : List Entry) (bs rest : List ℕ) → wants_scalar p ≡ true → ltb (digits_value 10 w) (2 ^ 64) ≡ true → EndsWord rest
+number_ends : (p : Phase) (at : ℕ) (w n : List ℕ) (ss : List Scalar) (es : List ConfEntry) (bs rest : List ℕ) → wants_scalar p ≡ true → ltb (digits_value 10 w) (2 ^ 64) ≡ true → EndsWord rest
     → Reaches at (in_state Word p w n ss es bs) rest at (with_scalar p (in_state Between p [] n ss es bs) (Number (digits_value 10 w))) rest
 number_ends Wanted at w n ss es bs rest f e ends = word_ends rest at Wanted Item w n [] ss [] es (es ++ Assign n (One (Number (digits_value 10 w))) ∷ []) bs bs ends (rw e refl)
 number_ends (First q) at w n ss es bs rest f e ends = word_ends rest at (First q) (After q) w n n ss (ss ++ Number (digits_value 10 w) ∷ []) es es bs bs ends (rw e refl)
 number_ends (Next q) at w n ss es bs rest f e ends = word_ends rest at (Next q) (After q) w n n ss (ss ++ Number (digits_value 10 w) ∷ []) es es bs bs ends (rw e refl)
 number_ends _ at w n ss es bs rest f e ends = absurd cc
 
-string_ends : (p : Phase) (at q : ℕ) (w n : List ℕ) (ss : List Scalar) (es : List Entry) (bs : List ℕ) → wants_scalar p ≡ true → in_mode (String q) Quote 34 at (in_state (String q) p w n ss es bs) ≡ Ok (with_scalar p (in_state Between p [] n ss es bs) (Text w))
+string_ends : (p : Phase) (at q : ℕ) (w n : List ℕ) (ss : List Scalar) (es : List ConfEntry) (bs : List ℕ) → wants_scalar p ≡ true → in_mode (String q) Quote 34 at (in_state (String q) p w n ss es bs) ≡ Ok (with_scalar p (in_state Between p [] n ss es bs) (Text w))
 string_ends Wanted at q w n ss es bs f = refl
 string_ends (First p) at q w n ss es bs f = refl
 string_ends (Next p) at q w n ss es bs f = refl
 string_ends _ at q w n ss es bs f = absurd cc
 
-pub scalar_arrives : (s : Scalar) (x rest : List ℕ) (at : ℕ) (p : Phase) (n : List ℕ) (ss : List Scalar) (es : List Entry) (bs : List ℕ) → wants_scalar p ≡ true → IsScalar x s → fits_scalar s ≡ true → EndsScalar s rest
+pub scalar_arrives : (s : Scalar) (x rest : List ℕ) (at : ℕ) (p : Phase) (n : List ℕ) (ss : List Scalar) (es : List ConfEntry) (bs : List ℕ) → wants_scalar p ≡ true → IsScalar x s → fits_scalar s ≡ true → EndsScalar s rest
     → Arrives at (in_state Between p [] n ss es bs) (x ++ rest) (with_scalar p (in_state Between p [] n ss es bs) s) rest
 scalar_arrives (Number k) [] rest at p n ss es bs f h e ends = absurd (h.0.0 refl)
 scalar_arrives (Number k) (b ∷ x) rest at p n ss es bs f h e ends =

@@ -9,7 +9,7 @@ use Rattle.conf_text.specs.declared.reader.Mode.{Mode}
 use Rattle.conf_text.specs.declared.reader.Mode.TheVariants.{Between, Comment, Word, String, Escape}
 use Rattle.conf_text.specs.declared.reader.Phase.{Phase}
 use Rattle.conf_text.specs.declared.reader.Phase.TheVariants.{Item, Named, Wanted, First, Next, After}
-use Rattle.conf_text.specs.Entries.{Scalar, Text, Entry, Open}
+use Rattle.conf_text.specs.Entries.{Scalar, Text, ConfEntry, Open}
 use Rattle.conf_text.specs.Grammar.{after_gap, IsGap, IsLastGap, IsContent, escaped, EndsWord, IsArray, IsKey, BeginsWith, IsTextOf}
 use Rattle.conf_text.specs.Refusals.{Begins, IsBeforeScalar, IsOpenString, IsOpenArray, IsOpenBrace}
 use Rattle.conf_text.specs.ReaderViews.{IsWordOf}
@@ -17,7 +17,7 @@ use Rattle.conf_text.specs.Reader.{Reader, Read, ◌>>=◌, start, step, outcome
 use Rattle.conf_text.proofs.Fronts.{IsFront, IsEarly, IsList, Completes, completes, before_first, before_wanted, before_next, front_completes}
 use Rattle.conf_text.specs.Bytes.{kind}
 use Rattle.conf_text.proofs.Pieces.{gap_gap, gap_append, array_gap, array_more, begins_suffix}
-use Rattle.conf_text.proofs.Standing.{IsTail, Stands, Told, front_begins, stands_begins, tail_completes}
+use Rattle.conf_text.proofs.Standing.{IsTail, Stands, RefusedEarly, front_begins, stands_begins, tail_completes}
 use Rattle.conf_text.proofs.Stepping.{Good}
 use Rattle.conf_text.proofs.Steps.{in_state, wants_scalar}
 use Rattle.conf_text.proofs.Upto.{Upto, Any, IsStack, stack_begins, upto_begins, upto_depth}
@@ -27,16 +27,16 @@ use Rattle.conf_text.proofs.WordStepping.{Ended, step_good, word_ended_good}
 abbrev pub IsOpen : List ℕ → ℕ → Type 0
 IsOpen text p = IsOpenString text p ⊎ (IsOpenArray text p ⊎ IsOpenBrace text p)
 
-abbrev pub Tells : ℕ → List ℕ → Result (List Entry) ConfRefusal → Type 0
+abbrev pub Tells : ℕ → List ℕ → Result (List ConfEntry) ConfRefusal → Type 0
 Tells from text (Ok es) = IsTextOf text es
 Tells from text (Err (Unclosed p)) = Begins text × IsOpen text p
 Tells from text (Err NoMemory) = ⊥
-Tells from text (Err (BadToken p)) = Told from text (BadToken p)
-Tells from text (Err (DuplicateKey p)) = Told from text (DuplicateKey p)
-Tells from text (Err (NumberTooWide p)) = Told from text (NumberTooWide p)
-Tells from text (Err (TooDeep p)) = Told from text (TooDeep p)
+Tells from text (Err (BadToken p)) = RefusedEarly from text (BadToken p)
+Tells from text (Err (DuplicateKey p)) = RefusedEarly from text (DuplicateKey p)
+Tells from text (Err (NumberTooWide p)) = RefusedEarly from text (NumberTooWide p)
+Tells from text (Err (TooDeep p)) = RefusedEarly from text (TooDeep p)
 
-tells_told : (from : ℕ) (text : List ℕ) (e : ConfRefusal) → Told from text e → Tells from text (Err e)
+tells_told : (from : ℕ) (text : List ℕ) (e : ConfRefusal) → RefusedEarly from text e → Tells from text (Err e)
 tells_told from text NoMemory h = h
 tells_told from text (BadToken p) h = h
 tells_told from text (Unclosed p) h = absurd h
@@ -45,7 +45,7 @@ tells_told from text (NumberTooWide p) h = h
 tells_told from text (TooDeep p) h = h
 
 -- from an earlier place
-tells_before : (from n : ℕ) (text : List ℕ) (a : Result (List Entry) ConfRefusal) → from ≤ n → Tells n text a → Tells from text a
+tells_before : (from n : ℕ) (text : List ℕ) (a : Result (List ConfEntry) ConfRefusal) → from ≤ n → Tells n text a → Tells from text a
 tells_before from n text (Ok es) less h = h
 tells_before from n text (Err (Unclosed p)) less h = h
 tells_before from n text (Err NoMemory) less h = h
@@ -57,7 +57,7 @@ tells_before from n text (Err (TooDeep p)) less h = h
 -- ---- the end of the text
 
 -- the text ends here
-at_end : {P : List ℕ → Type 0} (x : List ℕ) (es : List Entry) (bs front : List ℕ) → Upto P x es bs front → P [] → BeginsWith x es front
+at_end : {P : List ℕ → Type 0} (x : List ℕ) (es : List ConfEntry) (bs front : List ℕ) → Upto P x es bs front → P [] → BeginsWith x es front
 at_end x es bs front h may = subst (λ z. BeginsWith z es front) (append-nil x) (subst (λ z. BeginsWith (x ++ []) es z) (append-nil front) (upto_begins x es bs front [] h may))
 
 before_scalar : (p : Phase) (base : ℕ) (n : List ℕ) (ss : List Scalar) (f : List ℕ) → wants_scalar p ≡ true → IsEarly p ss → IsFront base p n ss f → IsBeforeScalar f n ss
@@ -66,7 +66,7 @@ before_scalar (First q) base n ss f wants early is = before_first base q n ss f 
 before_scalar (Next q) base n ss f wants early is = before_next base q n ss f is
 before_scalar _ base n ss f wants early is = absurd cc
 
-string_open : (x : List ℕ) (q : ℕ) (m : Mode) (p : Phase) (w n : List ℕ) (ss : List Scalar) (es : List Entry) (bs g inside : List ℕ) → (h : Stands Any x (in_state m p w n ss es bs)) → wants_scalar p ≡ true → IsFront h.base p n ss g → IsContent w → (inside ≡ escaped w) ⊎ (inside ≡ escaped w ++ 92 ∷ []) → h.front ≡ g ++ (34 ∷ inside) → q ≡ h.base + length g → IsOpenString x q
+string_open : (x : List ℕ) (q : ℕ) (m : Mode) (p : Phase) (w n : List ℕ) (ss : List Scalar) (es : List ConfEntry) (bs g inside : List ℕ) → (h : Stands Any x (in_state m p w n ss es bs)) → wants_scalar p ≡ true → IsFront h.base p n ss g → IsContent w → (inside ≡ escaped w) ⊎ (inside ≡ escaped w ++ 92 ∷ []) → h.front ≡ g ++ (34 ∷ inside) → q ≡ h.base + length g → IsOpenString x q
 string_open x q m p w n ss es bs g inside h wants is content inside_is parts place = record {
   before = es;
   front = g;
@@ -114,7 +114,7 @@ array_part (After a) q base n ss f g c t e (key, list, key_is, list_is, parts, p
     (key, list ++ c, t, ss, key_is, whole ∙ ap (λ z. z ++ c) parts ∙ simp append_assoc refl, list_closed ss list c t list_is more, sym same ∙ place)
 array_part _ q base n ss f g c t e is more whole = absurd cc
 
-array_open : {P : List ℕ → Type 0} (x : List ℕ) (q base : ℕ) (n : List ℕ) (es : List Entry) (bs front : List ℕ) → Upto P x es bs front → P [] → base + length front ≡ length x → ArrayPart base q n front → IsOpenArray x q
+array_open : {P : List ℕ → Type 0} (x : List ℕ) (q base : ℕ) (n : List ℕ) (es : List ConfEntry) (bs front : List ℕ) → Upto P x es bs front → P [] → base + length front ≡ length x → ArrayPart base q n front → IsOpenArray x q
 array_open x q base n es bs front h may place (key, inside, closing, scalars, key_is, parts, array, at) = record {
   before = es;
   key = key;
@@ -128,7 +128,7 @@ array_open x q base n es bs front h may place (key, inside, closing, scalars, ke
   place_is = omega (arith, at, place, ap length parts, length-append key (91 ∷ inside));
 }
 
-brace_open : {P : List ℕ → Type 0} (x : List ℕ) (p : ℕ) (es : List Entry) (bs front : List ℕ) → Upto P x es (p ∷ bs) front → P [] → Completes front → IsOpenBrace x p
+brace_open : {P : List ℕ → Type 0} (x : List ℕ) (p : ℕ) (es : List ConfEntry) (bs front : List ℕ) → Upto P x es (p ∷ bs) front → P [] → Completes front → IsOpenBrace x p
 brace_open x p es bs front h may (closing, e, some, entry, assign) = open_ h.stack
   where
     open_ : IsStack (p ∷ bs) h.opened h.done → IsOpenBrace x p
@@ -150,7 +150,7 @@ brace_open x p es bs front h may (closing, e, some, entry, assign) = open_ h.sta
         }
 
 -- the end between tokens: a front, with a comment that may be open
-record Rest (P : List ℕ → Type 0) (x : List ℕ) (p : Phase) (n : List ℕ) (ss : List Scalar) (es : List Entry) (bs : List ℕ) : Type 0 where
+record Rest (P : List ℕ → Type 0) (x : List ℕ) (p : Phase) (n : List ℕ) (ss : List Scalar) (es : List ConfEntry) (bs : List ℕ) : Type 0 where
   base : ℕ
   front : List ℕ
   upto : Upto P x es bs front
@@ -173,7 +173,7 @@ item_last g c gap last = last_of (after_gap false c) refl last
     last_of None e h = absurd cc
     last_of (Some d) e h = subst IsSome (sym (gap_append false g c false d gap e)) refl
 
-between_told : {P : List ℕ → Type 0} (p : Phase) (x n : List ℕ) (ss : List Scalar) (es : List Entry) (bs : List ℕ) (r : Reader) → r.entries ≡ es → Rest P x p n ss es bs → Tells (length x) x (ended_between p bs (length x) r)
+between_told : {P : List ℕ → Type 0} (p : Phase) (x n : List ℕ) (ss : List Scalar) (es : List ConfEntry) (bs : List ℕ) (r : Reader) → r.entries ≡ es → Rest P x p n ss es bs → Tells (length x) x (ended_between p bs (length x) r)
 between_told (First q) x n ss es bs r e h = (h.begins, inr (inl (array_open x q h.base n es bs h.front h.upto h.may h.place (array_part (First q) q h.base n ss h.front h.g h.c h.t refl h.is h.gap h.whole))))
 between_told (Next q) x n ss es bs r e h = (h.begins, inr (inl (array_open x q h.base n es bs h.front h.upto h.may h.place (array_part (Next q) q h.base n ss h.front h.g h.c h.t refl h.is h.gap h.whole))))
 between_told (After q) x n ss es bs r e h = (h.begins, inr (inl (array_open x q h.base n es bs h.front h.upto h.may h.place (array_part (After q) q h.base n ss h.front h.g h.c h.t refl h.is h.gap h.whole))))
@@ -188,7 +188,7 @@ between_told Item x n ss es [] r e h =
 between_told Named x n ss es [] r e h = (omega arith, omega arith, subst Begins (sym (take-length x)) h.begins)
 between_told Wanted x n ss es [] r e h = (omega arith, omega arith, subst Begins (sym (take-length x)) h.begins)
 
-rest_between : {P : List ℕ → Type 0} (x : List ℕ) (p : Phase) (w n : List ℕ) (ss : List Scalar) (es : List Entry) (bs : List ℕ) → ((y : List ℕ) → EndsWord y → P y) → Stands P x (in_state Between p w n ss es bs) → Rest P x p n ss es bs
+rest_between : {P : List ℕ → Type 0} (x : List ℕ) (p : Phase) (w n : List ℕ) (ss : List Scalar) (es : List ConfEntry) (bs : List ℕ) → ((y : List ℕ) → EndsWord y → P y) → Stands P x (in_state Between p w n ss es bs) → Rest P x p n ss es bs
 rest_between x p w n ss es bs weak h = record {
   base = h.base;
   front = h.front;
@@ -213,7 +213,7 @@ feed_gap : (c : List ℕ) → after_gap false c ≡ Some true → IsGap (c ++ 10
 unfolding kind
 feed_gap c e = gap_append false c (10 ∷ []) true false e refl
 
-rest_comment : (x : List ℕ) (p : Phase) (w n : List ℕ) (ss : List Scalar) (es : List Entry) (bs : List ℕ) → (h : Stands Any x (in_state Comment p w n ss es bs)) → IsTail h.base Comment p w n ss h.front → Rest Any x p n ss es bs
+rest_comment : (x : List ℕ) (p : Phase) (w n : List ℕ) (ss : List Scalar) (es : List ConfEntry) (bs : List ℕ) → (h : Stands Any x (in_state Comment p w n ss es bs)) → IsTail h.base Comment p w n ss h.front → Rest Any x p n ss es bs
 rest_comment x p w n ss es bs h (g, c, none, is, comment, parts) = record {
   base = h.base;
   front = h.front;
@@ -235,15 +235,15 @@ word_told : (x : List ℕ) (a : Read) → Ended x a → Tells (length x) x (a >>
 word_told x (Ok s) (h, is) = between_told s.phase x s.name s.scalars s.entries s.braces s refl (rest_between x s.phase [] s.name s.scalars s.entries s.braces (λ y q. q) (subst (Stands EndsWord x) is h))
 word_told x (Err e) told = subst (λ z. Tells (length x) z (Err e)) (append-nil x) (tells_told (length x) (x ++ []) e (told [] tt))
 
-string_told : (x : List ℕ) (q : ℕ) (p : Phase) (w n : List ℕ) (ss : List Scalar) (es : List Entry) (bs : List ℕ) → (h : Stands Any x (in_state (String q) p w n ss es bs)) → IsTail h.base (String q) p w n ss h.front → Tells (length x) x (Err (Unclosed q))
+string_told : (x : List ℕ) (q : ℕ) (p : Phase) (w n : List ℕ) (ss : List Scalar) (es : List ConfEntry) (bs : List ℕ) → (h : Stands Any x (in_state (String q) p w n ss es bs)) → IsTail h.base (String q) p w n ss h.front → Tells (length x) x (Err (Unclosed q))
 string_told x q p w n ss es bs h (g, is, wants, content, parts, place) =
     (stands_begins x (in_state (String q) p w n ss es bs) h, inl (string_open x q (String q) p w n ss es bs g (escaped w) h wants is content (inl refl) parts place))
 
-escape_told : (x : List ℕ) (q : ℕ) (p : Phase) (w n : List ℕ) (ss : List Scalar) (es : List Entry) (bs : List ℕ) → (h : Stands Any x (in_state (Escape q) p w n ss es bs)) → IsTail h.base (Escape q) p w n ss h.front → Tells (length x) x (Err (Unclosed q))
+escape_told : (x : List ℕ) (q : ℕ) (p : Phase) (w n : List ℕ) (ss : List Scalar) (es : List ConfEntry) (bs : List ℕ) → (h : Stands Any x (in_state (Escape q) p w n ss es bs)) → IsTail h.base (Escape q) p w n ss h.front → Tells (length x) x (Err (Unclosed q))
 escape_told x q p w n ss es bs h (g, is, wants, content, parts, place) =
     (stands_begins x (in_state (Escape q) p w n ss es bs) h, inl (string_open x q (Escape q) p w n ss es bs g (escaped w ++ 92 ∷ []) h wants is content (inr refl) parts place))
 
-mode_told : (x : List ℕ) (m : Mode) (p : Phase) (w n : List ℕ) (ss : List Scalar) (es : List Entry) (bs : List ℕ) → Stands Any x (in_state m p w n ss es bs) → Tells (length x) x (ended_in m (length x) (in_state m p w n ss es bs))
+mode_told : (x : List ℕ) (m : Mode) (p : Phase) (w n : List ℕ) (ss : List Scalar) (es : List ConfEntry) (bs : List ℕ) → Stands Any x (in_state m p w n ss es bs) → Tells (length x) x (ended_in m (length x) (in_state m p w n ss es bs))
 mode_told x Between p w n ss es bs h = between_told p x n ss es bs (in_state Between p w n ss es bs) refl (rest_between x p w n ss es bs (λ y q. tt) h)
 mode_told x Comment p w n ss es bs h = between_told p x n ss es bs (in_state Comment p w n ss es bs) refl (rest_comment x p w n ss es bs h h.tail)
 mode_told x Word p w n ss es bs h = word_told x (word_ended p (length x - length w) (in_state Word p w n ss es bs)) (word_ended_good p x w n ss es bs h h.tail)
@@ -290,7 +290,7 @@ reading_told text = outcome_told text [] 0 start refl starts
 not_before : (y x : List ℕ) (at p : ℕ) (r : Reader) → at ≡ length x → Stands Any x r → outcome at r y ≡ Err (BadToken p) → length x ≤ p
 not_before y x at p r same h e = (subst (Tells (length x) (x ++ y)) e (outcome_told y x at r same h)).0
 
-both_bad : (x : List ℕ) (b p : ℕ) (a : Read) (f g : Reader → Result (List Entry) ConfRefusal) → Good x b a → ((s : Reader) → Stands Any (x ++ b ∷ []) s → f s ≡ Err (BadToken p) → g s ≡ Err (BadToken p)) → (a >>= f) ≡ Err (BadToken p) → (a >>= g) ≡ Err (BadToken p)
+both_bad : (x : List ℕ) (b p : ℕ) (a : Read) (f g : Reader → Result (List ConfEntry) ConfRefusal) → Good x b a → ((s : Reader) → Stands Any (x ++ b ∷ []) s → f s ≡ Err (BadToken p) → g s ≡ Err (BadToken p)) → (a >>= f) ≡ Err (BadToken p) → (a >>= g) ≡ Err (BadToken p)
 both_bad x b p (Ok s) f g h on e = on s h e
 both_bad x b p (Err d) f g h on e = e
 

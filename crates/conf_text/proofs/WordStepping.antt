@@ -12,7 +12,7 @@ use Rattle.conf_text.specs.declared.reader.Mode.{Mode}
 use Rattle.conf_text.specs.declared.reader.Mode.TheVariants.{Between, Comment, Word, String, Escape}
 use Rattle.conf_text.specs.declared.reader.Phase.{Phase}
 use Rattle.conf_text.specs.declared.reader.Phase.TheVariants.{Item, Named, Wanted, First, Next, After}
-use Rattle.conf_text.specs.Entries.{Scalar, Number, Text, One, Entry, Assign, sections, is_given, fits_scalar}
+use Rattle.conf_text.specs.Entries.{Scalar, Number, Text, One, ConfEntry, Assign, sections, is_given, fits_scalar}
 use Rattle.conf_text.specs.Grammar.{is_name, is_allowed, is_escaped, after_gap, IsName, IsDigits, escaped, EndsWord, IsEntry, BeginsWith}
 use Rattle.conf_text.specs.Refusals.{Begins, IsBeforeScalar}
 use Rattle.conf_text.specs.Reader.{Reader, Read, ◌>>=◌, with_scalar, begun, word_ended, in_word, in_string, in_escape, in_comment, in_mode, step}
@@ -20,7 +20,7 @@ use Rattle.conf_text.proofs.Accepted.{between, item}
 use Rattle.conf_text.proofs.ByteOf.{byte_of}
 use Rattle.conf_text.proofs.Fronts.{IsFront, front_gap, front_name, front_first, front_next, entry_scalar, before_first, before_wanted, before_next}
 use Rattle.conf_text.proofs.Pieces.{gap_append}
-use Rattle.conf_text.proofs.Standing.{IsWordFor, IsTail, Stands, Told, weaken, goes_on, new_entry, ends_key, keeps_key, bad_here, begins_front, stands_begins, quoted, content_more, escaped_plain, escaped_mark, digit_more}
+use Rattle.conf_text.proofs.Standing.{IsWordFor, IsTail, Stands, RefusedEarly, weaken, goes_on, new_entry, ends_key, keeps_key, bad_here, begins_front, stands_begins, quoted, content_more, escaped_plain, escaped_mark, digit_more}
 use Rattle.conf_text.proofs.Stepping.{Good, begun_good}
 use Rattle.conf_text.proofs.Steps.{in_state, wants_scalar}
 use Rattle.conf_text.proofs.Upto.{Any, assigned, upto_begins, upto_depth}
@@ -28,7 +28,7 @@ use Rattle.conf_text.proofs.Upto.{Any, assigned, upto_begins, upto_depth}
 -- the word ends: the reader stands between tokens, where no byte of a name comes next
 abbrev pub Ended : List ℕ → Read → Type 0
 Ended x (Ok s) = Stands EndsWord x s × (s ≡ between s.phase s.name s.scalars s.entries s.braces)
-Ended x (Err e) = (y : List ℕ) → EndsWord y → Told (length x) (x ++ y) e
+Ended x (Err e) = (y : List ℕ) → EndsWord y → RefusedEarly (length x) (x ++ y) e
 
 word_place : (x g w : List ℕ) (base : ℕ) → base + length (g ++ w) ≡ length x → (length x - length w) + length w ≡ length x
 word_place x g w base h = omega (arith, h, length-append g w)
@@ -40,11 +40,11 @@ some_length (b ∷ w) h = omega arith
 word_begins : (x y w : List ℕ) (r : Reader) → w ≢ [] → (length x - length w) + length w ≡ length x → Stands Any x r → Begins (take (suc (length x - length w)) (x ++ y))
 word_begins x y w r some place h = begins_front x y (suc (length x - length w)) (omega (arith, place, some_length w some)) (stands_begins x r h)
 
-named_ended : (c : Bool) (x w n : List ℕ) (ss : List Scalar) (es : List Entry) (bs : List ℕ) → is_given (sections es) w ≡ c → Stands Any x (in_state Word Item w n ss es bs)
+named_ended : (c : Bool) (x w n : List ℕ) (ss : List Scalar) (es : List ConfEntry) (bs : List ℕ) → is_given (sections es) w ≡ c → Stands Any x (in_state Word Item w n ss es bs)
     → Ended x (cond c (Err (DuplicateKey (length x - length w))) (Ok (between Named w ss es bs)))
 named_ended true x w n ss es bs e h = told h.tail
   where
-    told : IsTail h.base Word Item w n ss h.front → (y : List ℕ) → EndsWord y → Told (length x) (x ++ y) (DuplicateKey (length x - length w))
+    told : IsTail h.base Word Item w n ss h.front → (y : List ℕ) → EndsWord y → RefusedEarly (length x) (x ++ y) (DuplicateKey (length x - length w))
     told (g, gap, name, parts) y ends = (
       record {
         before = es;
@@ -78,7 +78,7 @@ named_ended false x w n ss es bs e h = told h.tail
       refl,
     )
 
-too_wide : (x w n : List ℕ) (p : Phase) (ss : List Scalar) (es : List Entry) (bs g y : List ℕ) → (h : Stands Any x (in_state Word p w n ss es bs)) → h.front ≡ g ++ w → is_given (sections es) n ≡ false → IsBeforeScalar g n ss → IsDigits w → ltb (digits_value 10 w) (2 ^ 64) ≡ false → EndsWord y → Told (length x) (x ++ y) (NumberTooWide (length x - length w))
+too_wide : (x w n : List ℕ) (p : Phase) (ss : List Scalar) (es : List ConfEntry) (bs g y : List ℕ) → (h : Stands Any x (in_state Word p w n ss es bs)) → h.front ≡ g ++ w → is_given (sections es) n ≡ false → IsBeforeScalar g n ss → IsDigits w → ltb (digits_value 10 w) (2 ^ 64) ≡ false → EndsWord y → RefusedEarly (length x) (x ++ y) (NumberTooWide (length x - length w))
 too_wide x w n p ss es bs g y h parts fresh before digits wide ends = (
   record {
     before = es;
@@ -104,7 +104,7 @@ too_wide x w n p ss es bs g y h parts fresh before digits wide ends = (
 fits_one : (k : ℕ) → ltb k (2 ^ 64) ≡ true → list_all fits_scalar (Number k ∷ []) ≡ true
 fits_one k e = rw e refl
 
-number_entry : (x w n : List ℕ) (ss : List Scalar) (es : List Entry) (bs : List ℕ) → ltb (digits_value 10 w) (2 ^ 64) ≡ true → Stands Any x (in_state Word Wanted w n ss es bs)
+number_entry : (x w n : List ℕ) (ss : List Scalar) (es : List ConfEntry) (bs : List ℕ) → ltb (digits_value 10 w) (2 ^ 64) ≡ true → Stands Any x (in_state Word Wanted w n ss es bs)
     → Ended x (Ok (item (es ++ Assign n (One (Number (digits_value 10 w))) ∷ []) bs))
 number_entry x w n ss es bs fits h = told h.tail
   where
@@ -119,7 +119,7 @@ number_entry x w n ss es bs fits h = told h.tail
 fits_more : (ss : List Scalar) (s : Scalar) → list_all fits_scalar ss ≡ true → fits_scalar s ≡ true → list_all fits_scalar (ss ++ s ∷ []) ≡ true
 fits_more ss s h e = list_all-append fits_scalar ss (s ∷ []) ∙ rw (h, e) refl
 
-number_first : (q : ℕ) (x w n : List ℕ) (ss : List Scalar) (es : List Entry) (bs : List ℕ) → ltb (digits_value 10 w) (2 ^ 64) ≡ true → Stands Any x (in_state Word (First q) w n ss es bs)
+number_first : (q : ℕ) (x w n : List ℕ) (ss : List Scalar) (es : List ConfEntry) (bs : List ℕ) → ltb (digits_value 10 w) (2 ^ 64) ≡ true → Stands Any x (in_state Word (First q) w n ss es bs)
     → Ended x (Ok (between (After q) n (ss ++ Number (digits_value 10 w) ∷ []) es bs))
 number_first q x w n ss es bs fits h = told h.tail
   where
@@ -138,7 +138,7 @@ number_first q x w n ss es bs fits h = told h.tail
       refl,
     )
 
-number_next : (q : ℕ) (x w n : List ℕ) (ss : List Scalar) (es : List Entry) (bs : List ℕ) → ltb (digits_value 10 w) (2 ^ 64) ≡ true → Stands Any x (in_state Word (Next q) w n ss es bs)
+number_next : (q : ℕ) (x w n : List ℕ) (ss : List Scalar) (es : List ConfEntry) (bs : List ℕ) → ltb (digits_value 10 w) (2 ^ 64) ≡ true → Stands Any x (in_state Word (Next q) w n ss es bs)
     → Ended x (Ok (between (After q) n (ss ++ Number (digits_value 10 w) ∷ []) es bs))
 number_next q x w n ss es bs fits h = told h.tail
   where
@@ -157,7 +157,7 @@ number_next q x w n ss es bs fits h = told h.tail
       refl,
     )
 
-numbered_ended : (c : Bool) (p : Phase) (x w n : List ℕ) (ss : List Scalar) (es : List Entry) (bs : List ℕ) → ltb (digits_value 10 w) (2 ^ 64) ≡ c → (h : Stands Any x (in_state Word p w n ss es bs)) → IsTail h.base Word p w n ss h.front → wants_scalar p ≡ true
+numbered_ended : (c : Bool) (p : Phase) (x w n : List ℕ) (ss : List Scalar) (es : List ConfEntry) (bs : List ℕ) → ltb (digits_value 10 w) (2 ^ 64) ≡ c → (h : Stands Any x (in_state Word p w n ss es bs)) → IsTail h.base Word p w n ss h.front → wants_scalar p ≡ true
     → Ended x (cond c (Ok (with_scalar p (between p n ss es bs) (Number (digits_value 10 w)))) (Err (NumberTooWide (length x - length w))))
 numbered_ended true Wanted x w n ss es bs e h tail wants = number_entry x w n ss es bs e h
 numbered_ended true (First q) x w n ss es bs e h tail wants = number_first q x w n ss es bs e h
@@ -167,7 +167,7 @@ numbered_ended false (First q) x w n ss es bs e h (g, is, digits, parts) wants =
 numbered_ended false (Next q) x w n ss es bs e h (g, is, digits, parts) wants = λ y ends. too_wide x w n (Next q) ss es bs g y h parts h.fresh (before_next h.base q n ss g is) digits e ends
 numbered_ended c _ x w n ss es bs e h tail wants = absurd cc
 
-pub word_ended_good : (p : Phase) (x w n : List ℕ) (ss : List Scalar) (es : List Entry) (bs : List ℕ) → (h : Stands Any x (in_state Word p w n ss es bs)) → IsTail h.base Word p w n ss h.front → Ended x (word_ended p (length x - length w) (in_state Word p w n ss es bs))
+pub word_ended_good : (p : Phase) (x w n : List ℕ) (ss : List Scalar) (es : List ConfEntry) (bs : List ℕ) → (h : Stands Any x (in_state Word p w n ss es bs)) → IsTail h.base Word p w n ss h.front → Ended x (word_ended p (length x - length w) (in_state Word p w n ss es bs))
 word_ended_good Item x w n ss es bs h tail = named_ended (is_given (sections es) w) x w n ss es bs refl h
 word_ended_good Wanted x w n ss es bs h tail = numbered_ended (ltb (digits_value 10 w) (2 ^ 64)) Wanted x w n ss es bs refl h tail refl
 word_ended_good (First q) x w n ss es bs h tail = numbered_ended (ltb (digits_value 10 w) (2 ^ 64)) (First q) x w n ss es bs refl h tail refl
@@ -189,7 +189,7 @@ word_digit (Next q) w b h e = digit_more w b h e
 word_digit Named w b h e = absurd h
 word_digit (After q) w b h e = absurd h
 
-in_word_more : (x : List ℕ) (b : ℕ) (p : Phase) (w n : List ℕ) (ss : List Scalar) (es : List Entry) (bs : List ℕ) → (h : Stands Any x (in_state Word p w n ss es bs)) → IsTail h.base Word p w n ss h.front → IsWordFor p (w ++ b ∷ []) → Good x b (Ok (in_state Word p (w ++ b ∷ []) n ss es bs))
+in_word_more : (x : List ℕ) (b : ℕ) (p : Phase) (w n : List ℕ) (ss : List Scalar) (es : List ConfEntry) (bs : List ℕ) → (h : Stands Any x (in_state Word p w n ss es bs)) → IsTail h.base Word p w n ss h.front → IsWordFor p (w ++ b ∷ []) → Good x b (Ok (in_state Word p (w ++ b ∷ []) n ss es bs))
 in_word_more x b p w n ss es bs h (g, is, word, parts) more =
     goes_on x b (in_state Word p w n ss es bs) (λ y. tt) h Word p (w ++ b ∷ []) n ss h.fresh h.fit h.early (g, is, more, ap (λ z. z ++ b ∷ []) parts ∙ append_assoc g w (b ∷ []))
 
@@ -202,7 +202,7 @@ then_begun (Ok s) x k b at same e other (h, is) =
     subst (λ z. Good x b (begun s.phase k b at z)) (sym is) (begun_good x s.phase k b at s.name s.scalars s.entries s.braces same e (subst (Stands EndsWord x) is h, λ y. word, λ y q. q))
 then_begun (Err f) x k b at same e other told = λ y. told (b ∷ y) (ap is_name e ∙ other)
 
-in_word_good : (x : List ℕ) (p : Phase) (k : Kind) (b at : ℕ) (w n : List ℕ) (ss : List Scalar) (es : List Entry) (bs : List ℕ) → at ≡ length x → kind b ≡ k → (h : Stands Any x (in_state Word p w n ss es bs)) → IsTail h.base Word p w n ss h.front → Good x b (in_word p k b at (in_state Word p w n ss es bs))
+in_word_good : (x : List ℕ) (p : Phase) (k : Kind) (b at : ℕ) (w n : List ℕ) (ss : List Scalar) (es : List ConfEntry) (bs : List ℕ) → at ≡ length x → kind b ≡ k → (h : Stands Any x (in_state Word p w n ss es bs)) → IsTail h.base Word p w n ss h.front → Good x b (in_word p k b at (in_state Word p w n ss es bs))
 in_word_good x p Digit b at w n ss es bs same e h tail = in_word_more x b p w n ss es bs h tail (word_digit p w b tail.2 e)
 in_word_good x Item Letter b at w n ss es bs same e h tail = in_word_more x b Item w n ss es bs h tail (name_more w b tail.2 (ap is_name e))
 in_word_good x _ Letter b at w n ss es bs same e h tail = bad_inside x b at (in_state Word _ w n ss es bs) same h
@@ -212,25 +212,25 @@ in_word_good x p k b at w n ss es bs same e h tail =
 
 -- ---- strings
 
-string_entry : (x : List ℕ) (b q : ℕ) (w n : List ℕ) (ss : List Scalar) (es : List Entry) (bs : List ℕ) → kind b ≡ Quote → (h : Stands Any x (in_state (String q) Wanted w n ss es bs)) → IsTail h.base (String q) Wanted w n ss h.front → Good x b (Ok (item (es ++ Assign n (One (Text w)) ∷ []) bs))
+string_entry : (x : List ℕ) (b q : ℕ) (w n : List ℕ) (ss : List Scalar) (es : List ConfEntry) (bs : List ℕ) → kind b ≡ Quote → (h : Stands Any x (in_state (String q) Wanted w n ss es bs)) → IsTail h.base (String q) Wanted w n ss h.front → Good x b (Ok (item (es ++ Assign n (One (Text w)) ∷ []) bs))
 string_entry x b q w n ss es bs e h (g, is, wants, content, parts, place) =
     let whole : g ++ (34 ∷ (escaped w ++ 34 ∷ [])) ≡ h.front ++ b ∷ [] = rw (parts, byte_of b Quote e) (simp append_assoc refl) in
     let entry = subst (λ z. IsEntry z (Assign n (One (Text w)))) whole (entry_scalar h.base n ss (Text w) g (34 ∷ (escaped w ++ 34 ∷ [])) is (quoted w content)) in
     ends_key x b (in_state (String q) Wanted w n ss es bs) (λ y. tt) h (Assign n (One (Text w))) tt entry (λ y. tt) (keeps_key (sections es) n (One (Text w)) h.fresh refl)
 
-string_first : (x : List ℕ) (b q a : ℕ) (w n : List ℕ) (ss : List Scalar) (es : List Entry) (bs : List ℕ) → kind b ≡ Quote → (h : Stands Any x (in_state (String q) (First a) w n ss es bs)) → IsTail h.base (String q) (First a) w n ss h.front → Good x b (Ok (between (After a) n (ss ++ Text w ∷ []) es bs))
+string_first : (x : List ℕ) (b q a : ℕ) (w n : List ℕ) (ss : List Scalar) (es : List ConfEntry) (bs : List ℕ) → kind b ≡ Quote → (h : Stands Any x (in_state (String q) (First a) w n ss es bs)) → IsTail h.base (String q) (First a) w n ss h.front → Good x b (Ok (between (After a) n (ss ++ Text w ∷ []) es bs))
 string_first x b q a w n ss es bs e h (g, is, wants, content, parts, place) =
     let whole : g ++ (34 ∷ (escaped w ++ 34 ∷ [])) ≡ h.front ++ b ∷ [] = rw (parts, byte_of b Quote e) (simp append_assoc refl) in
     goes_on x b (in_state (String q) (First a) w n ss es bs) (λ y. tt) h Between (After a) [] n (ss ++ Text w ∷ []) h.fresh (fits_more ss (Text w) h.fit refl) tt
     (refl, subst (λ z. IsFront h.base (After a) n (ss ++ Text w ∷ []) z) whole (front_first h.base a n ss (Text w) g (34 ∷ (escaped w ++ 34 ∷ [])) h.early is (quoted w content)))
 
-string_next : (x : List ℕ) (b q a : ℕ) (w n : List ℕ) (ss : List Scalar) (es : List Entry) (bs : List ℕ) → kind b ≡ Quote → (h : Stands Any x (in_state (String q) (Next a) w n ss es bs)) → IsTail h.base (String q) (Next a) w n ss h.front → Good x b (Ok (between (After a) n (ss ++ Text w ∷ []) es bs))
+string_next : (x : List ℕ) (b q a : ℕ) (w n : List ℕ) (ss : List Scalar) (es : List ConfEntry) (bs : List ℕ) → kind b ≡ Quote → (h : Stands Any x (in_state (String q) (Next a) w n ss es bs)) → IsTail h.base (String q) (Next a) w n ss h.front → Good x b (Ok (between (After a) n (ss ++ Text w ∷ []) es bs))
 string_next x b q a w n ss es bs e h (g, is, wants, content, parts, place) =
     let whole : g ++ (34 ∷ (escaped w ++ 34 ∷ [])) ≡ h.front ++ b ∷ [] = rw (parts, byte_of b Quote e) (simp append_assoc refl) in
     goes_on x b (in_state (String q) (Next a) w n ss es bs) (λ y. tt) h Between (After a) [] n (ss ++ Text w ∷ []) h.fresh (fits_more ss (Text w) h.fit refl) tt
     (refl, subst (λ z. IsFront h.base (After a) n (ss ++ Text w ∷ []) z) whole (front_next h.base a n ss (Text w) g (34 ∷ (escaped w ++ 34 ∷ [])) is (quoted w content)))
 
-string_ends : (p : Phase) (x : List ℕ) (b q : ℕ) (w n : List ℕ) (ss : List Scalar) (es : List Entry) (bs : List ℕ) → kind b ≡ Quote → (h : Stands Any x (in_state (String q) p w n ss es bs)) → IsTail h.base (String q) p w n ss h.front → Good x b (Ok (with_scalar p (between p n ss es bs) (Text w)))
+string_ends : (p : Phase) (x : List ℕ) (b q : ℕ) (w n : List ℕ) (ss : List Scalar) (es : List ConfEntry) (bs : List ℕ) → kind b ≡ Quote → (h : Stands Any x (in_state (String q) p w n ss es bs)) → IsTail h.base (String q) p w n ss h.front → Good x b (Ok (with_scalar p (between p n ss es bs) (Text w)))
 string_ends Wanted x b q w n ss es bs e h tail = string_entry x b q w n ss es bs e h tail
 string_ends (First a) x b q w n ss es bs e h tail = string_first x b q a w n ss es bs e h tail
 string_ends (Next a) x b q w n ss es bs e h tail = string_next x b q a w n ss es bs e h tail
@@ -238,29 +238,29 @@ string_ends Item x b q w n ss es bs e h (g, is, wants, content, parts, place) = 
 string_ends Named x b q w n ss es bs e h (g, is, wants, content, parts, place) = absurd cc
 string_ends (After a) x b q w n ss es bs e h (g, is, wants, content, parts, place) = absurd cc
 
-string_more : (x : List ℕ) (b q : ℕ) (p : Phase) (w n : List ℕ) (ss : List Scalar) (es : List Entry) (bs : List ℕ) → is_allowed (kind b) ≡ true → is_escaped (kind b) ≡ false → (h : Stands Any x (in_state (String q) p w n ss es bs)) → IsTail h.base (String q) p w n ss h.front → Good x b (Ok (in_state (String q) p (w ++ b ∷ []) n ss es bs))
+string_more : (x : List ℕ) (b q : ℕ) (p : Phase) (w n : List ℕ) (ss : List Scalar) (es : List ConfEntry) (bs : List ℕ) → is_allowed (kind b) ≡ true → is_escaped (kind b) ≡ false → (h : Stands Any x (in_state (String q) p w n ss es bs)) → IsTail h.base (String q) p w n ss h.front → Good x b (Ok (in_state (String q) p (w ++ b ∷ []) n ss es bs))
 string_more x b q p w n ss es bs allowed plain h (g, is, wants, content, parts, place) =
     let whole : h.front ++ b ∷ [] ≡ g ++ (34 ∷ escaped (w ++ b ∷ [])) = ap (λ z. z ++ b ∷ []) parts ∙ append_assoc g (34 ∷ escaped w) (b ∷ []) ∙ ap (λ z. g ++ (34 ∷ z)) (sym (escaped_plain w b plain)) in
     goes_on x b (in_state (String q) p w n ss es bs) (λ y. tt) h (String q) p (w ++ b ∷ []) n ss h.fresh h.fit h.early (g, is, wants, content_more w b content allowed, whole, place)
 
-string_escape : (x : List ℕ) (b q : ℕ) (p : Phase) (w n : List ℕ) (ss : List Scalar) (es : List Entry) (bs : List ℕ) → kind b ≡ Backslash → (h : Stands Any x (in_state (String q) p w n ss es bs)) → IsTail h.base (String q) p w n ss h.front → Good x b (Ok (in_state (Escape q) p w n ss es bs))
+string_escape : (x : List ℕ) (b q : ℕ) (p : Phase) (w n : List ℕ) (ss : List Scalar) (es : List ConfEntry) (bs : List ℕ) → kind b ≡ Backslash → (h : Stands Any x (in_state (String q) p w n ss es bs)) → IsTail h.base (String q) p w n ss h.front → Good x b (Ok (in_state (Escape q) p w n ss es bs))
 string_escape x b q p w n ss es bs e h (g, is, wants, content, parts, place) =
     let whole : h.front ++ b ∷ [] ≡ g ++ (34 ∷ (escaped w ++ 92 ∷ [])) = ap (λ z. z ++ b ∷ []) parts ∙ append_assoc g (34 ∷ escaped w) (b ∷ []) ∙ ap (λ z. g ++ (34 ∷ (escaped w ++ z ∷ []))) (byte_of b Backslash e) in
     goes_on x b (in_state (String q) p w n ss es bs) (λ y. tt) h (Escape q) p w n ss h.fresh h.fit h.early (g, is, wants, content, whole, place)
 
-in_string_good : (x : List ℕ) (q : ℕ) (k : Kind) (b at : ℕ) (p : Phase) (w n : List ℕ) (ss : List Scalar) (es : List Entry) (bs : List ℕ) → at ≡ length x → kind b ≡ k → (h : Stands Any x (in_state (String q) p w n ss es bs)) → IsTail h.base (String q) p w n ss h.front → Good x b (in_string q k b at (in_state (String q) p w n ss es bs))
+in_string_good : (x : List ℕ) (q : ℕ) (k : Kind) (b at : ℕ) (p : Phase) (w n : List ℕ) (ss : List Scalar) (es : List ConfEntry) (bs : List ℕ) → at ≡ length x → kind b ≡ k → (h : Stands Any x (in_state (String q) p w n ss es bs)) → IsTail h.base (String q) p w n ss h.front → Good x b (in_string q k b at (in_state (String q) p w n ss es bs))
 in_string_good x q Quote b at p w n ss es bs same e h tail = string_ends p x b q w n ss es bs e h tail
 in_string_good x q Backslash b at p w n ss es bs same e h tail = string_escape x b q p w n ss es bs e h tail
 in_string_good x q LineFeed b at p w n ss es bs same e h tail = bad_inside x b at (in_state (String q) p w n ss es bs) same h
 in_string_good x q Zero b at p w n ss es bs same e h tail = bad_inside x b at (in_state (String q) p w n ss es bs) same h
 in_string_good x q _ b at p w n ss es bs same e h tail = string_more x b q p w n ss es bs (ap is_allowed e) (ap is_escaped e) h tail
 
-escape_more : (x : List ℕ) (b q : ℕ) (p : Phase) (w n : List ℕ) (ss : List Scalar) (es : List Entry) (bs : List ℕ) → is_allowed (kind b) ≡ true → is_escaped (kind b) ≡ true → (h : Stands Any x (in_state (Escape q) p w n ss es bs)) → IsTail h.base (Escape q) p w n ss h.front → Good x b (Ok (in_state (String q) p (w ++ b ∷ []) n ss es bs))
+escape_more : (x : List ℕ) (b q : ℕ) (p : Phase) (w n : List ℕ) (ss : List Scalar) (es : List ConfEntry) (bs : List ℕ) → is_allowed (kind b) ≡ true → is_escaped (kind b) ≡ true → (h : Stands Any x (in_state (Escape q) p w n ss es bs)) → IsTail h.base (Escape q) p w n ss h.front → Good x b (Ok (in_state (String q) p (w ++ b ∷ []) n ss es bs))
 escape_more x b q p w n ss es bs allowed mark h (g, is, wants, content, parts, place) =
     let whole : h.front ++ b ∷ [] ≡ g ++ (34 ∷ escaped (w ++ b ∷ [])) = ap (λ z. z ++ b ∷ []) parts ∙ append_assoc g (34 ∷ (escaped w ++ 92 ∷ [])) (b ∷ []) ∙ ap (λ z. g ++ (34 ∷ z)) (append_assoc (escaped w) (92 ∷ []) (b ∷ []) ∙ sym (escaped_mark w b mark)) in
     goes_on x b (in_state (Escape q) p w n ss es bs) (λ y. tt) h (String q) p (w ++ b ∷ []) n ss h.fresh h.fit h.early (g, is, wants, content_more w b content allowed, whole, place)
 
-in_escape_good : (x : List ℕ) (q : ℕ) (k : Kind) (b at : ℕ) (p : Phase) (w n : List ℕ) (ss : List Scalar) (es : List Entry) (bs : List ℕ) → at ≡ length x → kind b ≡ k → (h : Stands Any x (in_state (Escape q) p w n ss es bs)) → IsTail h.base (Escape q) p w n ss h.front → Good x b (in_escape q k b at (in_state (Escape q) p w n ss es bs))
+in_escape_good : (x : List ℕ) (q : ℕ) (k : Kind) (b at : ℕ) (p : Phase) (w n : List ℕ) (ss : List Scalar) (es : List ConfEntry) (bs : List ℕ) → at ≡ length x → kind b ≡ k → (h : Stands Any x (in_state (Escape q) p w n ss es bs)) → IsTail h.base (Escape q) p w n ss h.front → Good x b (in_escape q k b at (in_state (Escape q) p w n ss es bs))
 in_escape_good x q Quote b at p w n ss es bs same e h tail = escape_more x b q p w n ss es bs (ap is_allowed e) (ap is_escaped e) h tail
 in_escape_good x q Backslash b at p w n ss es bs same e h tail = escape_more x b q p w n ss es bs (ap is_allowed e) (ap is_escaped e) h tail
 in_escape_good x q _ b at p w n ss es bs same e h tail = bad_inside x b at (in_state (Escape q) p w n ss es bs) same h
@@ -270,23 +270,23 @@ in_escape_good x q _ b at p w n ss es bs same e h tail = bad_inside x b at (in_s
 comment_more : (c : List ℕ) (b : ℕ) (d : Bool) → after_gap false c ≡ Some true → after_gap true (b ∷ []) ≡ Some d → after_gap false (c ++ b ∷ []) ≡ Some d
 comment_more c b d h e = gap_append false c (b ∷ []) true d h e
 
-comment_ends : (x : List ℕ) (b : ℕ) (p : Phase) (w n : List ℕ) (ss : List Scalar) (es : List Entry) (bs : List ℕ) → after_gap true (b ∷ []) ≡ Some false → (h : Stands Any x (in_state Comment p w n ss es bs)) → IsTail h.base Comment p w n ss h.front → Good x b (Ok (in_state Between p w n ss es bs))
+comment_ends : (x : List ℕ) (b : ℕ) (p : Phase) (w n : List ℕ) (ss : List Scalar) (es : List ConfEntry) (bs : List ℕ) → after_gap true (b ∷ []) ≡ Some false → (h : Stands Any x (in_state Comment p w n ss es bs)) → IsTail h.base Comment p w n ss h.front → Good x b (Ok (in_state Between p w n ss es bs))
 comment_ends x b p w n ss es bs e h (g, c, none, is, comment, parts) =
     let whole : g ++ (c ++ b ∷ []) ≡ h.front ++ b ∷ [] = rw parts (simp append_assoc refl) in
     goes_on x b (in_state Comment p w n ss es bs) (λ y. tt) h Between p w n ss h.fresh h.fit h.early (none, subst (IsFront h.base p n ss) whole (front_gap p h.base n ss g (c ++ b ∷ []) is (comment_more c b false comment e)))
 
-comment_stays : (x : List ℕ) (b : ℕ) (p : Phase) (w n : List ℕ) (ss : List Scalar) (es : List Entry) (bs : List ℕ) → after_gap true (b ∷ []) ≡ Some true → (h : Stands Any x (in_state Comment p w n ss es bs)) → IsTail h.base Comment p w n ss h.front → Good x b (Ok (in_state Comment p w n ss es bs))
+comment_stays : (x : List ℕ) (b : ℕ) (p : Phase) (w n : List ℕ) (ss : List Scalar) (es : List ConfEntry) (bs : List ℕ) → after_gap true (b ∷ []) ≡ Some true → (h : Stands Any x (in_state Comment p w n ss es bs)) → IsTail h.base Comment p w n ss h.front → Good x b (Ok (in_state Comment p w n ss es bs))
 comment_stays x b p w n ss es bs e h (g, c, none, is, comment, parts) =
     goes_on x b (in_state Comment p w n ss es bs) (λ y. tt) h Comment p w n ss h.fresh h.fit h.early (g, c ++ b ∷ [], none, is, comment_more c b true comment e, ap (λ z. z ++ b ∷ []) parts ∙ append_assoc g c (b ∷ []))
 
-in_comment_good : (x : List ℕ) (k : Kind) (b at : ℕ) (p : Phase) (w n : List ℕ) (ss : List Scalar) (es : List Entry) (bs : List ℕ) → at ≡ length x → kind b ≡ k → (h : Stands Any x (in_state Comment p w n ss es bs)) → IsTail h.base Comment p w n ss h.front → Good x b (in_comment k at (in_state Comment p w n ss es bs))
+in_comment_good : (x : List ℕ) (k : Kind) (b at : ℕ) (p : Phase) (w n : List ℕ) (ss : List Scalar) (es : List ConfEntry) (bs : List ℕ) → at ≡ length x → kind b ≡ k → (h : Stands Any x (in_state Comment p w n ss es bs)) → IsTail h.base Comment p w n ss h.front → Good x b (in_comment k at (in_state Comment p w n ss es bs))
 in_comment_good x LineFeed b at p w n ss es bs same e h tail = comment_ends x b p w n ss es bs (rw e refl) h tail
 in_comment_good x Zero b at p w n ss es bs same e h tail = bad_inside x b at (in_state Comment p w n ss es bs) same h
 in_comment_good x _ b at p w n ss es bs same e h tail = comment_stays x b p w n ss es bs (rw e refl) h tail
 
 -- ---- any byte
 
-in_mode_good : (x : List ℕ) (m : Mode) (k : Kind) (b at : ℕ) (p : Phase) (w n : List ℕ) (ss : List Scalar) (es : List Entry) (bs : List ℕ) → at ≡ length x → kind b ≡ k → Stands Any x (in_state m p w n ss es bs) → Good x b (in_mode m k b at (in_state m p w n ss es bs))
+in_mode_good : (x : List ℕ) (m : Mode) (k : Kind) (b at : ℕ) (p : Phase) (w n : List ℕ) (ss : List Scalar) (es : List ConfEntry) (bs : List ℕ) → at ≡ length x → kind b ≡ k → Stands Any x (in_state m p w n ss es bs) → Good x b (in_mode m k b at (in_state m p w n ss es bs))
 in_mode_good x Between k b at p w n ss es bs same e h =
     let r : in_state Between p w n ss es bs ≡ between p n ss es bs = ap (λ z. in_state Between p z n ss es bs) h.tail.0 in
     subst (λ z. Good x b (begun p k b at z)) (sym r) (begun_good x p k b at n ss es bs same e (subst (Stands Any x) r h, λ y. tt, λ y q. tt))

@@ -14,34 +14,34 @@ pub data Value : Type 0 where
   Many : List Scalar → Value
 
 -- a section begins, the innermost one ends, or a name has a value
-pub data Entry : Type 0 where
-  Open : List ℕ → Entry
-  Close : Entry
-  Assign : List ℕ → Value → Entry
+pub data ConfEntry : Type 0 where
+  Open : List ℕ → ConfEntry
+  Close : ConfEntry
+  Assign : List ℕ → Value → ConfEntry
 
 -- the entries of a text
 abbrev pub Conf : Type 0
-Conf = List Entry
+Conf = List ConfEntry
 
 -- The names that each open section has so far, the innermost first and the top level last. None is left once more is
 -- closed than was open.
-abbrev pub after_entry : List (List (List ℕ)) → Entry → List (List (List ℕ))
+abbrev pub after_entry : List (List (List ℕ)) → ConfEntry → List (List (List ℕ))
 after_entry [] e = []
 after_entry (names ∷ outer) (Open name) = [] ∷ (name ∷ names) ∷ outer
 after_entry (names ∷ outer) Close = outer
 after_entry (names ∷ outer) (Assign name value) = (name ∷ names) ∷ outer
 
 -- those after these entries too
-abbrev pub after_entries : List (List (List ℕ)) → List Entry → List (List (List ℕ))
+abbrev pub after_entries : List (List (List ℕ)) → List ConfEntry → List (List (List ℕ))
 after_entries given [] = given
 after_entries given (e ∷ es) = after_entries (after_entry given e) es
 
 -- those after these entries of a text
-abbrev pub sections : List Entry → List (List (List ℕ))
+abbrev pub sections : List ConfEntry → List (List (List ℕ))
 sections es = after_entries ([] ∷ []) es
 
 -- as many sections are closed as were opened, and none before
-abbrev pub IsBalanced : List Entry → Type 0
+abbrev pub IsBalanced : List ConfEntry → Type 0
 IsBalanced es = length (sections es) ≡ 1
 
 -- the name stands in the innermost open section
@@ -60,16 +60,16 @@ scalars_of (One s) = s ∷ []
 scalars_of (Many ss) = ss
 
 -- The entry may follow: it gives no name again, opens no section in the sixteenth, and has no number from 2^64 on.
-abbrev pub keeps_limits : List (List (List ℕ)) → Entry → Bool
+abbrev pub keeps_limits : List (List (List ℕ)) → ConfEntry → Bool
 keeps_limits given (Open name) = not (is_given given name) && nat_lt (length given) 17
 keeps_limits given Close = true
 keeps_limits given (Assign name value) = not (is_given given name) && list_all fits_scalar (scalars_of value)
 
 -- each of the entries may follow after such sections
-abbrev pub keep_limits : List (List (List ℕ)) → List Entry → Bool
+abbrev pub keep_limits : List (List (List ℕ)) → List ConfEntry → Bool
 keep_limits given [] = true
 keep_limits given (e ∷ es) = keeps_limits given e && keep_limits (after_entry given e) es
 
 -- each entry may follow those before it
-abbrev pub KeepsLimits : List Entry → Type 0
+abbrev pub KeepsLimits : List ConfEntry → Type 0
 KeepsLimits es = IsTrue (keep_limits ([] ∷ []) es)

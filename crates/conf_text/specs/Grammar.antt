@@ -6,7 +6,7 @@ use Rattle.std.specs.Str.Parse.{digits_value}
 use Rattle.conf_text.specs.declared.kind.Kind.{Kind}
 use Rattle.conf_text.specs.declared.kind.Kind.TheVariants.{Digit, Letter, Blank, LineFeed, Hash, Quote, Backslash, Zero}
 use Rattle.conf_text.specs.Bytes.{kind}
-use Rattle.conf_text.specs.Entries.{Scalar, Number, Text, Value, One, Many, Entry, Open, Close, Assign, IsBalanced, KeepsLimits}
+use Rattle.conf_text.specs.Entries.{Scalar, Number, Text, Value, One, Many, ConfEntry, Open, Close, Assign, IsBalanced, KeepsLimits}
 
 -- a digit
 abbrev pub is_digit : Kind → Bool
@@ -101,29 +101,29 @@ abbrev pub IsKey : List ℕ → List ℕ → Type 0
 IsKey bytes name = (g h k : List ℕ) × IsGap g × IsName name × IsGap h × IsGap k × (bytes ≡ g ++ name ++ h ++ 61 ∷ k)
 
 -- the bytes of an entry, with the gap before it
-abbrev pub IsEntry : List ℕ → Entry → Type 0
+abbrev pub IsEntry : List ℕ → ConfEntry → Type 0
 IsEntry bytes (Open name) = (front : List ℕ) × IsHeader front name × (bytes ≡ front ++ 123 ∷ [])
 IsEntry bytes Close = (g : List ℕ) × IsGap g × (bytes ≡ g ++ 125 ∷ [])
 IsEntry bytes (Assign name value) = (key x : List ℕ) × IsKey key name × IsValue x value × (bytes ≡ key ++ x)
 
 -- a number ends where no byte of a name comes next
-abbrev pub EndsEntry : Entry → List ℕ → Type 0
+abbrev pub EndsEntry : ConfEntry → List ℕ → Type 0
 EndsEntry (Assign name (One (Number n))) rest = EndsWord rest
 EndsEntry _ rest = Unit {0}
 
 -- the text begins with these entries, and goes on with the rest
-abbrev pub BeginsWith : List ℕ → List Entry → List ℕ → Type 0
+abbrev pub BeginsWith : List ℕ → List ConfEntry → List ℕ → Type 0
 BeginsWith text [] rest = text ≡ rest
 BeginsWith text (e ∷ es) rest = (x more : List ℕ) × (text ≡ x ++ more) × IsEntry x e × EndsEntry e more × BeginsWith more es rest
 
 -- the text has these entries, whether they keep the limits or not
-pub record Spells (text : List ℕ) (es : List Entry) : Type 0 where
+pub record Spells (text : List ℕ) (es : List ConfEntry) : Type 0 where
   pub gap : List ℕ
   pub entries : BeginsWith text es gap
   pub ended : IsLastGap gap
   pub balanced : IsBalanced es
 
 -- the text stands for this tree
-pub record IsTextOf (text : List ℕ) (es : List Entry) : Type 0 where
+pub record IsTextOf (text : List ℕ) (es : List ConfEntry) : Type 0 where
   pub spelled : Spells text es
   pub limits : KeepsLimits es

@@ -1,15 +1,15 @@
 -- What the names of a section have.
 use Rattle.std.specs.Prelude.{ℕ, zero, suc, nat_eq, List, [], ◌∷◌, Option, find, option_map}
 use Rattle.std.specs.Cmp.Lexicographic.{pointwise}
-use Rattle.conf_text.specs.Entries.{Value, Entry, Open, Close, Assign}
+use Rattle.conf_text.specs.Entries.{Value, ConfEntry, Open, Close, Assign}
 
 -- a value, or the entries of a section
 pub data Node : Type 0 where
   Leaf : Value → Node
-  Body : List Entry → Node
+  Body : List ConfEntry → Node
 
 -- the entries before the brace that closes a section in which so many more are open
-abbrev pub body_from : ℕ → List Entry → List Entry
+abbrev pub body_from : ℕ → List ConfEntry → List ConfEntry
 body_from deep [] = []
 body_from zero (Close ∷ es) = []
 body_from (suc deep) (Close ∷ es) = Close ∷ body_from deep es
@@ -17,7 +17,7 @@ body_from deep (Open name ∷ es) = Open name ∷ body_from (suc deep) es
 body_from deep (Assign name value ∷ es) = Assign name value ∷ body_from deep es
 
 -- the names with what they have, in the order of the text, where so many sections of it are open
-abbrev pub items_from : ℕ → List Entry → List (List ℕ × Node)
+abbrev pub items_from : ℕ → List ConfEntry → List (List ℕ × Node)
 items_from deep [] = []
 items_from zero (Open name ∷ es) = (name, Body (body_from 0 es)) ∷ items_from 1 es
 items_from zero (Assign name value ∷ es) = (name, Leaf value) ∷ items_from 0 es
@@ -27,7 +27,7 @@ items_from (suc deep) (Assign name value ∷ es) = items_from (suc deep) es
 items_from (suc deep) (Close ∷ es) = items_from deep es
 
 -- those of a whole section, or of a whole text
-abbrev pub items : List Entry → List (List ℕ × Node)
+abbrev pub items : List ConfEntry → List (List ℕ × Node)
 items es = items_from 0 es
 
 -- what a name has, where it stands

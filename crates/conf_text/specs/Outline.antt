@@ -3,17 +3,17 @@ use Rattle.std.specs.Prelude.{◌≡◌, ℕ, nat_eq, ◌++◌, List, [], ◌∷
 use Rattle.std.specs.List.{list_any}
 use Rattle.std.specs.Cmp.Lexicographic.{pointwise}
 use Rattle.conf_text.specs.declared.outline.Outer.{Outer}
-use Rattle.conf_text.specs.declared.tree.Entry as code
-use Rattle.conf_text.specs.Entries.{Entry, Open, Close, Assign}
+use Rattle.conf_text.specs.declared.tree.ConfEntry as code
+use Rattle.conf_text.specs.Entries.{ConfEntry, Open, Close, Assign}
 use Rattle.conf_text.specs.Views.{entry_view}
 
 -- the entries so far, and the places of the open braces, the innermost first
 pub record Seen : Type 0 where
-  pub entries : List Entry
+  pub entries : List ConfEntry
   pub braces : List ℕ
 
 -- what the entries and the sections round the innermost one stand for
-abbrev pub outline : List code.Entry → List Outer → Seen
+abbrev pub outline : List code.ConfEntry → List Outer → Seen
 outline entries outer = record { entries = map entry_view entries; braces = reverse (map (λ o. o.brace) outer) }
 
 -- a set has these names
@@ -32,13 +32,13 @@ HasSections name keys outer [] = ⊥
 HasSections name keys outer (names ∷ given) = HasNames name keys names × HasOuter outer given
 
 -- the entry is a key with this name
-abbrev pub IsKeyed : List ℕ → Entry → Type 0
+abbrev pub IsKeyed : List ℕ → ConfEntry → Type 0
 IsKeyed name (Open n) = ⊥
 IsKeyed name Close = ⊥
 IsKeyed name (Assign n v) = n ≡ name
 
 -- a key more
-abbrev pub with_key : Seen → Entry → Seen
+abbrev pub with_key : Seen → ConfEntry → Seen
 with_key seen e = record seen { entries = seen.entries ++ e ∷ [] }
 
 -- a section begins, by a brace at this place

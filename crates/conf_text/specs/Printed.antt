@@ -1,7 +1,7 @@
 -- The printed form of entries: one on a line.
 use Rattle.std.specs.Prelude.{ℕ, ◌<◌, ◌^◌, List, [], ◌∷◌, ◌++◌}
 use Rattle.std.specs.Fmt.{decimal}
-use Rattle.conf_text.specs.Entries.{Scalar, Number, Text, Value, One, Many, Entry, Open, Close, Assign}
+use Rattle.conf_text.specs.Entries.{Scalar, Number, Text, Value, One, Many, ConfEntry, Open, Close, Assign}
 use Rattle.conf_text.specs.Grammar.{IsName, IsContent, escaped}
 
 -- a number in decimal, or a string in double quotes
@@ -21,13 +21,13 @@ printed_value (One s) = printed_scalar s
 printed_value (Many ss) = 91 ∷ printed_list ss ++ 93 ∷ []
 
 -- an entry, without its line feed
-abbrev pub printed_entry : Entry → List ℕ
+abbrev pub printed_entry : ConfEntry → List ℕ
 printed_entry (Open name) = name ++ 32 ∷ 123 ∷ []
 printed_entry Close = 125 ∷ []
 printed_entry (Assign name value) = name ++ 32 ∷ 61 ∷ 32 ∷ printed_value value
 
 -- each entry on a line of its own
-abbrev pub printed : List Entry → List ℕ
+abbrev pub printed : List ConfEntry → List ℕ
 printed [] = []
 printed (e ∷ es) = printed_entry e ++ 10 ∷ printed es
 
@@ -42,13 +42,13 @@ CanPrintAll [] = Unit {0}
 CanPrintAll (s ∷ ss) = CanPrintScalar s × CanPrintAll ss
 
 -- the entry can be printed
-abbrev pub CanPrintEntry : Entry → Type 0
+abbrev pub CanPrintEntry : ConfEntry → Type 0
 CanPrintEntry (Open name) = IsName name
 CanPrintEntry Close = Unit {0}
 CanPrintEntry (Assign name (One s)) = IsName name × CanPrintScalar s
 CanPrintEntry (Assign name (Many ss)) = IsName name × CanPrintAll ss
 
 -- all of these entries can be printed
-abbrev pub CanPrint : List Entry → Type 0
+abbrev pub CanPrint : List ConfEntry → Type 0
 CanPrint [] = Unit {0}
 CanPrint (e ∷ es) = CanPrintEntry e × CanPrint es

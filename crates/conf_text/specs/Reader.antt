@@ -10,7 +10,7 @@ use Rattle.conf_text.specs.declared.reader.Phase.TheVariants.{Item, Named, Wante
 use Rattle.conf_text.specs.declared.kind.Kind.{Kind}
 use Rattle.conf_text.specs.declared.kind.Kind.TheVariants.{Digit, Letter, Blank, LineFeed, Hash, Quote, Backslash, OpenBrace, CloseBrace, OpenBracket, CloseBracket, Equals, Comma, Zero}
 use Rattle.conf_text.specs.Bytes.{kind}
-use Rattle.conf_text.specs.Entries.{Scalar, Number, Text, One, Many, Entry, Open, Close, Assign, sections, is_given}
+use Rattle.conf_text.specs.Entries.{Scalar, Number, Text, One, Many, ConfEntry, Open, Close, Assign, sections, is_given}
 
 -- word: the bytes of the word or string so far; name and scalars: of the entry so far; braces: the places of those open
 pub record Reader : Type 0 where
@@ -19,7 +19,7 @@ pub record Reader : Type 0 where
   pub word : List ℕ
   pub name : List ℕ
   pub scalars : List Scalar
-  pub entries : List Entry
+  pub entries : List ConfEntry
   pub braces : List ℕ
 
 -- nothing was read
@@ -41,7 +41,7 @@ abbrev pub entry_begun : Reader → Reader
 entry_begun r = record r { phase = Item; name = []; scalars = [] }
 
 -- an entry more
-abbrev pub with_entry : Reader → Entry → Reader
+abbrev pub with_entry : Reader → ConfEntry → Reader
 with_entry r e = record (entry_begun r) { entries = r.entries ++ e ∷ [] }
 
 -- a scalar more: of an array, or the whole value
@@ -180,7 +180,7 @@ unfoldable pub step : ℕ → ℕ → Reader → Read
 step at b r = in_mode r.mode (kind b) b at r
 
 -- the end of the text, outside of words and strings
-abbrev pub ended_between : Phase → List ℕ → ℕ → Reader → Result (List Entry) ConfRefusal
+abbrev pub ended_between : Phase → List ℕ → ℕ → Reader → Result (List ConfEntry) ConfRefusal
 ended_between (First q) braces at r = Err (Unclosed q)
 ended_between (Next q) braces at r = Err (Unclosed q)
 ended_between (After q) braces at r = Err (Unclosed q)
@@ -189,21 +189,21 @@ ended_between Item [] at r = Ok r.entries
 ended_between _ [] at r = Err (BadToken at)
 
 -- the end of the text, by what the last byte belongs to
-abbrev pub ended_in : Mode → ℕ → Reader → Result (List Entry) ConfRefusal
+abbrev pub ended_in : Mode → ℕ → Reader → Result (List ConfEntry) ConfRefusal
 ended_in (String q) at r = Err (Unclosed q)
 ended_in (Escape q) at r = Err (Unclosed q)
 ended_in Word at r = word_ended r.phase (at - length r.word) r >>= λ s. ended_between s.phase s.braces at s
 ended_in _ at r = ended_between r.phase r.braces at r
 
 -- the end of the text at this place
-unfoldable pub ended : ℕ → Reader → Result (List Entry) ConfRefusal
+unfoldable pub ended : ℕ → Reader → Result (List ConfEntry) ConfRefusal
 ended at r = ended_in r.mode at r
 
 -- the entries of a text, or its refusal, from this place and reader on
-unfoldable pub outcome : ℕ → Reader → List ℕ → Result (List Entry) ConfRefusal
+unfoldable pub outcome : ℕ → Reader → List ℕ → Result (List ConfEntry) ConfRefusal
 outcome at r [] = ended at r
 outcome at r (b ∷ bs) = step at b r >>= λ s. outcome (at + 1) s bs
 
 -- those of the whole text
-abbrev pub reading : List ℕ → Result (List Entry) ConfRefusal
+abbrev pub reading : List ℕ → Result (List ConfEntry) ConfRefusal
 reading text = outcome 0 start text

@@ -4,7 +4,7 @@ use Rattle.std.specs.List.{list_all}
 use Rattle.std.specs.Str.Parse.{digits_value}
 use Rattle.conf_text.specs.declared.refusal.ConfRefusal.{ConfRefusal}
 use Rattle.conf_text.specs.declared.refusal.ConfRefusal.TheVariants.{NoMemory, BadToken, Unclosed, DuplicateKey, NumberTooWide, TooDeep}
-use Rattle.conf_text.specs.Entries.{Scalar, Entry, Open, sections, is_given, fits_scalar, IsBalanced, KeepsLimits}
+use Rattle.conf_text.specs.Entries.{Scalar, ConfEntry, Open, sections, is_given, fits_scalar, IsBalanced, KeepsLimits}
 use Rattle.conf_text.specs.Grammar.{IsName, IsDigits, EndsWord, IsGap, IsContent, escaped, IsArray, IsKey, IsHeader, IsEntry, BeginsWith, Spells}
 
 -- the place where the rest of the text begins
@@ -20,7 +20,7 @@ IsBeforeScalar bytes name (s ∷ ss) = (key list g : List ℕ) × IsKey key name
 
 -- a name that its section has already
 pub record IsDuplicate (text : List ℕ) (place : ℕ) : Type 0 where
-  pub before : List Entry
+  pub before : List ConfEntry
   pub limits : KeepsLimits before
   pub gap : List ℕ
   pub name : List ℕ
@@ -34,7 +34,7 @@ pub record IsDuplicate (text : List ℕ) (place : ℕ) : Type 0 where
 
 -- digits of 2^64 or more, the first such number of the entry
 pub record IsTooWide (text : List ℕ) (place : ℕ) : Type 0 where
-  pub before : List Entry
+  pub before : List ConfEntry
   pub limits : KeepsLimits before
   pub front : List ℕ
   pub digits : List ℕ
@@ -53,7 +53,7 @@ pub record IsTooWide (text : List ℕ) (place : ℕ) : Type 0 where
 
 -- the brace that opens a section in the sixteenth
 pub record IsTooDeep (text : List ℕ) (place : ℕ) : Type 0 where
-  pub before : List Entry
+  pub before : List ConfEntry
   pub limits : KeepsLimits before
   pub front : List ℕ
   pub more : List ℕ
@@ -72,7 +72,7 @@ KeepsTo text end = (p : ℕ) → p < end → ¬ (IsDuplicate text p ⊎ IsTooWid
 
 -- a quote: what follows is the beginning of a string
 pub record IsOpenString (text : List ℕ) (place : ℕ) : Type 0 where
-  pub before : List Entry
+  pub before : List ConfEntry
   pub front : List ℕ
   pub inside : List ℕ
   pub entries : BeginsWith text before (front ++ 34 ∷ inside)
@@ -86,7 +86,7 @@ pub record IsOpenString (text : List ℕ) (place : ℕ) : Type 0 where
 
 -- a bracket: what follows is the beginning of an array
 pub record IsOpenArray (text : List ℕ) (place : ℕ) : Type 0 where
-  pub before : List Entry
+  pub before : List ConfEntry
   pub key : List ℕ
   pub inside : List ℕ
   pub entries : BeginsWith text before (key ++ 91 ∷ inside)
@@ -99,16 +99,16 @@ pub record IsOpenArray (text : List ℕ) (place : ℕ) : Type 0 where
 
 -- a brace: what follows is whole entries, as many sections closed as opened, and then less than an entry
 pub record IsOpenBrace (text : List ℕ) (place : ℕ) : Type 0 where
-  pub before : List Entry
+  pub before : List ConfEntry
   pub name : List ℕ
   pub inside : List ℕ
   pub entries : BeginsWith text (before ++ Open name ∷ []) inside
-  pub inner : List Entry
+  pub inner : List ConfEntry
   pub rest : List ℕ
   pub whole : BeginsWith inside inner rest
   pub balanced : IsBalanced inner
   pub closing : List ℕ
-  pub entry : Entry
+  pub entry : ConfEntry
   pub less : (0 < length closing) × IsEntry (rest ++ closing) entry
   pub place_is : place + suc (length inside) ≡ length text
 
@@ -123,7 +123,7 @@ IsInnermost text place =
 
 -- some text begins so, by the grammar without the limits
 abbrev pub Begins : List ℕ → Type 0
-Begins front = (more : List ℕ) × (es : List Entry) × Spells (front ++ more) es
+Begins front = (more : List ℕ) × (es : List ConfEntry) × Spells (front ++ more) es
 
 -- no text begins with the bytes up to this one, but some with those before it
 abbrev pub IsFirstBad : List ℕ → ℕ → Type 0
@@ -131,7 +131,7 @@ IsFirstBad text place = (place < length text) × Begins (take place text) × ¬ 
 
 -- the text ends where it must go on, and nothing is open: after a name or `=` at the top
 abbrev pub IsCut : List ℕ → Type 0
-IsCut text = Begins text × ((es : List Entry) → ¬ Spells text es) × ((p : ℕ) → ¬ IsInnermost text p)
+IsCut text = Begins text × ((es : List ConfEntry) → ¬ Spells text es) × ((p : ℕ) → ¬ IsInnermost text p)
 
 -- no limit is broken before, and the byte at this place is the first bad one or the text is cut here
 abbrev pub IsBadToken : List ℕ → ℕ → Type 0

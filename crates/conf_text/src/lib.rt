@@ -26,7 +26,7 @@ pub use scan::tokens;
 pub use section::{Item, Section};
 pub use sink::{CountedBytes, TextSink};
 pub use token::{Token, TokenKind, Tokens};
-pub use tree::{Entry, Scalar, Tree};
+pub use tree::{ConfEntry, Scalar, Tree};
 pub use writer::{
     begin_list, end_list, list_number, list_pair, list_text, write_close, write_number,
     write_numbered_open, write_open, write_text, write_words,

@@ -6,7 +6,7 @@ ghost use Rattle.conf_text.specs.Entries.{sections, is_given};
 ghost use Rattle.conf_text.specs.Outline.{IsKeyed, with_open, with_key, with_close};
 ghost use Rattle.conf_text.specs.Views.{entry_view};
 
-use crate::tree::Entry;
+use crate::tree::ConfEntry;
 use std::alloc::{AllocError, Global};
 use std::collections::HashSet;
 use std::marker::Model;
@@ -22,7 +22,7 @@ pub(crate) struct Outer<'a> {
 /// The entries read so far. Contracts see the list of them, and the places of the open braces, the innermost first.
 #[derive(Drop)]
 pub(crate) struct Outline<'a> {
-    entries: Vec<Entry<'a>>,
+    entries: Vec<ConfEntry<'a>>,
     // The names of the innermost section, and the sections round it, the outermost first.
     names: HashSet<&'a [u8]>,
     outer: Vec<Outer<'a>>,
@@ -78,7 +78,7 @@ impl<'a> Outline<'a> {
     }
 
     /// Adds a key.
-    pub(crate) fn add_key(&mut self, name: &'a [u8], entry: Entry<'a>) -> Result<(), AllocError>
+    pub(crate) fn add_key(&mut self, name: &'a [u8], entry: ConfEntry<'a>) -> Result<(), AllocError>
         requires { IsKeyed name.now (entry_view entry) }
         ensures { IfOk result (λ _. self.new ≡ with_key self.old (entry_view entry.entry)) }
     {
@@ -102,7 +102,7 @@ impl<'a> Outline<'a> {
         self.names.insert(name)?;
         let names = mem::replace(&mut self.names, HashSet::new(alloc));
         self.outer.push(Outer { brace, names })?;
-        self.entries.push(Entry::Open(name))?;
+        self.entries.push(ConfEntry::Open(name))?;
         Ok(())
     }
 
@@ -115,14 +115,14 @@ impl<'a> Outline<'a> {
             None => Ok(false),
             Some(outer) => {
                 self.names = outer.names;
-                self.entries.push(Entry::Close)?;
+                self.entries.push(ConfEntry::Close)?;
                 Ok(true)
             }
         }
     }
 
     /// The entries.
-    pub(crate) fn into_entries(self) -> Vec<Entry<'a>>
+    pub(crate) fn into_entries(self) -> Vec<ConfEntry<'a>>
         ensures { map entry_view result.items ≡ self.entry.entries }
     {
         self.entries
@@ -130,7 +130,7 @@ impl<'a> Outline<'a> {
 }
 
 // Room for one entry more at least; where there was none, for an eighth more of what is there too.
-fn make_room<'a>(entries: &mut Vec<Entry<'a>>) -> Result<(), AllocError>
+fn make_room<'a>(entries: &mut Vec<ConfEntry<'a>>) -> Result<(), AllocError>
     ensures items { entries.new.items ≡ entries.old.items }
     ensures room { OnOk result (vec_len entries.new < vec_capacity entries.new) }
     ensures grows { OnOk result ((vec_capacity entries.new ≡ vec_capacity entries.old) ⊎ (vec_len entries.new + vec_len entries.new / 8 < vec_capacity entries.new)) }

@@ -11,7 +11,7 @@ mod words;
 use crate::kind::{Kind, kind_of};
 use crate::outline::Outline;
 use crate::refusal::ConfRefusal;
-use crate::tree::{Entry, Scalar};
+use crate::tree::{ConfEntry, Scalar};
 use std::alloc::Global;
 
 /// What the last byte belongs to. A string has the place where it begins.
@@ -125,7 +125,7 @@ impl<'a> Reader<'a> {
     }
 
     // What the end of the text is between tokens.
-    fn end_between(self, at: usize) -> Result<Vec<Entry<'a>>, ConfRefusal>
+    fn end_between(self, at: usize) -> Result<Vec<ConfEntry<'a>>, ConfRefusal>
         ensures { Gives (λ es. map entry_view es.items) result (spec.ended_between self.entry.phase (reader_view self.entry).braces at (reader_view self.entry)) }
     {
         match self.phase {
@@ -144,7 +144,7 @@ impl<'a> Reader<'a> {
 
     /// The entries, where the text ends here.
     #[tactic(auto, unfolding(crate::specs::Reader::ended))]
-    pub(crate) fn end(mut self, text: &'a [u8]) -> Result<Vec<Entry<'a>>, ConfRefusal>
+    pub(crate) fn end(mut self, text: &'a [u8]) -> Result<Vec<ConfEntry<'a>>, ConfRefusal>
         requires { IsWordOf self.mode text.now self.word.items }
         ensures { Gives (λ es. map entry_view es.items) result (spec.ended (length text.now) (reader_view self.entry)) }
     {

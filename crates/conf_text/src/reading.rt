@@ -10,11 +10,11 @@ ghost use Rattle.conf_text.specs.Views.{entry_view};
 
 use crate::reader::Reader;
 use crate::refusal::ConfRefusal;
-use crate::tree::{Entry, Tree};
+use crate::tree::{ConfEntry, Tree};
 use std::alloc::Global;
 
 // The entries of a text.
-fn entries_of<'a>(alloc: Global, text: &'a [u8]) -> Result<Vec<Entry<'a>>, ConfRefusal>
+fn entries_of<'a>(alloc: Global, text: &'a [u8]) -> Result<Vec<ConfEntry<'a>>, ConfRefusal>
     ensures { Gives (λ es. map entry_view es.items) result (reading text.now) }
 {
     let mut reader = Reader::start(alloc);

@@ -5,13 +5,13 @@ ghost use Rattle.conf_text.specs.Items.{items, items_from, lookup, body_from};
 ghost use Rattle.conf_text.specs.Sections.{item_view, named_item_view};
 ghost use Rattle.conf_text.specs.Views.{entry_view};
 
-use crate::tree::{Entry, Scalar};
+use crate::tree::{ConfEntry, Scalar};
 use std::marker::Model;
 
 /// The entries of a section, or of a whole text. Contracts see the list of them.
 #[derive(Debug, Drop)]
 pub struct Section<'a> {
-    entries: &'a [Entry<'a>],
+    entries: &'a [ConfEntry<'a>],
 }
 
 impl<'a> Model for Section<'a> {
@@ -39,7 +39,7 @@ pub enum Item<'a> {
 
 impl<'a> Section<'a> {
     /// The section of these entries.
-    pub fn new(entries: &'a [Entry<'a>]) -> Self
+    pub fn new(entries: &'a [ConfEntry<'a>]) -> Self
         ensures { result ≡ map entry_view entries.now }
     {
         Section { entries }
@@ -77,19 +77,19 @@ impl<'a> Section<'a> {
 
 // What the entry gives a section, and the section after it. None where it gives nothing.
 fn first_item<'a>(
-    entry: &'a Entry<'a>,
-    rest: &'a [Entry<'a>],
+    entry: &'a ConfEntry<'a>,
+    rest: &'a [ConfEntry<'a>],
 ) -> Option<(&'a [u8], Item<'a>, Section<'a>)>
     ensures first { IfSome result (λ r. items (entry_view entry.entry.now ∷ map entry_view rest.entry.now) ≡ (r.0.now, item_view r.1) ∷ items r.2) }
     ensures shorter { IfSome result (λ r. length r.2 ≤ length rest.entry.now) }
     ensures none { IfNone result (entry_view entry.entry.now ≡ Close) }
 {
     match entry {
-        Entry::Close => None,
-        Entry::Number(name, number) => Some((name, Item::Number(*number), Section::new(rest))),
-        Entry::Text(name, text) => Some((name, Item::Text(text), Section::new(rest))),
-        Entry::List(name, scalars) => Some((name, Item::List(scalars), Section::new(rest))),
-        Entry::Open(name) => {
+        ConfEntry::Close => None,
+        ConfEntry::Number(name, number) => Some((name, Item::Number(*number), Section::new(rest))),
+        ConfEntry::Text(name, text) => Some((name, Item::Text(text), Section::new(rest))),
+        ConfEntry::List(name, scalars) => Some((name, Item::List(scalars), Section::new(rest))),
+        ConfEntry::Open(name) => {
             let (body, after) = split_body(rest);
             Some((name, Item::Section(body), after))
         }
@@ -97,7 +97,7 @@ fn first_item<'a>(
 }
 
 // The body of a section that was opened before these entries, and what stands after its brace.
-fn split_body<'a>(entries: &'a [Entry<'a>]) -> (Section<'a>, Section<'a>)
+fn split_body<'a>(entries: &'a [ConfEntry<'a>]) -> (Section<'a>, Section<'a>)
     ensures body { result.0 ≡ body_from 0 (map entry_view entries.entry.now) }
     ensures after { items result.1 ≡ items_from 1 (map entry_view entries.entry.now) }
     ensures shorter { length result.1 ≤ length entries.entry.now }
@@ -108,7 +108,7 @@ fn split_body<'a>(entries: &'a [Entry<'a>]) -> (Section<'a>, Section<'a>)
 }
 
 // How many entries stand before the brace that closes the section.
-fn body_len(entries: &[Entry<'_>]) -> usize
+fn body_len(entries: &[ConfEntry<'_>]) -> usize
     ensures place { result ≡ length (body_from 0 (map entry_view entries.now)) }
     ensures within { result ≤ length entries.now }
 {
@@ -123,14 +123,14 @@ fn body_len(entries: &[Entry<'_>]) -> usize
 }
 
 // How many sections of a body are open after the entry. None where it closes the body itself.
-fn depth_after(entry: &Entry<'_>, deep: usize) -> Option<usize>
+fn depth_after(entry: &ConfEntry<'_>, deep: usize) -> Option<usize>
     requires { deep < 2 ^ 63 }
     ensures step { MatchOption result ((entry_view entry.now ≡ Close) × (deep ≡ 0)) (λ next. (es : Conf) → body_from deep (entry_view entry.now ∷ es) ≡ entry_view entry.now ∷ body_from next es) }
     ensures bound { IfSome result (λ next. next ≤ deep + 1) }
 {
     match entry {
-        Entry::Open(_) => Some(deep + 1),
-        Entry::Close => deep.checked_sub(1),
+        ConfEntry::Open(_) => Some(deep + 1),
+        ConfEntry::Close => deep.checked_sub(1),
         _ => Some(deep),
     }
 }

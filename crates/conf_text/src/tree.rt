@@ -17,7 +17,7 @@ pub enum Scalar {
 
 /// A piece of a tree, with its name as it stands in the text. A section is an `Open`, the entries in it, and a `Close`.
 #[derive(Debug, Drop)]
-pub enum Entry<'a> {
+pub enum ConfEntry<'a> {
     /// A section begins.
     Open(&'a [u8]),
     /// The innermost section ends.
@@ -33,7 +33,7 @@ pub enum Entry<'a> {
 /// The tree of a text. Contracts see the list of its entries.
 #[derive(Debug, Drop)]
 pub struct Tree<'a> {
-    entries: Vec<Entry<'a>>,
+    entries: Vec<ConfEntry<'a>>,
 }
 
 impl<'a> Model for Tree<'a> {
@@ -44,14 +44,14 @@ impl<'a> Model for Tree<'a> {
 
 impl<'a> Tree<'a> {
     /// The tree of these entries.
-    pub fn from_vec(entries: Vec<Entry<'a>>) -> Self
+    pub fn from_vec(entries: Vec<ConfEntry<'a>>) -> Self
         ensures { result ≡ map entry_view entries.entry.items }
     {
         Tree { entries }
     }
 
     /// Its entries.
-    pub fn as_slice(&self) -> &[Entry<'a>]
+    pub fn as_slice(&self) -> &[ConfEntry<'a>]
         ensures { map entry_view result.now ≡ self.now }
     {
         &self.entries

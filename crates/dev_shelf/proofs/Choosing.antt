@@ -6,7 +6,7 @@ use Rattle.std.proofs.lemmas.List.Concat.{flat_map-append}
 use Rattle.std.proofs.lemmas.List.FromFn.{map-range_with_len_more}
 use Rattle.std.proofs.Math.ListN.{get_or-append}
 use Rattle.std.proofs.Math.Seq.{get_or-append_seam}
-use Rattle.disk_model.specs.Steps.{Told}
+use Rattle.disk_model.specs.Steps.{Record}
 use Rattle.disk_model.specs.CrashValues.{MayLeave}
 use Rattle.disk_model.specs.ValueList.{values}
 use Rattle.dev_shelf.specs.ChosenImage.{chosen_values, disk_values, row_values, value_number}
@@ -34,11 +34,11 @@ left_append [] ys choices = refl
 left_append (all ∷ rest) ys choices = left_append rest ys (cond (nat_lt 1 (length all)) (drop 1 choices) choices)
 
 -- nothing is taken at first
-pub takes_no_sectors : (told : Told) (pv : ℕ) (choices : List ℕ) → TakesSectors told pv 0 choices [] choices
+pub takes_no_sectors : (told : Record) (pv : ℕ) (choices : List ℕ) → TakesSectors told pv 0 choices [] choices
 takes_no_sectors told pv choices = record { chosen_so = refl; left_so = refl; many = refl; each = λ sector lt. absurd (omega arith) }
 
 -- one sector more
-pub takes_one_more : (told : Told) (pv count : ℕ) (choices : List ℕ) (sectors : List (List ℕ)) (left : List ℕ) (all : List (Option ℕ × List ℕ)) (value : List ℕ) (left' : List ℕ)
+pub takes_one_more : (told : Record) (pv count : ℕ) (choices : List ℕ) (sectors : List (List ℕ)) (left : List ℕ) (all : List (Option ℕ × List ℕ)) (value : List ℕ) (left' : List ℕ)
     → TakesSectors told pv count choices sectors left → all ≡ values told.opened told.steps pv count → chosen_values (all ∷ []) left ≡ value ∷ [] → left' ≡ choices_left (all ∷ []) left
     → (k : ℕ) × (k < length all) × ((slice_index_or all k (None, [])).1 ≡ value) → TakesSectors told pv (count + 1) choices (sectors ++ value ∷ []) left'
 takes_one_more told pv count choices sectors left all value left' so_far is here rest place =
@@ -76,11 +76,11 @@ range_push from (suc count) =
     ∙ ap (λ (k : ℕ). from ∷ (range_with_len (from + 1) count ++ k ∷ [])) last
 
 -- no disk is taken at first
-pub takes_no_disks : (told : Told) (sizes choices : List ℕ) → TakesDisks told sizes 0 choices [] choices
+pub takes_no_disks : (told : Record) (sizes choices : List ℕ) → TakesDisks told sizes 0 choices [] choices
 takes_no_disks told sizes choices = record { chosen_so = refl; left_so = refl; sizes_so = refl; each = λ pv sector lt. absurd (omega arith) }
 
 -- one disk more
-pub takes_disk_more : (told : Told) (sizes : List ℕ) (count : ℕ) (choices : List ℕ) (disks : List (List (List ℕ))) (left : List ℕ) (sectors : List (List ℕ)) (left' : List ℕ)
+pub takes_disk_more : (told : Record) (sizes : List ℕ) (count : ℕ) (choices : List ℕ) (disks : List (List (List ℕ))) (left : List ℕ) (sectors : List (List ℕ)) (left' : List ℕ)
     → TakesDisks told sizes count choices disks left → count < length sizes → TakesSectors told count (slice_index sizes count) left sectors left'
     → TakesDisks told sizes (count + 1) choices (disks ++ sectors ∷ []) left'
 takes_disk_more told sizes count choices disks left sectors left' so_far lt disk =

@@ -7,7 +7,7 @@ use Rattle.std.proofs.Math.ListN.{get_or-map}
 use Rattle.sector_base.specs.declared.spans.Span.{Span}
 use Rattle.sector_base.specs.Spans.{covers}
 use Rattle.dev_shelf.specs.declared.mem_shelf.disk_row.DiskRow.{DiskRow}
-use Rattle.disk_model.specs.Steps.{Image, Reading, Writing, Flushing, Step, Submitted, Completed, Told, now_after, value_at}
+use Rattle.disk_model.specs.Steps.{Image, Reading, Writing, Flushing, Step, Submitted, Completed, Record, now_after, value_at}
 use Rattle.disk_model.specs.CrashValues.{MayLeave, IsImage}
 use Rattle.disk_model.specs.Record.{IsRecord}
 use Rattle.disk_model.specs.Operations.{Fills}
@@ -47,7 +47,7 @@ none_past disks pv sector past =
     get_or_past (get_or disks pv []) sector [] (omega arith)
 
 -- what the choices take is an image
-module _ (told : Told) (sizes choices : List ℕ) (disks : List (List (List ℕ))) (left : List ℕ) (takes : TakesDisks told sizes (length sizes) choices disks left) where
+module _ (told : Record) (sizes choices : List ℕ) (disks : List (List (List ℕ))) (left : List ℕ) (takes : TakesDisks told sizes (length sizes) choices disks left) where
   same_sizes : lengths_of disks ≡ sizes
   same_sizes = takes.sizes_so ∙ take_all (length sizes) sizes (omega arith)
 
@@ -77,9 +77,9 @@ module _ (row : DiskRow) (good : IsGood row) (moment : ℕ) (le : moment ≤ len
     (takes : TakesDisks (told_after row moment) (sizes_of row) (length (sizes_of row)) choices disks left) where
   pub row_image : IsImage (at_moment moment (record { opened = image_of row.opened.items; steps = steps_of row })) (image_of disks)
   row_image =
-      subst (λ (t : Told). IsImage t (image_of disks)) (moment_is row moment le)
+      subst (λ (t : Record). IsImage t (image_of disks)) (moment_is row moment le)
       (is_image (told_after row moment) (sizes_of row) choices disks left takes (record_at row.written.items row.steps.items moment good.follows) (within_at (sizes_of row) row.written.items row.steps.items moment good.within)
       (λ pv sector past. none_past row.opened.items pv sector past))
 
   pub row_chosen : IsChosen (at_moment moment (record { opened = image_of row.opened.items; steps = steps_of row })) (sizes_of row) choices disks
-  row_chosen = subst (λ (t : Told). IsChosen t (sizes_of row) choices disks) (moment_is row moment le) (is_chosen (told_after row moment) (sizes_of row) choices disks left takes)
+  row_chosen = subst (λ (t : Record). IsChosen t (sizes_of row) choices disks) (moment_is row moment le) (is_chosen (told_after row moment) (sizes_of row) choices disks left takes)

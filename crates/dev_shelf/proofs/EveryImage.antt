@@ -10,7 +10,7 @@ use Rattle.std.proofs.Math.ListN.{get_or-map}
 use Rattle.std.proofs.Math.Nat.{mod-eq_of_lt}
 use Rattle.std.proofs.Math.Seq.{drop-append_seam, take-append_seam}
 use Rattle.sector_base.specs.Spans.{covers}
-use Rattle.disk_model.specs.Steps.{Image, Reading, Writing, Flushing, Step, Submitted, Completed, Told, value_at}
+use Rattle.disk_model.specs.Steps.{Image, Reading, Writing, Flushing, Step, Submitted, Completed, Record, value_at}
 use Rattle.disk_model.specs.CrashValues.{IsImage}
 use Rattle.disk_model.specs.ValueList.{is_dropped, values}
 use Rattle.disk_model.proofs.ValueLists.{InValues, of_may}
@@ -127,7 +127,7 @@ split_same g (d ∷ ds) from lengths e i lt =
           ∙ ap g next
     ]) lt
 
-module _ (told : Told) (sizes : List ℕ) (image : Image) (is : IsImage told image) (short : length told.steps < 2 ^ 64) where
+module _ (told : Record) (sizes : List ℕ) (image : Image) (is : IsImage told image) (short : length told.steps < 2 ^ 64) where
   one_value : (pv sector : ℕ) → IsOneOf (values told.opened told.steps pv sector) (image pv sector)
   one_value pv sector = one_of (values told.opened told.steps pv sector) (is pv sector).0 (image pv sector) (of_may told.opened told.steps pv sector (is pv sector).0 (image pv sector) (is pv sector).1)
 

@@ -4,7 +4,7 @@ use Rattle.std.proofs.lemmas.List.{map-append}
 use Rattle.std.proofs.lemmas.List.Elements.{filter-append, Contains-append_left}
 use Rattle.disk_model.specs.declared.ops.Op.{Op}
 use Rattle.disk_model.specs.declared.ops.Done.{Done}
-use Rattle.disk_model.specs.Steps.{Step, Submitted, Completed, Told}
+use Rattle.disk_model.specs.Steps.{Step, Submitted, Completed, Record}
 use Rattle.disk_model.specs.Operations.{work_of}
 use Rattle.disk_model.specs.Record.{Operation}
 use Rattle.disk_model.specs.State.{State, tags_of}
@@ -30,7 +30,7 @@ ready_more plan steps os more t h =
 -- the row's submission is one of the shelf
 pub submits_back : (plan : PlanLeft) (old new : DiskRow) (op : Op) (tag : ℕ) → Submits (state_of old) op tag (state_of new) → Submits (held_back plan (state_of old)) op tag (held_back plan (state_of new))
 submits_back plan old new op tag submits =
-    let steps : steps_of new ≡ Submitted tag (work_of op) ∷ steps_of old = ap (λ (o : Option Told). steps_told o) submits.told in
+    let steps : steps_of new ≡ Submitted tag (work_of op) ∷ steps_of old = ap (λ (o : Option Record). steps_told o) submits.told in
     record {
       fresh = submits.fresh;
       next = submits.next;
@@ -51,7 +51,7 @@ submits_back plan old new op tag submits =
 pub completes_back : (plan : PlanLeft) (old new : DiskRow) (done : Done) → Completes (state_of old) done (state_of new) → Completes (held_back plan (state_of old)) done (held_back plan (state_of new))
 completes_back plan old new done completes =
     let step : Step = Completed done.tag (work_of done.op) done.well completes.told.0 in
-    let steps : steps_of new ≡ step ∷ steps_of old = ap (λ (o : Option Told). steps_told o) completes.told.1 in
+    let steps : steps_of new ≡ step ∷ steps_of old = ap (λ (o : Option Record). steps_told o) completes.told.1 in
     let p : Operation → Bool = λ o. not (is_held plan (steps_of old) o) in
     let q : Operation → Bool = λ o. not (is_held plan (step ∷ steps_of old) o) in
     record {

@@ -5,7 +5,7 @@ use Rattle.std.proofs.lemmas.List.Elements.{All-push}
 use Rattle.disk_model.specs.declared.ops.Op.{Op}
 use Rattle.disk_model.specs.declared.ops.Op.TheVariants.{Read, Write, Flush}
 use Rattle.disk_model.specs.declared.ops.Done.{Done}
-use Rattle.disk_model.specs.Steps.{Image, Work, Reading, Writing, Flushing, Step, Completed, Told, now_after}
+use Rattle.disk_model.specs.Steps.{Image, Work, Reading, Writing, Flushing, Step, Completed, Record, now_after}
 use Rattle.disk_model.specs.Record.{Operation, in_flight_after, work_of_tag}
 use Rattle.disk_model.specs.Operations.{Lies, work_of}
 use Rattle.disk_model.specs.Reading.{Reads as Gives}
@@ -41,7 +41,7 @@ now_same a b h (Writing span sectors) well fresh pv s = rw (h pv s) refl
 now_same a b h (Flushing disk) well fresh pv s = h pv s
 
 -- a read of the disks as they are now reads what the record gives
-pub reads_now : (told : Told) (image : Image) (tag : ℕ) (op : Op) (well : Bool) → ((pv s : ℕ) → image pv s ≡ now_after told.opened told.steps pv s) → ReadsImage image op well → Gives told tag op well
+pub reads_now : (told : Record) (image : Image) (tag : ℕ) (op : Op) (well : Bool) → ((pv s : ℕ) → image pv s ≡ now_after told.opened told.steps pv s) → ReadsImage image op well → Gives told tag op well
 reads_now told image tag (Read span buffer) true h r = λ pv s inside alone. r pv s inside ∙ h pv s
 reads_now told image tag (Read span buffer) false h r = tt
 reads_now told image tag (Write span sectors) well h r = tt

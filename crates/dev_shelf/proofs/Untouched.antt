@@ -2,7 +2,7 @@
 use Rattle.std.proofs.Common.{◌≡◌, ◌≤◌, ℕ, ◌+◌, Bool, true, false, not, ◌==◌, ◌&&◌, ◌||◌, cond, List, [], ◌∷◌, filter, slice_index_or, Option, None, refl, ap, subst, ◌∙◌, arith}
 use Rattle.sector_base.specs.Spans.{covers}
 use Rattle.disk_model.specs.Brought.{writes}
-use Rattle.disk_model.specs.Steps.{Image, Reading, Writing, Flushing, Step, Submitted, Completed, Told}
+use Rattle.disk_model.specs.Steps.{Image, Reading, Writing, Flushing, Step, Submitted, Completed, Record}
 use Rattle.disk_model.specs.ValueList.{is_dropped, is_overtaken, values}
 use Rattle.dev_shelf.specs.declared.mem_shelf.recorded.RecordedWork.TheVariants.{Reads, Writes, Flushes}
 use Rattle.dev_shelf.specs.declared.mem_shelf.recorded.RecordedStep.{RecordedStep}
@@ -65,7 +65,7 @@ untouched_values opened (Completed tag (Flushing disk) true fresh ∷ steps) pv 
     stays false d e = refl
 
 -- so it is taken, and no choice is used
-pub takes_untouched : (told : Told) (pv sector : ℕ) (choices : List ℕ) → is_touched told.steps pv sector ≡ false → TakesOne told pv sector choices (told.opened pv sector) choices
+pub takes_untouched : (told : Record) (pv sector : ℕ) (choices : List ℕ) → is_touched told.steps pv sector ≡ false → TakesOne told pv sector choices (told.opened pv sector) choices
 takes_untouched told pv sector choices h =
     let e = untouched_values told.opened told.steps pv sector h in
     record {

@@ -6,7 +6,7 @@ use Rattle.dev_shelf.specs.declared.mem_shelf.recorded.RecordedOp.{RecordedOp}
 use Rattle.dev_shelf.specs.declared.mem_shelf.recorded.RecordedStep.{RecordedStep}
 use Rattle.dev_shelf.specs.declared.mem_shelf.recorded.RecordedStep.TheVariants.{Began, Ended}
 use Rattle.dev_shelf.specs.declared.mem_shelf.disk_row.DiskRow.{DiskRow}
-use Rattle.disk_model.specs.Steps.{Image, Work, Reading, Writing, Flushing, Step, Submitted, Completed, Told}
+use Rattle.disk_model.specs.Steps.{Image, Work, Reading, Writing, Flushing, Step, Submitted, Completed, Record}
 use Rattle.disk_model.specs.Record.{Operation}
 use Rattle.disk_model.specs.State.{State}
 use Rattle.op_queue.specs.Queue.{opened_state, state_of as queue_state}
@@ -52,7 +52,7 @@ abbrev pub sizes_of : DiskRow → List ℕ
 sizes_of row = lengths_of row.opened.items
 
 -- what the row tells: the opened images and the record
-abbrev pub told_by : DiskRow → Told
+abbrev pub told_by : DiskRow → Record
 told_by row = record { opened = image_of row.opened.items; steps = steps_of row }
 
 -- the state that the row stands for: its queue's, with what the row tells

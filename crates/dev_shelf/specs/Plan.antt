@@ -7,7 +7,7 @@ use Rattle.dev_shelf.specs.declared.plan.Hold.{Hold}
 use Rattle.dev_shelf.specs.declared.plan.ShelfPlan.{ShelfPlan}
 use Rattle.disk_model.specs.Brought.{writes}
 use Rattle.disk_model.specs.Record.{Operation}
-use Rattle.disk_model.specs.Steps.{Work, Reading, Writing, Flushing, Step, Submitted, Completed, Told, step_on}
+use Rattle.disk_model.specs.Steps.{Work, Reading, Writing, Flushing, Step, Submitted, Completed, Record, step_on}
 use Rattle.disk_model.specs.Operations.{work_of}
 use Rattle.disk_model.specs.State.{State, tags_of}
 
@@ -55,7 +55,7 @@ abbrev pub is_held : PlanLeft → List Step → Operation → Bool
 is_held plan steps o = nat_le plan.let_go o.tag && list_any (keeps_back steps o) plan.holds
 
 -- the steps of the record, where it is told
-abbrev pub steps_told : Option Told → List Step
+abbrev pub steps_told : Option Record → List Step
 steps_told None = []
 steps_told (Some told) = told.steps
 

@@ -3,7 +3,7 @@ use Rattle.std.proofs.Common.{◌≡◌, ◌≤◌, ◌<◌, ℕ, ◌+◌, Bool,
 use Rattle.std.proofs.lemmas.Bool.{cases_lt}
 use Rattle.sector_base.specs.declared.spans.Span.{Span}
 use Rattle.disk_model.specs.declared.ops.Done.{Done}
-use Rattle.disk_model.specs.Steps.{Work, Flushing, Step, Completed, Told, step_on, steps_on}
+use Rattle.disk_model.specs.Steps.{Work, Flushing, Step, Completed, Record, step_on, steps_on}
 use Rattle.disk_model.specs.Operations.{work_of}
 use Rattle.disk_model.specs.Calls.{Completes}
 use Rattle.disk_model.specs.State.{State}
@@ -25,38 +25,38 @@ use Rattle.disk_batch.proofs.Growing.{throughout_grown}
 use Rattle.disk_batch.proofs.WrittenBy.{bring_at_weaker, bring_written}
 
 -- two stretches of a record
-pub throughout_join : (told : Told) (from mid until : ℕ) (P : Told → Type 0) → Throughout from mid told P → Throughout mid until told P → Throughout from until told P
+pub throughout_join : (told : Record) (from mid until : ℕ) (P : Record → Type 0) → Throughout from mid told P → Throughout mid until told P → Throughout from until told P
 throughout_join told from mid until P first second moment ge upto = ⊎_elim (λ (early : moment < mid). first moment ge (omega arith)) (λ (late : mid ≤ moment). second moment late upto) (cases_lt moment mid)
 
 -- no step
-pub since_none : (P : Told → Type 0) (told : Told) → P told → HoldsSince P [] told
+pub since_none : (P : Record → Type 0) (told : Record) → P told → HoldsSince P [] told
 since_none P told h = throughout_now told P h
 
 -- one step
-pub since_step : (P : Told → Type 0) (step : Step) (told : Told) → P told → P (step_on step told) → HoldsSince P (step ∷ []) told
+pub since_step : (P : Record → Type 0) (step : Step) (told : Record) → P told → P (step_on step told) → HoldsSince P (step ∷ []) told
 since_step P step told before after = throughout_step step told (length told.steps) P after (throughout_now told P before)
 
 -- steps and then more of them
-pub since_both : (P : Told → Type 0) (first more : List Step) (told : Told) → HoldsSince P first told → HoldsSince P more (steps_on first told) → HoldsSince P (more ++ first) told
+pub since_both : (P : Record → Type 0) (first more : List Step) (told : Record) → HoldsSince P first told → HoldsSince P more (steps_on first told) → HoldsSince P (more ++ first) told
 since_both P first more told a b =
-    let mid : Told = steps_on first told in
+    let mid : Record = steps_on first told in
     let joined : steps_on more mid ≡ steps_on (more ++ first) told = ap (λ (l : List Step). record { opened = told.opened; steps = l }) (sym (append_assoc more first told.steps)) in
     let early : Throughout (length told.steps) (length mid.steps) (steps_on more mid) P = throughout_grown mid more (length told.steps) (length mid.steps) P (omega arith) a in
-    subst (λ (t : Told). Throughout (length told.steps) (length t.steps) t P) joined (throughout_join (steps_on more mid) (length told.steps) (length mid.steps) (length (steps_on more mid).steps) P early b)
+    subst (λ (t : Record). Throughout (length told.steps) (length t.steps) t P) joined (throughout_join (steps_on more mid) (length told.steps) (length mid.steps) (length (steps_on more mid).steps) P early b)
 
-pub since_weaker : (P Q : Told → Type 0) → ((t : Told) → P t → Q t) → (newer : List Step) (told : Told) → HoldsSince P newer told → HoldsSince Q newer told
+pub since_weaker : (P Q : Record → Type 0) → ((t : Record) → P t → Q t) → (newer : List Step) (told : Record) → HoldsSince P newer told → HoldsSince Q newer told
 since_weaker P Q w newer told h =
-    let end : Told = steps_on newer told in throughout_weaken end (length told.steps) (length told.steps) (length end.steps) (length end.steps) P Q (omega arith) (omega arith) w h
+    let end : Record = steps_on newer told in throughout_weaken end (length told.steps) (length told.steps) (length end.steps) (length end.steps) P Q (omega arith) (omega arith) w h
 
 -- what holds throughout holds at the end
-pub since_end : (P : Told → Type 0) (newer : List Step) (told : Told) → HoldsSince P newer told → P (steps_on newer told)
+pub since_end : (P : Record → Type 0) (newer : List Step) (told : Record) → HoldsSince P newer told → P (steps_on newer told)
 since_end P newer told h =
-    let end : Told = steps_on newer told in
+    let end : Record = steps_on newer told in
     let grown : length end.steps ≡ length newer + length told.steps = length-append newer told.steps in
     subst P (moment_now end) (h (length end.steps) (omega arith) (omega arith))
 
 -- the same of a shelf
-pub along_same : (P : Told → Type 0) (old new : State) → new ≡ old → IfSome old.told P → AllAlong P old new
+pub along_same : (P : Record → Type 0) (old new : State) → new ≡ old → IfSome old.told P → AllAlong P old new
 along_same P old new same h = record {
   newer = [];
   told = ap (λ (s : State). s.told) same ∙ none_on old.told;
@@ -64,19 +64,19 @@ along_same P old new same h = record {
   throughout = told_weaker P (HoldsSince P []) old.told (since_none P) h;
 }
   where
-    none_on : (o : Option Told) → o ≡ option_map (steps_on []) o
+    none_on : (o : Option Record) → o ≡ option_map (steps_on []) o
     none_on None = refl
     none_on (Some t) = refl
 
-joined_on : (first more : List Step) (o : Option Told) → option_map (steps_on more) (option_map (steps_on first) o) ≡ option_map (steps_on (more ++ first)) o
+joined_on : (first more : List Step) (o : Option Record) → option_map (steps_on more) (option_map (steps_on first) o) ≡ option_map (steps_on (more ++ first)) o
 joined_on first more None = refl
 joined_on first more (Some t) = ap (λ (l : List Step). Some (record { opened = t.opened; steps = l })) (sym (append_assoc more first t.steps))
 
-both_on : (P : Told → Type 0) (first more : List Step) (o mid : Option Told) → mid ≡ option_map (steps_on first) o → IfSome o (HoldsSince P first) → IfSome mid (HoldsSince P more) → IfSome o (HoldsSince P (more ++ first))
+both_on : (P : Record → Type 0) (first more : List Step) (o mid : Option Record) → mid ≡ option_map (steps_on first) o → IfSome o (HoldsSince P first) → IfSome mid (HoldsSince P more) → IfSome o (HoldsSince P (more ++ first))
 both_on P first more None mid e a b = tt
-both_on P first more (Some t) mid e a b = since_both P first more t a (subst (λ (o : Option Told). IfSome o (HoldsSince P more)) e b)
+both_on P first more (Some t) mid e a b = since_both P first more t a (subst (λ (o : Option Record). IfSome o (HoldsSince P more)) e b)
 
-pub along_both : (P : Told → Type 0) (old mid new : State) → AllAlong P old mid → AllAlong P mid new → AllAlong P old new
+pub along_both : (P : Record → Type 0) (old mid new : State) → AllAlong P old mid → AllAlong P mid new → AllAlong P old new
 along_both P old mid new a b = record {
   newer = b.newer ++ a.newer;
   told = b.told ∙ ap (option_map (steps_on b.newer)) a.told ∙ joined_on a.newer b.newer old.told;
@@ -84,11 +84,11 @@ along_both P old mid new a b = record {
   throughout = both_on P a.newer b.newer old.told mid.told a.told a.throughout b.throughout;
 }
 
-pub along_weaker : (P Q : Told → Type 0) (old new : State) → ((t : Told) → P t → Q t) → AllAlong P old new → AllAlong Q old new
+pub along_weaker : (P Q : Record → Type 0) (old new : State) → ((t : Record) → P t → Q t) → AllAlong P old new → AllAlong Q old new
 along_weaker P Q old new w h = record { newer = h.newer; told = h.told; next = h.next; throughout = told_weaker (HoldsSince P h.newer) (HoldsSince Q h.newer) old.told (since_weaker P Q w h.newer) h.throughout }
 
 -- what holds all along, where something is known besides
-pub along_where : (A : Type 0) (P Q : Told → Type 0) (old new : State) → (A → (t : Told) → P t → Q t) → IfSome old.told (λ told. A) → AllAlong P old new → AllAlong Q old new
+pub along_where : (A : Type 0) (P Q : Record → Type 0) (old new : State) → (A → (t : Record) → P t → Q t) → IfSome old.told (λ told. A) → AllAlong P old new → AllAlong Q old new
 along_where A P Q old new w known h = record {
   newer = h.newer;
   told = h.told;
@@ -97,32 +97,32 @@ along_where A P Q old new w known h = record {
 }
 
 -- what is so where the shelf tells its record is so once it has gone on
-pub along_told : (P : Told → Type 0) (A : Type 0) (old new : State) → AllAlong P old new → IfSome old.told (λ told. A) → IfSome new.told (λ told. A)
+pub along_told : (P : Record → Type 0) (A : Type 0) (old new : State) → AllAlong P old new → IfSome old.told (λ told. A) → IfSome new.told (λ told. A)
 along_told P A old new h is = told_after (steps_on h.newer) (λ told. A) (λ told. A) old.told new.told h.told (λ t e a. a) is
 
 -- P holds at the end
-pub along_end : (P : Told → Type 0) (old new : State) → AllAlong P old new → IfSome new.told P
+pub along_end : (P : Record → Type 0) (old new : State) → AllAlong P old new → IfSome new.told P
 along_end P old new h = told_after (steps_on h.newer) (HoldsSince P h.newer) P old.told new.told h.told (λ t e since. since_end P h.newer t since) h.throughout
 
 -- a completion, whoever's
-pub along_completes : (P : Told → Type 0) (before after : State) (done : Done) → Completes before done after → IfSome before.told P → IfSome after.told P → AllAlong P before after
+pub along_completes : (P : Record → Type 0) (before after : State) (done : Done) → Completes before done after → IfSome before.told P → IfSome after.told P → AllAlong P before after
 along_completes P before after done completes first last =
     let step : Step = Completed done.tag (work_of done.op) done.well completes.told.0 in
     record {
       newer = step ∷ [];
       told = completes.told.1;
       next = omega (arith, completes.next);
-      throughout = with_both before.told first (subst (λ (o : Option Told). IfSome o P) completes.told.1 last);
+      throughout = with_both before.told first (subst (λ (o : Option Record). IfSome o P) completes.told.1 last);
     }
   where
-    with_both : (o : Option Told) → IfSome o P → IfSome (option_map (step_on (Completed done.tag (work_of done.op) done.well completes.told.0)) o) P → IfSome o (HoldsSince P (Completed done.tag (work_of done.op) done.well completes.told.0 ∷ []))
+    with_both : (o : Option Record) → IfSome o P → IfSome (option_map (step_on (Completed done.tag (work_of done.op) done.well completes.told.0)) o) P → IfSome o (HoldsSince P (Completed done.tag (work_of done.op) done.well completes.told.0 ∷ []))
     with_both None a b = tt
     with_both (Some t) a b = since_step P (Completed done.tag (work_of done.op) done.well completes.told.0) t a b
 
 -- submissions are steps
-pub submitted_told : (os : List Operation) (o : Option Told) → option_map (submitted_on os) o ≡ option_map (steps_on (submissions os)) o
+pub submitted_told : (os : List Operation) (o : Option Record) → option_map (submitted_on os) o ≡ option_map (steps_on (submissions os)) o
 submitted_told os None = refl
-submitted_told os (Some t) = ap (λ (u : Told). Some u) (submitted_steps os t)
+submitted_told os (Some t) = ap (λ (u : Record). Some u) (submitted_steps os t)
 
 module _ (mine : ℕ → ℕ → Bool) (Now : ℕ → ℕ → List ℕ → Type 0) where
   -- submissions of writes that bring only allowed values
@@ -134,7 +134,7 @@ module _ (mine : ℕ → ℕ → Bool) (Now : ℕ → ℕ → List ℕ → Type 
     next = s.submits.next;
     throughout = told_weaker (AllLeave mine Now) (HoldsSince (AllLeave mine Now) (submissions s.os)) old.told
         (λ t now.
-        subst (λ (u : Told). Throughout (length t.steps) (length u.steps) u (AllLeave mine Now)) (submitted_steps s.os t)
+        subst (λ (u : Record). Throughout (length t.steps) (length u.steps) u (AllLeave mine Now)) (submitted_steps s.os t)
         (leaves_throughout mine Now s.os t (length t.steps) (λ pv sector own. subst (λ (ws : List Work). BringAt ws pv sector (Now pv sector)) (sym s.works_are) (bring pv sector own)) now
         (throughout_now t (AllLeave mine Now) now))) h;
   }

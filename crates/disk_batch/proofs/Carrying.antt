@@ -5,7 +5,7 @@ use Rattle.std.proofs.Common.{◌≡◌, ◌≤◌, ◌⊎◌, ℕ, Bool, true, 
 use Rattle.std.specs.List.{list_any}
 use Rattle.sector_base.specs.declared.spans.Span.{Span}
 use Rattle.disk_model.specs.declared.ops.Done.{Done}
-use Rattle.disk_model.specs.Steps.{Work, Reading, Writing, Flushing, Step, Submitted, Completed, Told, step_on, steps_on, now_after}
+use Rattle.disk_model.specs.Steps.{Work, Reading, Writing, Flushing, Step, Submitted, Completed, Record, step_on, steps_on, now_after}
 use Rattle.disk_model.specs.Record.{Operation, IsIn, in_flight_after, IsRecord, IsNewTag}
 use Rattle.disk_model.specs.Operations.{work_of, disk_of}
 use Rattle.disk_model.specs.Calls.{Completes}
@@ -14,7 +14,7 @@ use Rattle.disk_model.specs.Durability.{AllLeave}
 use Rattle.disk_model.specs.Moments.{Throughout}
 use Rattle.disk_model.specs.InFlight.{IsAmong}
 use Rattle.disk_model.specs.Order.{HasFlushed, WritesNothing}
-use Rattle.disk_model.specs.Since.{BetweenTold, writes_submitted, spans_read}
+use Rattle.disk_model.specs.Since.{BetweenRecords, writes_submitted, spans_read}
 use Rattle.disk_model.specs.Submitting.{BringAt, submitted_on, works_of, writes_at}
 use Rattle.disk_model.proofs.Durable.{only_leaves_on}
 use Rattle.disk_model.proofs.EachMoment.{leaves_throughout, throughout_now, throughout_step}
@@ -46,7 +46,7 @@ abbrev pub submissions : List Operation → List Step
 submissions [] = []
 submissions (o ∷ os) = submissions os ++ Submitted o.tag o.work ∷ []
 
-pub submitted_steps : (os : List Operation) (told : Told) → submitted_on os told ≡ steps_on (submissions os) told
+pub submitted_steps : (os : List Operation) (told : Record) → submitted_on os told ≡ steps_on (submissions os) told
 submitted_steps [] told = refl
 submitted_steps (o ∷ os) told =
     submitted_steps os (step_on (Submitted o.tag o.work) told)
@@ -143,7 +143,7 @@ flushed_newer (Completed tag (Flushing disk) true fresh ∷ newer) older from pv
 abbrev pub everywhere : ℕ → ℕ → Bool
 everywhere pv sector = true
 
-module _ (puts : List (Span × List (List ℕ))) (disks : List ℕ) (old : Told) where
+module _ (puts : List (Span × List (List ℕ))) (disks : List ℕ) (old : Record) where
   -- a crash may leave what it could leave before, or what a write brings
   abbrev pub Allowed : ℕ → ℕ → List ℕ → Type 0
   Allowed pv sector value = CanLeave old pv sector value ⊎ IsWrittenBy puts pv sector value
@@ -156,7 +156,7 @@ module _ (puts : List (Span × List (List ℕ))) (disks : List ℕ) (old : Told)
   written pv sector = writes_at (map write_work puts) pv sector
 
   -- all writes have completed, and flushes behind them are submitted
-  pub record HasFlushes (since : List Step) (view : View) (told : Told) : Type 0 where
+  pub record HasFlushes (since : List Step) (view : View) (told : Record) : Type 0 where
     pub newer : List Step
     pub older : List Step
     pub parts : since ≡ newer ++ older
@@ -168,7 +168,7 @@ module _ (puts : List (Span × List (List ℕ))) (disks : List ℕ) (old : Told)
     pub each : (pv : ℕ) → IsAmong disks pv → FlushesSince view told from pv
 
   -- what the batch has done since its start
-  pub record Carries (view : View) (told : Told) : Type 0 where
+  pub record Carries (view : View) (told : Record) : Type 0 where
     pub since : List Step
     pub steps : told ≡ steps_on since old
     pub writes : writes_submitted since ≡ puts
@@ -214,10 +214,10 @@ module _ (puts : List (Span × List (List ℕ))) (disks : List ℕ) (old : Told)
       }
 
   -- an operation of its own completes
-  leaves_done : (told : Told) (tag : ℕ) (work : Work) (well : Bool) (fresh : List Bool) → AllLeave everywhere Allowed told → AllLeave everywhere Allowed (step_on (Completed tag work well fresh) told)
+  leaves_done : (told : Record) (tag : ℕ) (work : Work) (well : Bool) (fresh : List Bool) → AllLeave everywhere Allowed told → AllLeave everywhere Allowed (step_on (Completed tag work well fresh) told)
   leaves_done told tag work well fresh h pv sector own = only_leaves_on told pv sector (Allowed pv sector) (Completed tag work well fresh) refl (h pv sector own)
 
-  pub carries_done : (view : View) (told : Told) (tag disk : ℕ) (work : Work) (well : Bool) (fresh : List Bool) → IsRecord (step_on (Completed tag work well fresh) told).steps
+  pub carries_done : (view : View) (told : Record) (tag disk : ℕ) (work : Work) (well : Bool) (fresh : List Bool) → IsRecord (step_on (Completed tag work well fresh) told).steps
       → Carries view told → Carries (done_on tag disk well view) (step_on (Completed tag work well fresh) told)
   carries_done view told tag disk work true fresh is h =
       let step : Step = Completed tag work true fresh in
@@ -261,7 +261,7 @@ module _ (puts : List (Span × List (List ℕ))) (disks : List ℕ) (old : Told)
       }
 
   -- its flushes are submitted
-  pub carries_flushes : (view : View) (os : List Operation) (told : Told) (from : ℕ) → view.tags ≡ [] → view.flushing ≡ false → view.lost ≡ None → OnlyFlushes os view.flush
+  pub carries_flushes : (view : View) (os : List Operation) (told : Record) (from : ℕ) → view.tags ≡ [] → view.flushing ≡ false → view.lost ≡ None → OnlyFlushes os view.flush
       → in_flight_after told.steps ≡ [] → IsNewTag from told.steps → All (λ (o : Operation). from ≤ o.tag) os → Carries view told → Carries (record view { tags = tags_of os; flushing = true }) (submitted_on os told)
   carries_flushes view os told from none writing well only idle new_tags fresh h =
       let quiet = nothing_of_flushes os view.flush only in
@@ -281,37 +281,37 @@ module _ (puts : List (Span × List (List ℕ))) (disks : List ℕ) (old : Told)
           older = h.since;
           parts = refl;
           writes = h.writes;
-          settled = subst (λ (t : Told). in_flight_after t.steps ≡ []) h.steps idle;
+          settled = subst (λ (t : Record). in_flight_after t.steps ≡ []) h.steps idle;
           quiet = quiet;
           from = from;
-          new_tags = subst (λ (t : Told). IsNewTag from t.steps) h.steps new_tags;
+          new_tags = subst (λ (t : Record). IsNewTag from t.steps) h.steps new_tags;
           each = λ pv among. flushes_submitted view os told from pv only (subst (λ (l : List ℕ). IsAmong l pv) (sym h.flush) among) fresh;
         };
       }
 
   -- it is over: what a read gives
-  now_of : (view : View) (told : Told) → IsRecord told.steps → in_flight_after old.steps ≡ [] → Carries view told → (pv sector : ℕ)
+  now_of : (view : View) (told : Record) → IsRecord told.steps → in_flight_after old.steps ≡ [] → Carries view told → (pv sector : ℕ)
       → (now_after told.opened told.steps pv sector ≡ now_after old.opened old.steps pv sector) ⊎ IsWrittenBy puts pv sector (now_after told.opened told.steps pv sector)
   now_of view told is idle h pv sector =
-      subst (λ (t : Told). (now_after t.opened t.steps pv sector ≡ now_after old.opened old.steps pv sector) ⊎ IsWrittenBy puts pv sector (now_after t.opened t.steps pv sector)) (sym h.steps)
-      (now_kept_or_brought old.opened old.steps idle pv sector (IsWrittenBy puts pv sector) h.since (subst (λ (t : Told). IsRecord t.steps) h.steps is)
+      subst (λ (t : Record). (now_after t.opened t.steps pv sector ≡ now_after old.opened old.steps pv sector) ⊎ IsWrittenBy puts pv sector (now_after t.opened t.steps pv sector)) (sym h.steps)
+      (now_kept_or_brought old.opened old.steps idle pv sector (IsWrittenBy puts pv sector) h.since (subst (λ (t : Record). IsRecord t.steps) h.steps is)
       (subst (λ (ws : List (Span × List (List ℕ))). StepsBring h.since pv sector (IsWrittenBy ws pv sector)) h.writes (steps_bring_written h.since pv sector)))
 
-  now_written : (view : View) (told : Told) → IsRecord told.steps → in_flight_after old.steps ≡ [] → in_flight_after told.steps ≡ [] → view.lost ≡ None → Carries view told → (pv sector : ℕ) → IsTrue (written pv sector)
+  now_written : (view : View) (told : Record) → IsRecord told.steps → in_flight_after old.steps ≡ [] → in_flight_after told.steps ≡ [] → view.lost ≡ None → Carries view told → (pv sector : ℕ) → IsTrue (written pv sector)
       → IsWrittenBy puts pv sector (now_after told.opened told.steps pv sector)
   now_written view told is idle over well h pv sector here =
-      subst (λ (t : Told). IsWrittenBy puts pv sector (now_after t.opened t.steps pv sector)) (sym h.steps)
-      (now_brought old.opened old.steps idle pv sector (IsWrittenBy puts pv sector) h.since (subst (λ (t : Told). IsRecord t.steps) h.steps is)
-      (subst (λ (t : Told). in_flight_after t.steps ≡ []) h.steps over)
+      subst (λ (t : Record). IsWrittenBy puts pv sector (now_after t.opened t.steps pv sector)) (sym h.steps)
+      (now_brought old.opened old.steps idle pv sector (IsWrittenBy puts pv sector) h.since (subst (λ (t : Record). IsRecord t.steps) h.steps is)
+      (subst (λ (t : Record). in_flight_after t.steps ≡ []) h.steps over)
       (subst (λ (ws : List (Span × List (List ℕ))). StepsBring h.since pv sector (IsWrittenBy ws pv sector)) h.writes (steps_bring_written h.since pv sector))
       (h.well well)
       (one_brings h.since pv sector (subst (λ (ws : List (Span × List (List ℕ))). IsTrue (writes_at (map write_work ws) pv sector)) (sym h.writes) here)))
 
   -- and which disks were flushed
-  flushed_last : (view : View) (told : Told) → IsRecord told.steps → IsTurn view IsWell → (h : Carries view told) → FlushesLast old puts disks h.since
+  flushed_last : (view : View) (told : Record) → IsRecord told.steps → IsTurn view IsWell → (h : Carries view told) → FlushesLast old puts disks h.since
   flushed_last view told is turn h =
       let s = h.flushes turn.2 turn.1 in
-      let is' : IsRecord (s.newer ++ (s.older ++ old.steps)) = subst IsRecord (ap (λ (l : List Step). l ++ old.steps) s.parts ∙ append_assoc s.newer s.older old.steps) (subst (λ (t : Told). IsRecord t.steps) h.steps is) in
+      let is' : IsRecord (s.newer ++ (s.older ++ old.steps)) = subst IsRecord (ap (λ (l : List Step). l ++ old.steps) s.parts ∙ append_assoc s.newer s.older old.steps) (subst (λ (t : Record). IsRecord t.steps) h.steps is) in
       record {
         newer = s.newer;
         older = s.older;
@@ -321,11 +321,11 @@ module _ (puts : List (Span × List (List ℕ))) (disks : List ℕ) (old : Told)
         quiet = s.quiet;
         flushed = all_of_each (λ pv. HasFlushed pv s.newer) disks (λ pv among.
             flushed_newer s.newer (s.older ++ old.steps) s.from pv s.new_tags (record_older s.newer (s.older ++ old.steps) is')
-            (subst (HasFlushedSince s.from pv) (ap (λ (t : Told). t.steps) h.steps ∙ ap (λ (l : List Step). l ++ old.steps) s.parts ∙ append_assoc s.newer s.older old.steps)
+            (subst (HasFlushedSince s.from pv) (ap (λ (t : Record). t.steps) h.steps ∙ ap (λ (l : List Step). l ++ old.steps) s.parts ∙ append_assoc s.newer s.older old.steps)
             (flushes_well view told s.from pv turn.0 turn.1 turn.2 (s.each pv among))));
       }
 
-  pub carried_well : (view : View) (told : Told) → IsRecord told.steps → in_flight_after old.steps ≡ [] → in_flight_after told.steps ≡ [] → IsTurn view IsWell → Carries view told → WritesAll old puts disks true told
+  pub carried_well : (view : View) (told : Record) → IsRecord told.steps → in_flight_after old.steps ≡ [] → in_flight_after told.steps ≡ [] → IsTurn view IsWell → Carries view told → WritesAll old puts disks true told
   carried_well view told is idle over turn h = record {
     since = h.since;
     steps = h.steps;
@@ -338,7 +338,7 @@ module _ (puts : List (Span × List (List ℕ))) (disks : List ℕ) (old : Told)
     flushes = λ ok. flushed_last view told is turn h;
   }
 
-  pub carried_lost : (view : View) (told : Told) → IsRecord told.steps → in_flight_after old.steps ≡ [] → Carries view told → WritesAll old puts disks false told
+  pub carried_lost : (view : View) (told : Record) → IsRecord told.steps → in_flight_after old.steps ≡ [] → Carries view told → WritesAll old puts disks false told
   carried_lost view told is idle h = record {
     since = h.since;
     steps = h.steps;
@@ -352,13 +352,13 @@ module _ (puts : List (Span × List (List ℕ))) (disks : List ℕ) (old : Told)
   }
 
   -- what it came to
-  abbrev pub CarriesOn : BatchStep → Told → Type 0
+  abbrev pub CarriesOn : BatchStep → Record → Type 0
   CarriesOn (Going next) told = Carries (view_of next) told
   CarriesOn Well told = (view : View) × IsTurn view IsWell × Carries view told
   CarriesOn (Lost pv) told = (view : View) × Carries view told
 
-  follows_carries : (mid new : State) (view : View) (turn : Turn) (step : BatchStep) (told : Told) → IsTurn view turn → IsLawful mid → tags_of mid.in_flight ≡ view.tags → Follows mid view turn step new → mid.told ≡ Some told → Carries view told
-      → (u : Told) × (new.told ≡ Some u) × CarriesOn step u
+  follows_carries : (mid new : State) (view : View) (turn : Turn) (step : BatchStep) (told : Record) → IsTurn view turn → IsLawful mid → tags_of mid.in_flight ≡ view.tags → Follows mid view turn step new → mid.told ≡ Some told → Carries view told
+      → (u : Record) × (new.told ≡ Some u) × CarriesOn step u
   follows_carries mid new view Waits (Going next) told is lawful tags f e h = (told, ap (λ (s : State). s.told) f.0 ∙ e, subst (λ (v : View). Carries v told) (sym f.1) h)
   follows_carries mid new view Flushes (Going next) told is lawful tags f e h =
       let idle : in_flight_after told.steps ≡ [] = sym (told_at (λ t. mid.in_flight ≡ in_flight_after t.steps) mid.told told lawful.in_flight e) ∙ no_tags mid.in_flight (tags ∙ is.0) in
@@ -381,18 +381,18 @@ module _ (puts : List (Span × List (List ℕ))) (disks : List ℕ) (old : Told)
   follows_carries mid new view (IsLost pv) Well told is lawful tags f e h = absurd f
 
 -- where the shelf tells its record
-abbrev pub CarriesTold : List (Span × List (List ℕ)) → List ℕ → BatchStep → Option Told → Option Told → Type 0
-CarriesTold puts disks step before after = BetweenTold (λ old told. CarriesOn puts disks old step told) before after
+abbrev pub CarriesTold : List (Span × List (List ℕ)) → List ℕ → BatchStep → Option Record → Option Record → Type 0
+CarriesTold puts disks step before after = BetweenRecords (λ old told. CarriesOn puts disks old step told) before after
 
 module _ (puts : List (Span × List (List ℕ))) (disks : List ℕ) where
   -- nothing is in flight in the record where nothing is in flight
-  idle_record : (state : State) (told : Told) → IsLawful state → state.in_flight ≡ [] → state.told ≡ Some told → in_flight_after told.steps ≡ []
+  idle_record : (state : State) (told : Record) → IsLawful state → state.in_flight ≡ [] → state.told ≡ Some told → in_flight_after told.steps ≡ []
   idle_record state told lawful idle e = sym (told_at (λ t. state.in_flight ≡ in_flight_after t.steps) state.told told lawful.in_flight e) ∙ idle
 
   pub starts_carries : (old new : State) (batching : Batching) → IsLawful old → old.in_flight ≡ [] → 0 < length puts → Starts old puts disks (view_of batching) new → CarriesTold puts disks (Going batching) old.told new.told
   starts_carries old new batching lawful idle some starts t e = by_puts puts starts some
     where
-      by_puts : (ps : List (Span × List (List ℕ))) → Starts old ps disks (view_of batching) new → 0 < length ps → (u : Told) × (new.told ≡ Some u) × CarriesOn ps disks t (Going batching) u
+      by_puts : (ps : List (Span × List (List ℕ))) → Starts old ps disks (view_of batching) new → 0 < length ps → (u : Record) × (new.told ≡ Some u) × CarriesOn ps disks t (Going batching) u
       by_puts [] starts some = absurd (omega arith)
       by_puts (p ∷ ps) starts some =
           let os = starts.0.os in (
@@ -418,13 +418,13 @@ module _ (puts : List (Span × List (List ℕ))) (disks : List ℕ) where
   turns_carries first before mid new (Lost pv) next done lawful on completes goes h t e = absurd goes
 
   -- it is over
-  pub ends_well : (old new : State) → IsLawful old → IsLawful new → old.in_flight ≡ [] → new.in_flight ≡ [] → CarriesTold puts disks Well old.told new.told → BetweenTold (λ before after. WritesAll before puts disks true after) old.told new.told
+  pub ends_well : (old new : State) → IsLawful old → IsLawful new → old.in_flight ≡ [] → new.in_flight ≡ [] → CarriesTold puts disks Well old.told new.told → BetweenRecords (λ before after. WritesAll before puts disks true after) old.told new.told
   ends_well old new lawful lawful' idle idle' h t e =
       let u = h t e in
       let is : IsRecord u.0.steps = told_at (λ s. IsRecord s.steps) new.told u.0 lawful'.follows u.1 in
       (u.0, u.1, carried_well puts disks t u.2.0 u.0 is (idle_record old t lawful idle e) (idle_record new u.0 lawful' idle' u.1) u.2.1 u.2.2)
 
-  pub ends_lost : (old new : State) (pv : ℕ) → IsLawful old → IsLawful new → old.in_flight ≡ [] → CarriesTold puts disks (Lost pv) old.told new.told → BetweenTold (λ before after. WritesAll before puts disks false after) old.told new.told
+  pub ends_lost : (old new : State) (pv : ℕ) → IsLawful old → IsLawful new → old.in_flight ≡ [] → CarriesTold puts disks (Lost pv) old.told new.told → BetweenRecords (λ before after. WritesAll before puts disks false after) old.told new.told
   ends_lost old new pv lawful lawful' idle h t e =
       let u = h t e in
       let is : IsRecord u.0.steps = told_at (λ s. IsRecord s.steps) new.told u.0 lawful'.follows u.1 in

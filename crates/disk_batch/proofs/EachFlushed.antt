@@ -3,9 +3,9 @@ use Rattle.std.proofs.Common.{◌≡◌, ◌<◌, Option, ℕ, ◌+◌, Bool, tr
 use Rattle.std.proofs.lemmas.Bool.{cases_lt}
 use Rattle.disk_model.specs.CarriesOut.{CarriesOut, with_operation}
 use Rattle.disk_model.specs.Order.{HasFlushed, WritesNothing}
-use Rattle.disk_model.specs.Since.{BetweenTold, spans_read}
+use Rattle.disk_model.specs.Since.{BetweenRecords, spans_read}
 use Rattle.disk_model.specs.State.{State}
-use Rattle.disk_model.specs.Steps.{Flushing, IsSame, Step, Submitted, Completed, Told, now_after, steps_on}
+use Rattle.disk_model.specs.Steps.{Flushing, IsSame, Step, Submitted, Completed, Record, now_after, steps_on}
 use Rattle.disk_model.specs.declared.ops.Done.{Done}
 use Rattle.disk_model.specs.declared.ops.Op.TheVariants.{Flush}
 use Rattle.disk_model.proofs.OneAtATime.{told_by_operation}
@@ -14,7 +14,7 @@ use Rattle.disk_model.proofs.StepsSince.{between_both, between_same, spans_read-
 use Rattle.disk_batch.specs.Flushing.{FlushesAll}
 
 -- this disk alone was flushed
-record FlushesOne (disk : ℕ) (well : Bool) (old new : Told) : Type 0 where
+record FlushesOne (disk : ℕ) (well : Bool) (old new : Record) : Type 0 where
   since : List Step
   steps : new ≡ steps_on since old
   nothing : WritesNothing since
@@ -29,7 +29,7 @@ completed_well : (tag disk : ℕ) (well : Bool) (fresh : List Bool) → IsTrue w
 completed_well tag disk true fresh is = inl refl
 completed_well tag disk false fresh is = absurd (cc)
 
-one_flush : (t : Told) (tag disk : ℕ) (well : Bool) (fresh : List Bool) → FlushesOne disk well t (with_operation tag (Flushing disk) well fresh t)
+one_flush : (t : Record) (tag disk : ℕ) (well : Bool) (fresh : List Bool) → FlushesOne disk well t (with_operation tag (Flushing disk) well fresh t)
 one_flush t tag disk well fresh = record {
   since = flush_steps tag disk well fresh;
   steps = refl;
@@ -47,7 +47,7 @@ flushed_below disk pv newer older before here within =
       | inr high ↦ flushed_newer pv newer older (let same : disk ≡ pv = omega (arith, high, within) in subst (λ (n : ℕ). HasFlushed n newer) same here)
     ]
 
-module _ (disk : ℕ) (well : Bool) (old mid new : Told) (all : FlushesAll disk true old mid) (one : FlushesOne disk well mid new) where
+module _ (disk : ℕ) (well : Bool) (old mid new : Record) (all : FlushesAll disk true old mid) (one : FlushesOne disk well mid new) where
   one_more : FlushesAll (disk + 1) well old new
   one_more = record {
     since = one.since ++ all.since;
@@ -59,21 +59,21 @@ module _ (disk : ℕ) (well : Bool) (old mid new : Told) (all : FlushesAll disk 
   }
 
 -- no disk was flushed yet
-pub none_flushed : (told : Option Told) → BetweenTold (FlushesAll 0 true) told told
+pub none_flushed : (told : Option Record) → BetweenRecords (FlushesAll 0 true) told told
 none_flushed told =
     between_same (FlushesAll 0 true) told told refl
     (λ old. record { since = []; steps = refl; nothing = tt; unread = refl; same = λ pv sector. refl; flushed = λ is pv within. absurd (omega (arith, within)) })
 
 -- one disk more was flushed, well or not
-pub one_more_flushed : (told : Option Told) (mid : State) (disk : ℕ) (done : Done) (new : State) → BetweenTold (FlushesAll disk true) told mid.told → CarriesOut mid (Flush disk) done new
-    → BetweenTold (FlushesAll (disk + 1) done.well) told new.told
+pub one_more_flushed : (told : Option Record) (mid : State) (disk : ℕ) (done : Done) (new : State) → BetweenRecords (FlushesAll disk true) told mid.told → CarriesOut mid (Flush disk) done new
+    → BetweenRecords (FlushesAll (disk + 1) done.well) told new.told
 one_more_flushed told mid disk done new before carried =
     between_both (FlushesAll disk true) (FlushesOne disk done.well) (FlushesAll (disk + 1) done.well) told mid.told new.told (one_more disk done.well) before
     (told_by_operation mid (Flush disk) done new (FlushesOne disk done.well) carried (λ t fresh. one_flush t done.tag disk done.well fresh))
 
-stopped : (disks disk : ℕ) (old new : Told) → FlushesAll disk false old new → FlushesAll disks false old new
+stopped : (disks disk : ℕ) (old new : Record) → FlushesAll disk false old new → FlushesAll disks false old new
 stopped disks disk old new f = record { since = f.since; steps = f.steps; nothing = f.nothing; unread = f.unread; same = f.same; flushed = λ is. absurd (cc) }
 
 -- one was not, and no further one was tried
-pub flushes_stopped : (disks disk : ℕ) (told told' : Option Told) → BetweenTold (FlushesAll disk false) told told' → BetweenTold (FlushesAll disks false) told told'
+pub flushes_stopped : (disks disk : ℕ) (told told' : Option Record) → BetweenRecords (FlushesAll disk false) told told' → BetweenRecords (FlushesAll disks false) told told'
 flushes_stopped disks disk told told' f old is = let r = f old is in (r.0, r.1, stopped disks disk old r.0 r.2)

@@ -3,7 +3,7 @@ use Rattle.std.proofs.Common.{◌≡◌, ◌≤◌, ℕ, Bool, true, false, ◌|
 use Rattle.std.proofs.lemmas.List.Elements.{All-append, All-cons, All-head, All-nil, All-tail}
 use Rattle.disk_model.specs.declared.ops.Op.{Op}
 use Rattle.disk_model.specs.declared.ops.Done.{Done}
-use Rattle.disk_model.specs.Steps.{Work, Step, Submitted, Completed, Told, step_on, steps_on}
+use Rattle.disk_model.specs.Steps.{Work, Step, Submitted, Completed, Record, step_on, steps_on}
 use Rattle.disk_model.specs.Record.{Operation}
 use Rattle.disk_model.specs.Brought.{writes}
 use Rattle.disk_model.specs.Calls.{Completes, Submits}
@@ -29,7 +29,7 @@ use Rattle.disk_batch.proofs.Rounding.{batch_elsewhere}
 
 module _ (mine : ℕ → ℕ → Bool) where
   -- a batch goes on as it was
-  pub batch_steps : (target : ℕ → ℕ → Bool) (Now Goal : ℕ → ℕ → List ℕ → Type 0) (view : View) (newer : List Step) (told : Told) → All (IsElsewhere mine view.tags) newer → BatchHolds mine target Now Goal view told
+  pub batch_steps : (target : ℕ → ℕ → Bool) (Now Goal : ℕ → ℕ → List ℕ → Type 0) (view : View) (newer : List Step) (told : Record) → All (IsElsewhere mine view.tags) newer → BatchHolds mine target Now Goal view told
       → BatchHolds mine target Now Goal view (steps_on newer told)
   batch_steps target Now Goal view [] told else h = h
   batch_steps target Now Goal view (step ∷ newer) told else h =
@@ -37,15 +37,15 @@ module _ (mine : ℕ → ℕ → Bool) where
       (batch_steps target Now Goal view newer told (All-tail (IsElsewhere mine view.tags) step newer else) h)
 
   -- what a crash may leave in these sectors stays, at each moment
-  leave_on : (Now : ℕ → ℕ → List ℕ → Type 0) (tags : List ℕ) (step : Step) (told : Told) → IsElsewhere mine tags step → AllLeave mine Now told → AllLeave mine Now (step_on step told)
+  leave_on : (Now : ℕ → ℕ → List ℕ → Type 0) (tags : List ℕ) (step : Step) (told : Record) → IsElsewhere mine tags step → AllLeave mine Now told → AllLeave mine Now (step_on step told)
   leave_on Now tags step told else h pv sector own = only_leaves_on told pv sector (Now pv sector) step (else.apart pv sector own) (h pv sector own)
 
-  pub leave_steps : (Now : ℕ → ℕ → List ℕ → Type 0) (tags : List ℕ) (newer : List Step) (told : Told) → All (IsElsewhere mine tags) newer → AllLeave mine Now told → AllLeave mine Now (steps_on newer told)
+  pub leave_steps : (Now : ℕ → ℕ → List ℕ → Type 0) (tags : List ℕ) (newer : List Step) (told : Record) → All (IsElsewhere mine tags) newer → AllLeave mine Now told → AllLeave mine Now (steps_on newer told)
   leave_steps Now tags [] told else h = h
   leave_steps Now tags (step ∷ newer) told else h =
       leave_on Now tags step (steps_on newer told) (All-head (IsElsewhere mine tags) step newer else) (leave_steps Now tags newer told (All-tail (IsElsewhere mine tags) step newer else) h)
 
-  leave_since : (Now : ℕ → ℕ → List ℕ → Type 0) (tags : List ℕ) (newer : List Step) (told : Told) → All (IsElsewhere mine tags) newer → AllLeave mine Now told → HoldsSince (AllLeave mine Now) newer told
+  leave_since : (Now : ℕ → ℕ → List ℕ → Type 0) (tags : List ℕ) (newer : List Step) (told : Record) → All (IsElsewhere mine tags) newer → AllLeave mine Now told → HoldsSince (AllLeave mine Now) newer told
   leave_since Now tags [] told else h = since_none (AllLeave mine Now) told h
   leave_since Now tags (step ∷ newer) told else h =
       let rest : All (IsElsewhere mine tags) newer = All-tail (IsElsewhere mine tags) step newer else in
@@ -62,17 +62,17 @@ module _ (mine : ℕ → ℕ → Bool) where
   }
 
   -- no write to them is in flight
-  pub still_steps : (tags : List ℕ) (newer : List Step) (told : Told) → All (IsElsewhere mine tags) newer → AreStill mine told → AreStill mine (steps_on newer told)
+  pub still_steps : (tags : List ℕ) (newer : List Step) (told : Record) → All (IsElsewhere mine tags) newer → AreStill mine told → AreStill mine (steps_on newer told)
   still_steps tags [] told else h = h
   still_steps tags (step ∷ newer) told else h = λ pv sector own.
       theirs_on [] (steps_on newer told) pv sector step ((All-head (IsElsewhere mine tags) step newer else).apart pv sector own) (still_steps tags newer told (All-tail (IsElsewhere mine tags) step newer else) h pv sector own)
 
   -- what was flushed was so, and what is on its way goes on
-  pub flushed_steps : (from pv : ℕ) (newer : List Step) (told : Told) → HasFlushedSince from pv told.steps → HasFlushedSince from pv (steps_on newer told).steps
+  pub flushed_steps : (from pv : ℕ) (newer : List Step) (told : Record) → HasFlushedSince from pv told.steps → HasFlushedSince from pv (steps_on newer told).steps
   flushed_steps from pv [] told h = h
   flushed_steps from pv (step ∷ newer) told h = flushed_on from pv step (steps_on newer told).steps (flushed_steps from pv newer told h)
 
-  pub flushes_steps : (view : View) (from pv : ℕ) (newer : List Step) (told : Told) → All (IsElsewhere mine view.tags) newer → FlushesSince view told from pv → FlushesSince view (steps_on newer told) from pv
+  pub flushes_steps : (view : View) (from pv : ℕ) (newer : List Step) (told : Record) → All (IsElsewhere mine view.tags) newer → FlushesSince view told from pv → FlushesSince view (steps_on newer told) from pv
   flushes_steps view from pv [] told else h = h
   flushes_steps view from pv (step ∷ newer) told else h =
       flushes_elsewhere view (steps_on newer told) from pv step (All-head (IsElsewhere mine view.tags) step newer else).foreign

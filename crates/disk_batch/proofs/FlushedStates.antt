@@ -2,7 +2,7 @@
 use Rattle.std.proofs.Common.{◌≡◌, ◌≤◌, ◌<◌, ℕ, true, false, List, [], ◌∷◌, length, get_or, All, Option, Some, None, IfSome, option_map, sym, ap, subst, ◌∙◌, arith}
 use Rattle.sector_base.specs.declared.spans.Span.{Span}
 use Rattle.disk_model.specs.declared.ops.Done.{Done}
-use Rattle.disk_model.specs.Steps.{Step, Completed, Told, step_on}
+use Rattle.disk_model.specs.Steps.{Step, Completed, Record, step_on}
 use Rattle.disk_model.specs.Record.{IsRecord, Operation}
 use Rattle.disk_model.specs.Calls.{Completes}
 use Rattle.disk_model.specs.InFlight.{IsAmong}
@@ -21,7 +21,7 @@ use Rattle.disk_batch.proofs.Calling.{IsTurn, is_turn}
 use Rattle.disk_batch.proofs.Flushing.{flushes_done, flushes_later, flushes_submitted, flushes_well}
 
 -- what is told of each disk is told of all
-pub told_of_each : (P : ℕ → Told → Type 0) (disks : List ℕ) (o : Option Told) → ((pv : ℕ) → IsAmong disks pv → IfSome o (P pv)) → IfSome o (λ told. All (λ (pv : ℕ). P pv told) disks)
+pub told_of_each : (P : ℕ → Record → Type 0) (disks : List ℕ) (o : Option Record) → ((pv : ℕ) → IsAmong disks pv → IfSome o (P pv)) → IfSome o (λ told. All (λ (pv : ℕ). P pv told) disks)
 told_of_each P disks None each = tt
 told_of_each P disks (Some told) each = all_of_each (λ (pv : ℕ). P pv told) disks each
 
@@ -35,7 +35,7 @@ module _ (from pv : ℕ) where
   starts_flushing old new [] disks view some starts = absurd (omega arith)
   starts_flushing old new (put ∷ puts) disks view some starts =
       let later : view.flushing ≡ false = ap (λ (v : View). v.flushing) starts.1 in
-      subst (λ (o : Option Told). IfSome o (λ told. FlushesSince view told from pv)) (sym starts.0.submits.told)
+      subst (λ (o : Option Record). IfSome o (λ told. FlushesSince view told from pv)) (sym starts.0.submits.told)
       (told_map (submitted_on starts.0.os) (λ told. FlushesSince view told from pv) old.told (λ t is. flushes_later view (submitted_on starts.0.os t) from pv later))
 
   -- an operation of its own completes

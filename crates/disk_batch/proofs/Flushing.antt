@@ -2,7 +2,7 @@
 use Rattle.std.proofs.Common.{◌≡◌, ◌≤◌, ℕ, Bool, true, false, List, [], ◌∷◌, All, Some, None, inl, inr, ⊎_elim, refl, sym, ap, subst, ◌∙◌}
 use Rattle.std.proofs.lemmas.Bool.Decides.{eqb_tells}
 use Rattle.std.proofs.lemmas.List.Elements.{All-head, All-tail}
-use Rattle.disk_model.specs.Steps.{Work, Reading, Writing, Flushing, Step, Submitted, Completed, Told, step_on}
+use Rattle.disk_model.specs.Steps.{Work, Reading, Writing, Flushing, Step, Submitted, Completed, Record, step_on}
 use Rattle.disk_model.specs.Record.{Operation, in_flight_after, IsRecord, IsIn}
 use Rattle.disk_batch.specs.Views.{View, done_on}
 use Rattle.disk_batch.specs.Flushed.{HasFlushedSince, AwaitsFlushSince, FlushesSince}
@@ -21,7 +21,7 @@ flushed_on from pv (Completed tag (Flushing disk) true fresh) steps h = inr h
 flushed_on from pv (Completed tag (Flushing disk) false fresh) steps h = h
 
 -- a step of somebody else
-pub flushes_elsewhere : (view : View) (told : Told) (from pv : ℕ) (step : Step) → IsForeign view.tags step → FlushesSince view told from pv → FlushesSince view (step_on step told) from pv
+pub flushes_elsewhere : (view : View) (told : Record) (from pv : ℕ) (step : Step) → IsForeign view.tags step → FlushesSince view told from pv → FlushesSince view (step_on step told) from pv
 flushes_elsewhere view told from pv step foreign h = record {
   stage = λ well flushing.
       ⊎_elim (λ a. inl (flushed_on from pv step told.steps a))
@@ -35,7 +35,7 @@ flushes_elsewhere view told from pv step foreign h = record {
 }
 
 -- a completion of its own
-pub flushes_done : (view : View) (told : Told) (from pv tag disk : ℕ) (work : Work) (well : Bool) (fresh : List Bool) → IsRecord (step_on (Completed tag work well fresh) told).steps
+pub flushes_done : (view : View) (told : Record) (from pv tag disk : ℕ) (work : Work) (well : Bool) (fresh : List Bool) → IsRecord (step_on (Completed tag work well fresh) told).steps
     → FlushesSince view told from pv → FlushesSince (done_on tag disk well view) (step_on (Completed tag work well fresh) told) from pv
 flushes_done view told from pv tag disk work false fresh is h = record { stage = λ (e : Some disk ≡ None) flushing. cc }
 flushes_done view told from pv tag disk work true fresh is h = record {
@@ -55,11 +55,11 @@ flushes_done view told from pv tag disk work true fresh is h = record {
 }
 
 -- a batch that hasn't submitted its flushes
-pub flushes_later : (view : View) (told : Told) (from pv : ℕ) → view.flushing ≡ false → FlushesSince view told from pv
+pub flushes_later : (view : View) (told : Record) (from pv : ℕ) → view.flushing ≡ false → FlushesSince view told from pv
 flushes_later view told from pv later = record { stage = λ well flushing. absurd (let e : true ≡ false = sym flushing ∙ later in cc) }
 
 -- its flushes are submitted
-awaits_since : (os : List Operation) (disks : List ℕ) (told : Told) (from pv : ℕ) → OnlyFlushes os disks → IsAmong disks pv → All (λ (o : Operation). from ≤ o.tag) os → AwaitsFlushSince (tags_of os) (submitted_on os told) from pv
+awaits_since : (os : List Operation) (disks : List ℕ) (told : Record) (from pv : ℕ) → OnlyFlushes os disks → IsAmong disks pv → All (λ (o : Operation). from ≤ o.tag) os → AwaitsFlushSince (tags_of os) (submitted_on os told) from pv
 awaits_since [] [] told from pv only among fresh = absurd among
 awaits_since [] (d ∷ disks) told from pv only among fresh = cc
 awaits_since (o ∷ os) [] told from pv only among fresh = absurd among
@@ -67,7 +67,7 @@ awaits_since (o ∷ os) (d ∷ disks) told from pv only among fresh =
     let P : Operation → Type 0 = λ p. from ≤ p.tag in
     let work : o.work ≡ Flushing d = cc in
     let rest : OnlyFlushes os disks = cc in
-    let told' : Told = step_on (Submitted o.tag o.work) told in
+    let told' : Record = step_on (Submitted o.tag o.work) told in
     ⊎_elim
     (λ (e : d ≡ pv).
     let here : Flushing pv ≡ o.work = sym (work ∙ ap (λ (n : ℕ). Flushing n) e) in
@@ -83,10 +83,10 @@ awaits_since (o ∷ os) (d ∷ disks) told from pv only among fresh =
     record { flush = a.flush; awaited = inr a.awaited; in_flight = a.in_flight; since = a.since })
     among
 
-pub flushes_submitted : (view : View) (os : List Operation) (told : Told) (from pv : ℕ) → OnlyFlushes os view.flush → IsAmong view.flush pv → All (λ (o : Operation). from ≤ o.tag) os
+pub flushes_submitted : (view : View) (os : List Operation) (told : Record) (from pv : ℕ) → OnlyFlushes os view.flush → IsAmong view.flush pv → All (λ (o : Operation). from ≤ o.tag) os
     → FlushesSince (record view { tags = tags_of os; flushing = true }) (submitted_on os told) from pv
 flushes_submitted view os told from pv only among fresh = record { stage = λ well flushing. inr (awaits_since os view.flush told from pv only among fresh) }
 
 -- a batch that is through has flushed the disk
-pub flushes_well : (view : View) (told : Told) (from pv : ℕ) → view.tags ≡ [] → view.flushing ≡ true → view.lost ≡ None → FlushesSince view told from pv → HasFlushedSince from pv told.steps
+pub flushes_well : (view : View) (told : Record) (from pv : ℕ) → view.tags ≡ [] → view.flushing ≡ true → view.lost ≡ None → FlushesSince view told from pv → HasFlushedSince from pv told.steps
 flushes_well view told from pv none flushing well h = ⊎_elim (λ a. a) (λ b. absurd (subst (λ (l : List ℕ). IsAmong l b.flush) none b.awaited)) (h.stage well flushing)

@@ -4,7 +4,7 @@ use Rattle.std.proofs.lemmas.List.{length-map}
 use Rattle.std.proofs.lemmas.List.Sums.{sum_by-append}
 use Rattle.sector_base.specs.declared.spans.Span.{Span}
 use Rattle.disk_model.specs.declared.ops.Done.{Done}
-use Rattle.disk_model.specs.Steps.{Work, Flushing, Step, Told, sectors_of_work}
+use Rattle.disk_model.specs.Steps.{Work, Flushing, Step, Record, sectors_of_work}
 use Rattle.disk_model.specs.Record.{Operation}
 use Rattle.disk_model.specs.Calls.{Completes}
 use Rattle.disk_model.specs.State.{State}
@@ -30,7 +30,7 @@ pub record WorksOn (old : State) (ops sectors to_submit : ℕ) (new : State) : T
   pub later : old.steps ≤ new.steps
 
 -- what held throughout a part of a record does so when the record has grown
-pub throughout_grown : (told : Told) (newer : List Step) (from until : ℕ) (P : Told → Type 0) → until ≤ length told.steps → Throughout from until told P → Throughout from until (record { opened = told.opened; steps = newer ++ told.steps }) P
+pub throughout_grown : (told : Record) (newer : List Step) (from until : ℕ) (P : Record → Type 0) → until ≤ length told.steps → Throughout from until told P → Throughout from until (record { opened = told.opened; steps = newer ++ told.steps }) P
 throughout_grown told newer from until P le so_far moment ge upto =
     let e : length (newer ++ told.steps) - moment ≡ length newer + (length told.steps - moment) = omega (arith, length-append newer told.steps) in
     let s : drop (length (newer ++ told.steps) - moment) (newer ++ told.steps) ≡ drop (length told.steps - moment) told.steps = ap (λ (k : ℕ). drop k (newer ++ told.steps)) e ∙ drop_newer newer told.steps (length told.steps - moment) in

@@ -6,7 +6,7 @@ use Rattle.std.proofs.lemmas.List.Concat.{flat_map-append}
 use Rattle.std.proofs.lemmas.Bool.{cases_lt}
 use Rattle.sector_base.specs.declared.spans.Span.{Span}
 use Rattle.sector_base.specs.Spans.{covers}
-use Rattle.disk_model.specs.Steps.{Image, IsSame, Told, now_after, steps_on, value_at}
+use Rattle.disk_model.specs.Steps.{Image, IsSame, Record, now_after, steps_on, value_at}
 use Rattle.disk_model.specs.Moments.{EveryImageSince}
 use Rattle.disk_model.specs.Durability.{IsBase}
 use Rattle.disk_model.specs.Since.{spans_read, writes_submitted}
@@ -82,7 +82,7 @@ pub first_none : (batches : List (List Put)) (base image : Image) → IsSame ima
 first_none batches base image same = record { count = 0; among = omega arith; either = λ pv sector. inl (same pv sector) }
 
 -- some batches are carried out, and then more
-module _ (old mid new : Told) (first more : List (List Put)) (well : Bool) (a : WritesInTurn old first true mid) (b : WritesInTurn mid more well new) where
+module _ (old mid new : Record) (first more : List (List Put)) (well : Bool) (a : WritesInTurn old first true mid) (b : WritesInTurn mid more well new) where
   -- all of the first were submitted, and then so many of the others
   all_first : take a.submitted first ≡ first
   all_first = ap (λ (n : ℕ). take n first) (a.whole refl) ∙ take-length first
@@ -103,9 +103,9 @@ module _ (old mid new : Told) (first more : List (List Put)) (well : Bool) (a : 
       since_weaken new (length mid.steps) (length mid.steps) (HasFirstBatches (take b.submitted more) (with_batches first base)) (Along base) (omega arith) (first_after_all first (take b.submitted more) base)
       (b.every_image (with_batches first base) (a.lasting refl base is))
       in
-      let late' : EveryImageSince (length mid.steps) (steps_on b.since mid) (Along base) = subst (λ (t : Told). EveryImageSince (length mid.steps) t (Along base)) b.steps late in
+      let late' : EveryImageSince (length mid.steps) (steps_on b.since mid) (Along base) = subst (λ (t : Record). EveryImageSince (length mid.steps) t (Along base)) b.steps late in
       subst (λ (l : List (List Put)). EveryImageSince (length old.steps) new (HasFirstBatches l base)) (sym both_taken)
-      (subst (λ (t : Told). EveryImageSince (length old.steps) t (Along base)) (sym b.steps)
+      (subst (λ (t : Record). EveryImageSince (length old.steps) t (Along base)) (sym b.steps)
       (since_join mid.opened mid.steps b.since (length old.steps) (Along base) (steps_grow old mid a.since a.steps) early late'))
 
   both_writes : writes_submitted (b.since ++ a.since) ≡ all_writes (take (length first + b.submitted) (first ++ more))
@@ -137,7 +137,7 @@ module _ (old mid new : Told) (first more : List (List Put)) (well : Bool) (a : 
   }
 
 -- some batches failed, and no more were begun
-pub turns_failed : (old mid : Told) (first more : List (List Put)) → WritesInTurn old first false mid → WritesInTurn old (first ++ more) false mid
+pub turns_failed : (old mid : Record) (first more : List (List Put)) → WritesInTurn old first false mid → WritesInTurn old (first ++ more) false mid
 turns_failed old mid first more a = record {
   since = a.since;
   steps = a.steps;
@@ -153,7 +153,7 @@ turns_failed old mid first more a = record {
 }
 
 -- no batch
-turns_none : (well : Bool) (told : Told) → WritesInTurn told [] well told
+turns_none : (well : Bool) (told : Record) → WritesInTurn told [] well told
 turns_none well told = record {
   since = [];
   steps = refl;
@@ -174,14 +174,14 @@ of_submitted n batches base image h =
     subst (λ (l : List (List Put)). HasFirstBatches l base image) (take-append-drop n batches) (first_of_more (take n batches) (drop n batches) base image h)
 
 -- the same where the shelf tells its record
-pub turns_told_both : (s0 s1 s2 : Option Told) (first more : List (List Put)) (well : Bool) → WritesInTurnTold s0 first true s1 → WritesInTurnTold s1 more well s2 → WritesInTurnTold s0 (first ++ more) well s2
+pub turns_told_both : (s0 s1 s2 : Option Record) (first more : List (List Put)) (well : Bool) → WritesInTurnTold s0 first true s1 → WritesInTurnTold s1 more well s2 → WritesInTurnTold s0 (first ++ more) well s2
 turns_told_both s0 s1 s2 first more well a b =
     between_both (λ old new. WritesInTurn old first true new) (λ old new. WritesInTurn old more well new) (λ old new. WritesInTurn old (first ++ more) well new) s0 s1 s2
     (λ old mid new p q. turns_both old mid new first more well p q) a b
 
-pub turns_told_failed : (s0 s1 : Option Told) (first more : List (List Put)) → WritesInTurnTold s0 first false s1 → WritesInTurnTold s0 (first ++ more) false s1
+pub turns_told_failed : (s0 s1 : Option Record) (first more : List (List Put)) → WritesInTurnTold s0 first false s1 → WritesInTurnTold s0 (first ++ more) false s1
 turns_told_failed s0 s1 first more a =
     between_weaker (λ old new. WritesInTurn old first false new) (λ old new. WritesInTurn old (first ++ more) false new) s0 s1 (λ old new p. turns_failed old new first more p) a
 
-pub turns_told_none : (s0 s1 : Option Told) (well : Bool) → s1 ≡ s0 → WritesInTurnTold s0 [] well s1
+pub turns_told_none : (s0 s1 : Option Record) (well : Bool) → s1 ≡ s0 → WritesInTurnTold s0 [] well s1
 turns_told_none s0 s1 well same = between_same (λ old new. WritesInTurn old [] well new) s0 s1 same (turns_none well)

@@ -2,7 +2,7 @@
 use Rattle.std.proofs.Common.{◌≡◌, ◌⊎◌, ℕ, Bool, true, false, IsTrue, List, [], ◌∷◌, map, length, inl, inr, ⊎_elim, refl, sym, subst, ◌∙◌, arith}
 use Rattle.std.proofs.lemmas.Bool.{cases_Bool}
 use Rattle.std.proofs.lemmas.List.{append-nil}
-use Rattle.disk_model.specs.Steps.{Image, IsSame, Told, now_after}
+use Rattle.disk_model.specs.Steps.{Image, IsSame, Record, now_after}
 use Rattle.disk_model.specs.Durability.{IsBase}
 use Rattle.disk_model.specs.InFlight.{IsAmong}
 use Rattle.disk_model.specs.Moments.{EveryImageSince}
@@ -15,7 +15,7 @@ use Rattle.disk_batch.specs.Writes.{IsWrittenBy, write_work}
 use Rattle.disk_batch.proofs.WritesOnImages.{written_at, written_is, written_kept}
 
 -- no two of its writes share a sector, and each is on a disk that it flushes
-module _ (old new : Told) (puts : List Put) (disks : List ℕ) (well : Bool) (all : WritesAll old puts disks well new) (apart : ShareNoSector puts)
+module _ (old new : Record) (puts : List Put) (disks : List ℕ) (well : Bool) (all : WritesAll old puts disks well new) (apart : ShareNoSector puts)
     (flushed : (pv sector : ℕ) → IsTrue (writes_at (map write_work puts) pv sector) → IsAmong disks pv) where
   -- what could be left there before was the base's, and what is written is what the image has after the writes
   either : (base : Image) → IsBase old base → (pv sector : ℕ) (value : List ℕ) → CanLeave old pv sector value ⊎ IsWrittenBy puts pv sector value

@@ -1,6 +1,6 @@
 -- What each step does to a batch's own sectors.
 use Rattle.std.proofs.Common.{◌≡◌, ℕ, Bool, true, false, IsTrue, List, [], ◌∷◌, None, refl, subst, ◌||◌}
-use Rattle.disk_model.specs.Steps.{Work, Step, Submitted, Completed, Told, step_on}
+use Rattle.disk_model.specs.Steps.{Work, Step, Submitted, Completed, Record, step_on}
 use Rattle.disk_model.specs.Record.{Operation, IsRecord}
 use Rattle.disk_model.specs.Brought.{writes}
 use Rattle.disk_model.specs.Durability.{OnlyLeaves, AllLeave}
@@ -22,7 +22,7 @@ or_false_right true b e = cc
 or_false_right false b e = e
 
 -- what is still is so after submissions that don't write there
-still_submitted : (os : List Operation) (told : Told) (pv sector : ℕ) → writes_at (works_of os) pv sector ≡ false → IsStill told pv sector → IsStill (submitted_on os told) pv sector
+still_submitted : (os : List Operation) (told : Record) (pv sector : ℕ) → writes_at (works_of os) pv sector ≡ false → IsStill told pv sector → IsStill (submitted_on os told) pv sector
 still_submitted [] told pv sector none h = h
 still_submitted (o ∷ os) told pv sector none h =
     still_submitted os (step_on (Submitted o.tag o.work) told) pv sector (or_false_right (writes o.work pv sector) (writes_at (works_of os) pv sector) none)
@@ -30,7 +30,7 @@ still_submitted (o ∷ os) told pv sector none h =
 
 module _ (mine target : ℕ → ℕ → Bool) (Now Goal : ℕ → ℕ → List ℕ → Type 0) where
   -- a batch starts
-  pub batch_started : (os : List Operation) (flush : List ℕ) (told : Told) → WriteTargets mine target Now Goal (works_of os) → AreStill mine told → AllLeave mine Now told
+  pub batch_started : (os : List Operation) (flush : List ℕ) (told : Record) → WriteTargets mine target Now Goal (works_of os) → AreStill mine told → AllLeave mine Now told
       → BatchHolds mine target Now Goal (record { tags = tags_of os; flush = flush; flushing = false; lost = None }) (submitted_on os told)
   batch_started os flush told puts still leaves = record {
     leaves = λ pv sector own. only_leaves_submitted os told pv sector (Now pv sector) (puts.allowed pv sector own) (leaves pv sector own);
@@ -39,7 +39,7 @@ module _ (mine target : ℕ → ℕ → Bool) (Now Goal : ℕ → ℕ → List �
   }
 
   -- a step of somebody else
-  pub batch_elsewhere : (view : View) (told : Told) (step : Step) → IsElsewhere mine view.tags step → BatchHolds mine target Now Goal view told → BatchHolds mine target Now Goal view (step_on step told)
+  pub batch_elsewhere : (view : View) (told : Record) (step : Step) → IsElsewhere mine view.tags step → BatchHolds mine target Now Goal view told → BatchHolds mine target Now Goal view (step_on step told)
   batch_elsewhere view told step else h = record {
     leaves = λ pv sector own. only_leaves_on told pv sector (Now pv sector) step (else.apart pv sector own) (h.leaves pv sector own);
     targets = λ pv sector own aim. foreign_on view told pv sector (Goal pv sector) step (else.apart pv sector own) else.foreign (h.targets pv sector own aim);
@@ -47,7 +47,7 @@ module _ (mine target : ℕ → ℕ → Bool) (Now Goal : ℕ → ℕ → List �
   }
 
   -- submissions of somebody else
-  pub batch_beside : (view : View) (os : List Operation) (told : Told) → ((pv sector : ℕ) → IsTrue (mine pv sector) → writes_at (works_of os) pv sector ≡ false) → BatchHolds mine target Now Goal view told
+  pub batch_beside : (view : View) (os : List Operation) (told : Record) → ((pv sector : ℕ) → IsTrue (mine pv sector) → writes_at (works_of os) pv sector ≡ false) → BatchHolds mine target Now Goal view told
       → BatchHolds mine target Now Goal view (submitted_on os told)
   batch_beside view [] told apart h = h
   batch_beside view (o ∷ os) told apart h =
@@ -55,7 +55,7 @@ module _ (mine target : ℕ → ℕ → Bool) (Now Goal : ℕ → ℕ → List �
       (batch_elsewhere view told (Submitted o.tag o.work) (record { foreign = tt; apart = λ pv sector own. or_false_left (writes o.work pv sector) (writes_at (works_of os) pv sector) (apart pv sector own) }) h)
 
   -- a completion of its own
-  pub batch_done : (view : View) (told : Told) (tag disk : ℕ) (work : Work) (well : Bool) (fresh : List Bool) → IsRecord (step_on (Completed tag work well fresh) told).steps
+  pub batch_done : (view : View) (told : Record) (tag disk : ℕ) (work : Work) (well : Bool) (fresh : List Bool) → IsRecord (step_on (Completed tag work well fresh) told).steps
       → BatchHolds mine target Now Goal view told → BatchHolds mine target Now Goal (done_on tag disk well view) (step_on (Completed tag work well fresh) told)
   batch_done view told tag disk work well fresh is h = record {
     leaves = λ pv sector own. only_leaves_on told pv sector (Now pv sector) (Completed tag work well fresh) refl (h.leaves pv sector own);
@@ -64,7 +64,7 @@ module _ (mine target : ℕ → ℕ → Bool) (Now Goal : ℕ → ℕ → List �
   }
 
   -- its flushes are submitted
-  pub batch_flushes : (view : View) (os : List Operation) (told : Told) → view.tags ≡ [] → view.flushing ≡ false → view.lost ≡ None → OnlyFlushes os view.flush
+  pub batch_flushes : (view : View) (os : List Operation) (told : Record) → view.tags ≡ [] → view.flushing ≡ false → view.lost ≡ None → OnlyFlushes os view.flush
       → ((pv sector : ℕ) → IsTrue (mine pv sector) → IsTrue (target pv sector) → IsAmong view.flush pv) → BatchHolds mine target Now Goal view told
       → BatchHolds mine target Now Goal (record view { tags = tags_of os; flushing = true }) (submitted_on os told)
   batch_flushes view os told none writing well only among h = record {
@@ -74,14 +74,14 @@ module _ (mine target : ℕ → ℕ → Bool) (Now Goal : ℕ → ℕ → List �
   }
 
   -- it is through
-  pub batch_brought : (view : View) (told : Told) → view.tags ≡ [] → view.flushing ≡ true → view.lost ≡ None → BatchHolds mine target Now Goal view told
+  pub batch_brought : (view : View) (told : Record) → view.tags ≡ [] → view.flushing ≡ true → view.lost ≡ None → BatchHolds mine target Now Goal view told
       → (pv sector : ℕ) → IsTrue (mine pv sector) → IsTrue (target pv sector) → OnlyLeaves told pv sector (Goal pv sector)
   batch_brought view told none flushing well h pv sector own aim = batch_well view told pv sector (Goal pv sector) none flushing well (h.targets pv sector own aim)
 
   -- it is over, well or not
-  still_here : (view : View) (told : Told) → view.tags ≡ [] → BatchHolds mine target Now Goal view told → (pv sector : ℕ) → IsTrue (mine pv sector) → (c : Bool) → target pv sector ≡ c → IsStill told pv sector
+  still_here : (view : View) (told : Record) → view.tags ≡ [] → BatchHolds mine target Now Goal view told → (pv sector : ℕ) → IsTrue (mine pv sector) → (c : Bool) → target pv sector ≡ c → IsStill told pv sector
   still_here view told none h pv sector own true e = subst (λ (l : List ℕ). OnlyTheirs l told pv sector) none (h.targets pv sector own e).alone
   still_here view told none h pv sector own false e = h.others pv sector own e
 
-  pub batch_still : (view : View) (told : Told) → view.tags ≡ [] → BatchHolds mine target Now Goal view told → AreStill mine told
+  pub batch_still : (view : View) (told : Record) → view.tags ≡ [] → BatchHolds mine target Now Goal view told → AreStill mine told
   batch_still view told none h pv sector own = still_here view told none h pv sector own (target pv sector) refl

@@ -3,9 +3,9 @@ use Rattle.std.proofs.Common.{◌≡◌, ℕ, ◌+◌, Bool, true, false, List, 
 use Rattle.std.proofs.lemmas.List.{map-append, reverse-append}
 use Rattle.std.proofs.lemmas.List.Sums.{sum_by-append}
 use Rattle.disk_model.specs.Idle.{SpendsAtMost}
-use Rattle.disk_model.specs.Since.{BetweenTold}
+use Rattle.disk_model.specs.Since.{BetweenRecords}
 use Rattle.disk_model.specs.State.{State}
-use Rattle.disk_model.specs.Steps.{Told}
+use Rattle.disk_model.specs.Steps.{Record}
 use Rattle.disk_model.proofs.StepsSince.{between_weaker}
 use Rattle.disk_batch.specs.declared.batch.Batch.{Batch}
 use Rattle.disk_batch.specs.Batches.{disks_of, writes_of}
@@ -15,14 +15,14 @@ use Rattle.disk_batch.proofs.InTurn.{turns_told_both, turns_told_failed}
 use Rattle.disk_batch.proofs.OneTurn.{one_turn}
 
 -- one batch was carried out
-pub turn_told : (s0 s1 : Option Told) (sizes : List ℕ) (batch : Batch) (well : Bool) → CanRun sizes batch → BetweenTold (λ old new. WritesAll old (writes_of batch) (disks_of batch) well new) s0 s1
+pub turn_told : (s0 s1 : Option Record) (sizes : List ℕ) (batch : Batch) (well : Bool) → CanRun sizes batch → BetweenRecords (λ old new. WritesAll old (writes_of batch) (disks_of batch) well new) s0 s1
     → WritesInTurnTold s0 (writes_of batch ∷ []) well s1
 turn_told s0 s1 sizes batch well can told =
     between_weaker (λ old new. WritesAll old (writes_of batch) (disks_of batch) well new) (λ old new. WritesInTurn old (writes_of batch ∷ []) well new) s0 s1
     (λ old new all. one_turn old new (writes_of batch) (disks_of batch) well all can.apart can.flushed) told
 
 -- some batches, and then this one
-pub turn_after : (s0 s1 s2 : Option Told) (first : List Batch) (batch : Batch) (well : Bool) → WritesInTurnTold s0 (map writes_of first) true s1 → WritesInTurnTold s1 (writes_of batch ∷ []) well s2
+pub turn_after : (s0 s1 s2 : Option Record) (first : List Batch) (batch : Batch) (well : Bool) → WritesInTurnTold s0 (map writes_of first) true s1 → WritesInTurnTold s1 (writes_of batch ∷ []) well s2
     → WritesInTurnTold s0 (map writes_of (first ++ batch ∷ [])) well s2
 turn_after s0 s1 s2 first batch well a b =
     subst (λ (l : List (List Put)). WritesInTurnTold s0 l well s2) (sym (map-append writes_of first (batch ∷ []))) (turns_told_both s0 s1 s2 (map writes_of first) (writes_of batch ∷ []) well a b)
@@ -33,7 +33,7 @@ taken_off first rest list all batch e last =
     append_assoc first (batch ∷ []) (reverse rest) ∙ ap (λ (l : List Batch). first ++ l) (sym (ap reverse last ∙ reverse-append rest (batch ∷ []))) ∙ e
 
 -- the batch failed, and those behind it were not begun
-pub turn_failed : (s0 s1 s2 : Option Told) (first rest list all : List Batch) (batch : Batch) → first ++ reverse list ≡ all → list ≡ rest ++ batch ∷ []
+pub turn_failed : (s0 s1 s2 : Option Record) (first rest list all : List Batch) (batch : Batch) → first ++ reverse list ≡ all → list ≡ rest ++ batch ∷ []
     → WritesInTurnTold s0 (map writes_of first) true s1 → WritesInTurnTold s1 (writes_of batch ∷ []) false s2 → WritesInTurnTold s0 (map writes_of all) false s2
 turn_failed s0 s1 s2 first rest list all batch e last a b =
     subst (λ (l : List (List Put)). WritesInTurnTold s0 l false s2)

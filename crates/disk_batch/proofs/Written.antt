@@ -1,7 +1,7 @@
 -- What a batch that was carried out alone leaves, for any property of the values.
 use Rattle.std.proofs.Common.{◌≡◌, ℕ, Bool, false, IsTrue, List, length, map, ⊎_elim, subst, arith}
 use Rattle.sector_base.specs.declared.spans.Span.{Span}
-use Rattle.disk_model.specs.Steps.{Told, now_after}
+use Rattle.disk_model.specs.Steps.{Record, now_after}
 use Rattle.disk_model.specs.Moments.{Throughout}
 use Rattle.disk_model.specs.Durability.{AllLeave, OnlyLeaves}
 use Rattle.disk_model.specs.InFlight.{IsAmong}
@@ -12,7 +12,7 @@ use Rattle.disk_batch.specs.Writes.{write_work}
 use Rattle.disk_batch.specs.WriteAll.{AddsOnly, WritesAll}
 use Rattle.disk_batch.proofs.WrittenBy.{not_written, written_has}
 
-module _ (old : Told) (puts : List (Span × List (List ℕ))) (disks : List ℕ) (well : Bool) (new : Told) (h : WritesAll old puts disks well new) where
+module _ (old : Record) (puts : List (Span × List (List ℕ))) (disks : List ℕ) (well : Bool) (new : Record) (h : WritesAll old puts disks well new) where
   -- writes that bring only allowed values to some sectors leave only such there, at every moment
   pub allowed_throughout : (mine : ℕ → ℕ → Bool) (Now : ℕ → ℕ → List ℕ → Type 0) → ((pv sector : ℕ) → IsTrue (mine pv sector) → BringAt (map write_work puts) pv sector (Now pv sector)) → AllLeave mine Now old
       → Throughout (length old.steps) (length new.steps) new (AllLeave mine Now)

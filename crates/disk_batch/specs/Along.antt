@@ -2,15 +2,15 @@
 use Rattle.std.specs.Prelude.{◌≡◌, ◌≤◌, ℕ, Bool, List, length, All, IfSome, option_map}
 use Rattle.disk_model.specs.Moments.{Throughout}
 use Rattle.disk_model.specs.State.{State}
-use Rattle.disk_model.specs.Steps.{Step, Told, steps_on}
+use Rattle.disk_model.specs.Steps.{Step, Record, steps_on}
 use Rattle.disk_batch.specs.Rounds.{IsElsewhere}
 
 -- P holds of what was told at each moment from this one on until these steps more
-abbrev pub HoldsSince : (Told → Type 0) → List Step → Told → Type 0
+abbrev pub HoldsSince : (Record → Type 0) → List Step → Record → Type 0
 HoldsSince P newer told = Throughout (length told.steps) (length (steps_on newer told).steps) (steps_on newer told) P
 
 -- the shelf went on, and P holds of what was told at each moment of it
-pub record AllAlong (P : Told → Type 0) (old new : State) : Type 0 where
+pub record AllAlong (P : Record → Type 0) (old new : State) : Type 0 where
   pub newer : List Step
   pub told : new.told ≡ option_map (steps_on newer) old.told
   pub next : old.next_tag ≤ new.next_tag

@@ -1,6 +1,6 @@
 -- That a batch has flushed its disks since it started.
 use Rattle.std.specs.Prelude.{◌≡◌, ◌≤◌, ◌⊎◌, ℕ, true, List, [], ◌∷◌, None}
-use Rattle.disk_model.specs.Steps.{Flushing, Step, Completed, Told}
+use Rattle.disk_model.specs.Steps.{Flushing, Step, Completed, Record}
 use Rattle.disk_model.specs.Record.{in_flight_after, IsIn}
 use Rattle.disk_batch.specs.Views.{View}
 use Rattle.disk_model.specs.InFlight.{IsAmong}
@@ -12,12 +12,12 @@ HasFlushedSince from pv (Completed tag (Flushing disk) true fresh ∷ steps) = (
 HasFlushedSince from pv (_ ∷ steps) = HasFlushedSince from pv steps
 
 -- such a flush is in flight
-pub record AwaitsFlushSince (tags : List ℕ) (told : Told) (from pv : ℕ) : Type 0 where
+pub record AwaitsFlushSince (tags : List ℕ) (told : Record) (from pv : ℕ) : Type 0 where
   pub flush : ℕ
   pub awaited : IsAmong tags flush
   pub in_flight : IsIn (in_flight_after told.steps) (record { tag = flush; work = Flushing pv })
   pub since : from ≤ flush
 
 -- once the flushes are submitted, that of this disk is in flight or has completed well
-pub record FlushesSince (view : View) (told : Told) (from pv : ℕ) : Type 0 where
+pub record FlushesSince (view : View) (told : Record) (from pv : ℕ) : Type 0 where
   pub stage : view.lost ≡ None → view.flushing ≡ true → HasFlushedSince from pv told.steps ⊎ AwaitsFlushSince view.tags told from pv

@@ -2,10 +2,10 @@
 use Rattle.std.specs.Prelude.{◌≡◌, ◌<◌, ℕ, Bool, IsTrue, List, []}
 use Rattle.disk_model.specs.Order.{HasFlushed, WritesNothing}
 use Rattle.disk_model.specs.Since.{spans_read}
-use Rattle.disk_model.specs.Steps.{IsSame, Step, Told, now_after, steps_on}
+use Rattle.disk_model.specs.Steps.{IsSame, Step, Record, now_after, steps_on}
 
 -- nothing was read or written, and where all went well a flush of each of so many disks has completed well
-pub record FlushesAll (disks : ℕ) (well : Bool) (old new : Told) : Type 0 where
+pub record FlushesAll (disks : ℕ) (well : Bool) (old new : Record) : Type 0 where
   pub since : List Step
   pub steps : new ≡ steps_on since old
   pub nothing : WritesNothing since

@@ -2,13 +2,13 @@
 use Rattle.std.specs.Prelude.{◌≡◌, ◌≤◌, ◌<◌, ◌⊎◌, ◌+◌, ℕ, suc, Bool, false, IsTrue, if◌then◌else◌, List, [], ◌∷◌, ◌++◌, length, map, take, flat_map, sum_by, Option, All}
 use Rattle.sector_base.specs.declared.spans.Span.{Span}
 use Rattle.sector_base.specs.Spans.{covers}
-use Rattle.disk_model.specs.Steps.{Image, IsSame, Step, Told, now_after, steps_on, value_at}
+use Rattle.disk_model.specs.Steps.{Image, IsSame, Step, Record, now_after, steps_on, value_at}
 use Rattle.disk_model.specs.Idle.{SpendsAtMost}
 use Rattle.disk_model.specs.State.{State}
 use Rattle.disk_model.specs.Moments.{EveryImageSince}
 use Rattle.disk_model.specs.Durability.{IsBase}
 use Rattle.disk_model.specs.InFlight.{IsAmong}
-use Rattle.disk_model.specs.Since.{BetweenTold, spans_read, writes_submitted}
+use Rattle.disk_model.specs.Since.{BetweenRecords, spans_read, writes_submitted}
 use Rattle.disk_model.specs.Submitting.{writes_at}
 use Rattle.disk_batch.specs.declared.batch.Batch.{Batch}
 use Rattle.disk_batch.specs.Batches.{disks_of, writes_of}
@@ -45,7 +45,7 @@ pub record HasFirstBatches (batches : List (List Put)) (base image : Image) : Ty
 -- The first so many of the batches were submitted in their order, each write once, and no other write, nor any read. At
 -- every moment a crash leaves some of these whole, and each sector of the next one of these old or new. Where all went well
 -- all were submitted, a crash leaves all of them, and a read gives what they wrote.
-pub record WritesInTurn (old : Told) (batches : List (List Put)) (well : Bool) (new : Told) : Type 0 where
+pub record WritesInTurn (old : Record) (batches : List (List Put)) (well : Bool) (new : Record) : Type 0 where
   pub since : List Step
   pub steps : new ≡ steps_on since old
   pub submitted : ℕ
@@ -58,8 +58,8 @@ pub record WritesInTurn (old : Told) (batches : List (List Put)) (well : Bool) (
   pub now : IsTrue well → IsSame (now_after new.opened new.steps) (with_batches batches (now_after old.opened old.steps))
 
 -- the same of a call, where the shelf tells its record
-abbrev pub WritesInTurnTold : Option Told → List (List Put) → Bool → Option Told → Type 0
-WritesInTurnTold before batches well after = BetweenTold (λ old new. WritesInTurn old batches well new) before after
+abbrev pub WritesInTurnTold : Option Record → List (List Put) → Bool → Option Record → Type 0
+WritesInTurnTold before batches well after = BetweenRecords (λ old new. WritesInTurn old batches well new) before after
 
 -- no two of the writes share a sector
 abbrev pub ShareNoSector : List Put → Type 0

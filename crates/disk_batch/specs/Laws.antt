@@ -1,6 +1,6 @@
 -- What a batch has made sure of a sector, step by step, where nobody else writes it.
 use Rattle.std.specs.Prelude.{◌≡◌, ℕ, Bool, true, false, IsTrue, List, [], None, Some, map}
-use Rattle.disk_model.specs.Steps.{Work, Flushing, Step, Completed, Told, step_on}
+use Rattle.disk_model.specs.Steps.{Work, Flushing, Step, Completed, Record, step_on}
 use Rattle.disk_model.specs.Record.{Operation, IsRecord}
 use Rattle.disk_model.specs.Brought.{brings}
 use Rattle.disk_model.specs.Durability.{OnlyLeaves}
@@ -21,27 +21,27 @@ Is value v = v ≡ value
 
 -- a batch that writes the value to a sector that nobody writes brings it there
 abbrev pub StartsBringing : Type 0
-StartsBringing = (os : List Operation) (flush : List ℕ) (told : Told) (pv sector : ℕ) (value : List ℕ) → IsTrue (writes_at (works_of os) pv sector) → BringAt (works_of os) pv sector (Is value) → IsStill told pv sector
+StartsBringing = (os : List Operation) (flush : List ℕ) (told : Record) (pv sector : ℕ) (value : List ℕ) → IsTrue (writes_at (works_of os) pv sector) → BringAt (works_of os) pv sector (Is value) → IsStill told pv sector
     → Brings (record { tags = tags_of os; flush = flush; flushing = false; lost = None }) (submitted_on os told) pv sector (Is value)
 
 -- a step of somebody else that brings nothing to the sector leaves it so
 abbrev pub StaysElsewhere : Type 0
-StaysElsewhere = (view : View) (told : Told) (pv sector : ℕ) (value : List ℕ) (step : Step) → brings step pv sector ≡ false → IsForeign view.tags step
+StaysElsewhere = (view : View) (told : Record) (pv sector : ℕ) (value : List ℕ) (step : Step) → brings step pv sector ≡ false → IsForeign view.tags step
     → Brings view told pv sector (Is value) → Brings view (step_on step told) pv sector (Is value)
 
 -- a completion of its own, well or not, leaves it so
 abbrev pub GoesOn : Type 0
-GoesOn = (view : View) (told : Told) (pv sector : ℕ) (value : List ℕ) (tag disk : ℕ) (work : Work) (well : Bool) (fresh : List Bool) → IsRecord (step_on (Completed tag work well fresh) told).steps
+GoesOn = (view : View) (told : Record) (pv sector : ℕ) (value : List ℕ) (tag disk : ℕ) (work : Work) (well : Bool) (fresh : List Bool) → IsRecord (step_on (Completed tag work well fresh) told).steps
     → Brings view told pv sector (Is value) → Brings (done_on tag disk well view) (step_on (Completed tag work well fresh) told) pv sector (Is value)
 
 -- the submission of the flushes, one of them of the disk, leaves it so
 abbrev pub BeginsFlushes : Type 0
-BeginsFlushes = (view : View) (os : List Operation) (told : Told) (pv sector : ℕ) (value : List ℕ) → view.tags ≡ [] → view.flushing ≡ false → view.lost ≡ None → works_of os ≡ map Flushing view.flush → IsAmong view.flush pv
+BeginsFlushes = (view : View) (os : List Operation) (told : Record) (pv sector : ℕ) (value : List ℕ) → view.tags ≡ [] → view.flushing ≡ false → view.lost ≡ None → works_of os ≡ map Flushing view.flush → IsAmong view.flush pv
     → Brings view told pv sector (Is value) → Brings (record view { tags = tags_of os; flushing = true }) (submitted_on os told) pv sector (Is value)
 
 -- once it is through, a crash can leave no other value there
 abbrev pub EndsWell : Type 0
-EndsWell = (view : View) (told : Told) (pv sector : ℕ) (value : List ℕ) → view.tags ≡ [] → view.flushing ≡ true → view.lost ≡ None → Brings view told pv sector (Is value) → OnlyLeaves told pv sector (Is value)
+EndsWell = (view : View) (told : Record) (pv sector : ℕ) (value : List ℕ) → view.tags ≡ [] → view.flushing ≡ true → view.lost ≡ None → Brings view told pv sector (Is value) → OnlyLeaves told pv sector (Is value)
 
 -- a completion that failed makes its disk the lost one, and one that went well changes nothing of that
 abbrev pub LosesOnFailure : Type 0

@@ -1,6 +1,6 @@
 -- A batch on its way, among other operations.
 use Rattle.std.specs.Prelude.{◌≡◌, ℕ, Bool, false, IsTrue, List}
-use Rattle.disk_model.specs.Steps.{Work, Step, Told}
+use Rattle.disk_model.specs.Steps.{Work, Step, Record}
 use Rattle.disk_model.specs.Brought.{brings}
 use Rattle.disk_model.specs.Durability.{AllLeave}
 use Rattle.disk_batch.specs.Views.{View}
@@ -9,12 +9,12 @@ use Rattle.disk_model.specs.Submitting.{writes_at, BringAt}
 use Rattle.disk_model.specs.InFlight.{IsStill, IsForeign}
 
 -- no write of these sectors is in flight
-abbrev pub AreStill : (ℕ → ℕ → Bool) → Told → Type 0
+abbrev pub AreStill : (ℕ → ℕ → Bool) → Record → Type 0
 AreStill mine told = (pv sector : ℕ) → IsTrue (mine pv sector) → IsStill told pv sector
 
 -- A batch that writes the targets among sectors that are its own: nobody else writes these. A crash may leave only values
 -- with Now in its sectors, and the batch is bringing values with Goal to the targets.
-pub record BatchHolds (mine target : ℕ → ℕ → Bool) (Now Goal : ℕ → ℕ → List ℕ → Type 0) (view : View) (told : Told) : Type 0 where
+pub record BatchHolds (mine target : ℕ → ℕ → Bool) (Now Goal : ℕ → ℕ → List ℕ → Type 0) (view : View) (told : Record) : Type 0 where
   pub leaves : AllLeave mine Now told
   pub targets : (pv sector : ℕ) → IsTrue (mine pv sector) → IsTrue (target pv sector) → Brings view told pv sector (Goal pv sector)
   pub others : (pv sector : ℕ) → IsTrue (mine pv sector) → target pv sector ≡ false → IsStill told pv sector

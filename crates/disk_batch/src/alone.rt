@@ -3,7 +3,7 @@ ghost use Rattle.std.specs.Prelude.{◌≡◌, ◌≤◌, ◌<◌, ◌+◌, [], 
 ghost use Rattle.disk_model.specs.Calls.{Completes};
 ghost use Rattle.disk_model.specs.Faults.{HasSameFaults};
 ghost use Rattle.disk_model.specs.Idle.{SpendsAtMost};
-ghost use Rattle.disk_model.specs.Since.{BetweenTold};
+ghost use Rattle.disk_model.specs.Since.{BetweenRecords};
 ghost use Rattle.disk_model.specs.State.{State};
 ghost use Rattle.disk_batch.specs.Writes.{LieIn, span_count};
 ghost use Rattle.disk_batch.specs.Batches.{writes_of, disks_of};
@@ -25,7 +25,7 @@ pub fn write_all<S: Shelf>(batch: Batch, shelf: &mut S) -> Result<(), u32>
     requires sectors { sum_by span_count (writes_of batch) ≤ (S.state shelf.old).spare_sectors }
     ensures spends { SpendsAtMost (S.state shelf.old) (length (writes_of batch) + length (disks_of batch)) (sum_by span_count (writes_of batch)) (S.state shelf.new) }
     ensures fault { MatchResult result (λ _. HasSameFaults (S.state shelf.old) (S.state shelf.new)) (λ pv. (S.state shelf.old).faults pv < (S.state shelf.new).faults pv) }
-    ensures told { BetweenTold (λ old new. WritesAll old (writes_of batch) (disks_of batch) (is_ok result) new) (S.state shelf.old).told (S.state shelf.new).told }
+    ensures told { BetweenRecords (λ old new. WritesAll old (writes_of batch) (disks_of batch) (is_ok result) new) (S.state shelf.old).told (S.state shelf.new).told }
 {
     let mut step = BatchStep::Going(batch.start(shelf));
     while let Some(done) = shelf.settle() {

@@ -2,7 +2,7 @@
 ghost use Rattle.std.specs.Prelude.{◌≡◌, ◌≤◌, [], length, is_ok, MatchResult};
 ghost use Rattle.disk_model.specs.Faults.{HasSameFaults, IsLastFault};
 ghost use Rattle.disk_model.specs.Idle.{IsIdleAgain};
-ghost use Rattle.disk_model.specs.Since.{BetweenTold};
+ghost use Rattle.disk_model.specs.Since.{BetweenRecords};
 ghost use Rattle.disk_model.specs.Steps.{Flushing};
 ghost use Rattle.disk_batch.specs.Flushing.{FlushesAll};
 
@@ -19,7 +19,7 @@ pub fn flush_all<S: Shelf>(shelf: &mut S) -> Result<(), DiskFault>
     ensures again { IsIdleAgain (S.state shelf.old) (S.state shelf.new) }
     ensures fault { MatchResult result (λ _. HasSameFaults (S.state shelf.old) (S.state shelf.new))
         (λ fault. IsLastFault (S.state shelf.old) (S.state shelf.new) fault.pv (Flushing fault.pv)) }
-    ensures told { BetweenTold (FlushesAll (length (S.state shelf.old).sizes) (is_ok result)) (S.state shelf.old).told (S.state shelf.new).told }
+    ensures told { BetweenRecords (FlushesAll (length (S.state shelf.old).sizes) (is_ok result)) (S.state shelf.old).told (S.state shelf.new).told }
 {
     for pv in 0..shelf.count() {
         flush(shelf, pv)?;

@@ -6,7 +6,7 @@ use Rattle.sector_base.specs.Spans.{covers}
 use Rattle.disk_model.specs.declared.fault.DiskFault.{DiskFault}
 use Rattle.disk_model.specs.declared.ops.Op.TheVariants.{Read}
 use Rattle.disk_model.specs.declared.ops.Done.{Done}
-use Rattle.disk_model.specs.Steps.{Reading, Told, now_after, value_at}
+use Rattle.disk_model.specs.Steps.{Reading, Record, now_after, value_at}
 use Rattle.disk_model.specs.Calls.{Reserves}
 use Rattle.disk_model.specs.CarriesOut.{CarriesOut, with_operation}
 use Rattle.disk_model.specs.Faults.{HasSameFaults, IsLastFault}
@@ -103,7 +103,7 @@ covers_place : (span : Span) (k : ℕ) → k < span.count → IsTrue (covers spa
 covers_place span k lt = grind (arith, nat_tests)
 
 -- what stands in the buffer of a read, by its place there
-pub read_holds : (told : Option Told) (span : Span) (sectors : List (List ℕ))
+pub read_holds : (told : Option Record) (span : Span) (sectors : List (List ℕ))
     → IfSome told (λ t. (pv sector : ℕ) → IsTrue (covers span pv sector) → value_at span sectors sector ≡ now_after t.opened t.steps pv sector)
     → HoldsOfDisk told span.pv (λ sector_at. (k : ℕ) → k < span.count → slice_index_or sectors k [] ≡ sector_at (span.first + k))
 read_holds None span sectors h = tt

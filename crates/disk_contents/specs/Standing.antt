@@ -1,7 +1,7 @@
 -- What can stand on a disk, whatever its sectors are.
 use Rattle.std.specs.Prelude.{◌≡◌, ◌≤◌, ◌<◌, ℕ, ◌+◌, ◌*◌, List, [], map, All}
-use Rattle.mda_header.specs.declared.entry.Entry.{Entry}
-use Rattle.mda_header.specs.declared.entry.Entry.TheVariants.{Ignored, Nothing, Text, Refused}
+use Rattle.mda_header.specs.declared.entry.HeaderEntry.{HeaderEntry}
+use Rattle.mda_header.specs.declared.entry.HeaderEntry.TheVariants.{Ignored, Nothing, Text, Refused}
 use Rattle.mda_header.specs.Header.{IsInside}
 use Rattle.mda_ring.specs.declared.area.Area.{Area}
 use Rattle.mda_ring.specs.Areas.{IsArea}
@@ -22,7 +22,7 @@ abbrev pub area_on : ℕ → Extent → Area
 area_on pv area = record { pv = pv; start = area.offset; size = area.size }
 
 -- the committed text, if there is one, lies in the area
-abbrev pub LiesInside : ℕ → Entry → Type 0
+abbrev pub LiesInside : ℕ → HeaderEntry → Type 0
 LiesInside size Ignored = Unit {0}
 LiesInside size Nothing = Unit {0}
 LiesInside size (Text locn) = IsInside size locn

@@ -1,5 +1,5 @@
 //! What stands on a disk.
-use mda_header::{Entry, MdaHeader, MdaRefusal};
+use mda_header::{HeaderEntry, MdaHeader, MdaRefusal};
 use pv_header::{Extent, PvHeader, PvRefusal};
 use pv_label::LabelRefusal;
 use sector_base::ItemList;
@@ -11,7 +11,7 @@ pub struct AreaFound {
     /// Its header, or why the sector isn't the header of this area.
     pub header: Result<MdaHeader, MdaRefusal>,
     /// What the sector says of the committed text.
-    pub entry: Entry,
+    pub entry: HeaderEntry,
 }
 
 /// The metadata areas of a physical volume, in the order of its header, with what stands in their header sectors.

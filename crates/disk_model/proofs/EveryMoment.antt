@@ -1,19 +1,19 @@
 -- What every image has at every moment.
 use Rattle.std.proofs.Common.{◌≡◌, ◌≤◌, ◌<◌, ℕ, suc, ◌+◌, ◌-◌, List, [], ◌∷◌, ◌++◌, length, drop, ⊎_elim, sym, ap, subst, ◌∙◌, arith, length-append}
 use Rattle.std.proofs.lemmas.Bool.{cases_lt}
-use Rattle.disk_model.specs.Steps.{Image, Step, Told, step_on}
+use Rattle.disk_model.specs.Steps.{Image, Step, Record, step_on}
 use Rattle.disk_model.specs.CrashValues.{IsImage}
 use Rattle.disk_model.specs.Moments.{EveryImageSince}
 use Rattle.disk_model.proofs.OneStepMore.{IsQuiet, quiet}
 
 -- what every image has now, every one has since now
-pub since_now : (told : Told) (P : Image → Type 0) → ((image : Image) → IsImage told image → P image) → EveryImageSince (length told.steps) told P
+pub since_now : (told : Record) (P : Image → Type 0) → ((image : Image) → IsImage told image → P image) → EveryImageSince (length told.steps) told P
 since_now told P here moment from upto image is =
     let e : length told.steps - moment ≡ 0 = omega arith in
     here image (subst (λ (k : ℕ). IsImage (record { opened = told.opened; steps = drop k told.steps }) image) e is)
 
 -- what every image had so far, and has after one step more
-pub since_step : (step : Step) (told : Told) (from : ℕ) (P : Image → Type 0) → from ≤ length told.steps → EveryImageSince from told P
+pub since_step : (step : Step) (told : Record) (from : ℕ) (P : Image → Type 0) → from ≤ length told.steps → EveryImageSince from told P
     → ((image : Image) → IsImage (step_on step told) image → P image) → EveryImageSince from (step_on step told) P
 since_step step told from P le so_far here moment ge upto image is =
     ⊎_elim
@@ -26,11 +26,11 @@ since_step step told from P le so_far here moment ge upto image is =
     (cases_lt (length told.steps) moment)
 
 -- a step that submits no write brings no image
-quiet_image : (step : Step) (told : Told) → IsQuiet step → (image : Image) → IsImage (step_on step told) image → IsImage told image
+quiet_image : (step : Step) (told : Record) → IsQuiet step → (image : Image) → IsImage (step_on step told) image → IsImage told image
 quiet_image step told q image is pv sector = ((is pv sector).0, quiet told.opened step told.steps pv sector (is pv sector).0 (image pv sector) q (is pv sector).1)
 
 -- what every image had so far, every one has after a step that submits no write
-pub since_quiet : (step : Step) (told : Told) (from : ℕ) (P : Image → Type 0) → IsQuiet step → from ≤ length told.steps → EveryImageSince from told P → EveryImageSince from (step_on step told) P
+pub since_quiet : (step : Step) (told : Record) (from : ℕ) (P : Image → Type 0) → IsQuiet step → from ≤ length told.steps → EveryImageSince from told P → EveryImageSince from (step_on step told) P
 since_quiet step told from P q le so_far =
     since_step step told from P le so_far
     (λ image is. so_far (length told.steps) le (omega arith) image
@@ -59,11 +59,11 @@ since_join opened older newer from P le first second moment ge upto image is =
     (cases_lt moment (length older))
 
 -- what every image has since a moment, every one has since a later one, and what follows from it
-pub since_weaken : (told : Told) (from from' : ℕ) (P Q : Image → Type 0) → from ≤ from' → ((image : Image) → P image → Q image) → EveryImageSince from told P → EveryImageSince from' told Q
+pub since_weaken : (told : Record) (from from' : ℕ) (P Q : Image → Type 0) → from ≤ from' → ((image : Image) → P image → Q image) → EveryImageSince from told P → EveryImageSince from' told Q
 since_weaken told from from' P Q le weaker so_far moment ge upto image is = weaker image (so_far moment (omega arith) upto image is)
 
 -- what every image has since a moment, every one has now
-pub at_last : (told : Told) (from : ℕ) (P : Image → Type 0) → from ≤ length told.steps → EveryImageSince from told P → (image : Image) → IsImage told image → P image
+pub at_last : (told : Record) (from : ℕ) (P : Image → Type 0) → from ≤ length told.steps → EveryImageSince from told P → (image : Image) → IsImage told image → P image
 at_last told from P le so_far image is =
     let e : length told.steps - length told.steps ≡ 0 = omega arith in
     so_far (length told.steps) le (omega arith) image (subst (λ (k : ℕ). IsImage (record { opened = told.opened; steps = drop k told.steps }) image) (sym e) is)

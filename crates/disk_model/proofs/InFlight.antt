@@ -2,7 +2,7 @@
 use Rattle.std.proofs.Common.{◌≡◌, ◌≢◌, ◌<◌, ◌⊎◌, ℕ, Bool, true, false, not, ◌==◌, List, [], ◌∷◌, ◌++◌, filter, Some, inl, inr, ⊎_elim, refl, sym, ap, subst, ◌∙◌, arith, append_assoc, ◌≤◌, All, Contains, zero, suc}
 use Rattle.std.proofs.lemmas.Bool.Decides.{eqb_tells}
 use Rattle.std.proofs.lemmas.List.Elements.{All-head, All-tail}
-use Rattle.disk_model.specs.Steps.{Work, Step, Submitted, Completed, Told, step_on}
+use Rattle.disk_model.specs.Steps.{Work, Step, Submitted, Completed, Record, step_on}
 use Rattle.disk_model.specs.Record.{IsIn, Operation, in_flight_after, work_of_tag, IsRecord, IsNewTag}
 use Rattle.disk_model.specs.Brought.{writes, brings}
 use Rattle.disk_model.specs.State.{State, tags_of}
@@ -95,38 +95,38 @@ completes_its_own steps tag work f is found a e =
     ap (λ (o : Operation). o.work) (unique_in_flight steps f (record { tag = tag; work = work }) is a (found_in (in_flight_after steps) tag work found) e)
 
 -- it is in flight after a step that doesn't complete it
-pub in_flight_on : (tags : List ℕ) (step : Step) (told : Told) (f : Operation) → IsForeign tags step → IsAmong tags f.tag → IsIn (in_flight_after told.steps) f → IsIn (in_flight_after (step_on step told).steps) f
+pub in_flight_on : (tags : List ℕ) (step : Step) (told : Record) (f : Operation) → IsForeign tags step → IsAmong tags f.tag → IsIn (in_flight_after told.steps) f → IsIn (in_flight_after (step_on step told).steps) f
 in_flight_on tags (Submitted tag work) told f foreign awaited a = in_older (in_flight_after told.steps) _ f a
 in_flight_on tags (Completed tag work well fresh) told f foreign awaited a = in_left (in_flight_after told.steps) tag f a (λ e. foreign (subst (IsAmong tags) e awaited))
 
 -- after a completion with another tag
-pub in_flight_left : (tag : ℕ) (work : Work) (well : Bool) (fresh : List Bool) (told : Told) (f : Operation) → (f.tag ≢ tag) → IsIn (in_flight_after told.steps) f → IsIn (in_flight_after (step_on (Completed tag work well fresh) told).steps) f
+pub in_flight_left : (tag : ℕ) (work : Work) (well : Bool) (fresh : List Bool) (told : Record) (f : Operation) → (f.tag ≢ tag) → IsIn (in_flight_after told.steps) f → IsIn (in_flight_after (step_on (Completed tag work well fresh) told).steps) f
 in_flight_left tag work well fresh told f other a = in_left (in_flight_after told.steps) tag f a other
 
 -- after submissions
-pub in_flight_submitted : (os : List Operation) (told : Told) (f : Operation) → IsIn (in_flight_after told.steps) f → IsIn (in_flight_after (submitted_on os told).steps) f
+pub in_flight_submitted : (os : List Operation) (told : Record) (f : Operation) → IsIn (in_flight_after told.steps) f → IsIn (in_flight_after (submitted_on os told).steps) f
 in_flight_submitted [] told f a = a
 in_flight_submitted (o ∷ os) told f a = in_flight_submitted os (step_on (Submitted o.tag o.work) told) f (in_older (in_flight_after told.steps) _ f a)
 
 -- what was just submitted is in flight
-pub in_flight_new : (tag : ℕ) (work : Work) (told : Told) → IsIn (in_flight_after (step_on (Submitted tag work) told).steps) (record { tag = tag; work = work })
+pub in_flight_new : (tag : ℕ) (work : Work) (told : Record) → IsIn (in_flight_after (step_on (Submitted tag work) told).steps) (record { tag = tag; work = work })
 in_flight_new tag work told = in_newest (in_flight_after told.steps) _
 
 -- nobody else writes the sector after a step that doesn't
-pub theirs_on : (tags : List ℕ) (told : Told) (pv sector : ℕ) (step : Step) → brings step pv sector ≡ false → OnlyTheirs tags told pv sector → OnlyTheirs tags (step_on step told) pv sector
+pub theirs_on : (tags : List ℕ) (told : Record) (pv sector : ℕ) (step : Step) → brings step pv sector ≡ false → OnlyTheirs tags told pv sector → OnlyTheirs tags (step_on step told) pv sector
 theirs_on tags told pv sector (Submitted tag work) q h o a w =
     ⊎_elim (λ was. h o was w) (λ (e : record { tag = tag; work = work } ≡ o). absurd (let v : work ≡ o.work = ap (λ (x : Operation). x.work) e in
     let c : true ≡ false = sym w ∙ sym (ap (λ (x : Work). writes x pv sector) v) ∙ q in cc)) (in_append (in_flight_after told.steps) _ o a)
 theirs_on tags told pv sector (Completed tag work well fresh) q h o a w = h o (in_filter (in_flight_after told.steps) tag o a).0 w
 
 -- after a completion of their own
-pub theirs_done : (tags : List ℕ) (told : Told) (pv sector tag : ℕ) (work : Work) (well : Bool) (fresh : List Bool) → OnlyTheirs tags told pv sector
+pub theirs_done : (tags : List ℕ) (told : Record) (pv sector tag : ℕ) (work : Work) (well : Bool) (fresh : List Bool) → OnlyTheirs tags told pv sector
     → OnlyTheirs (filter (λ (t : ℕ). not (t == tag)) tags) (step_on (Completed tag work well fresh) told) pv sector
 theirs_done tags told pv sector tag work well fresh h o a w =
     is_among-filter tags tag o.tag (h o (in_filter (in_flight_after told.steps) tag o a).0 w) ((in_filter (in_flight_after told.steps) tag o a).1)
 
 -- after submissions of their own
-pub theirs_submitted : (os : List Operation) (tags : List ℕ) (told : Told) (pv sector : ℕ) → OnlyTheirs tags told pv sector → OnlyTheirs (tags ++ tags_of os) (submitted_on os told) pv sector
+pub theirs_submitted : (os : List Operation) (tags : List ℕ) (told : Record) (pv sector : ℕ) → OnlyTheirs tags told pv sector → OnlyTheirs (tags ++ tags_of os) (submitted_on os told) pv sector
 theirs_submitted [] tags told pv sector h = λ o a w. is_among-left tags [] o.tag (h o a w)
 theirs_submitted (o ∷ os) tags told pv sector h =
     let step : OnlyTheirs (tags ++ o.tag ∷ []) (step_on (Submitted o.tag o.work) told) pv sector =

@@ -3,7 +3,7 @@ use Rattle.std.proofs.Common.{◌≡◌, ◌≢◌, ℕ, ◌+◌, ◌==◌, ◌&
 use Rattle.std.proofs.lemmas.Bool.Decides.{nat_tests}
 use Rattle.disk_model.specs.declared.ops.Op.{Op}
 use Rattle.disk_model.specs.declared.ops.Done.{Done}
-use Rattle.disk_model.specs.Steps.{Told, Work}
+use Rattle.disk_model.specs.Steps.{Record, Work}
 use Rattle.disk_model.specs.CarriesOut.{CarriesOut, with_operation}
 use Rattle.disk_model.specs.Faults.{EndsInFault, HasSameFaults, IsLastFault}
 use Rattle.disk_model.specs.Operations.{disk_of, work_of}
@@ -25,8 +25,8 @@ module _ (old new : State) (op : Op) (done : Done) (c : CarriesOut old op done n
 
   ends_in_fault : done.well ≡ false → IfSome new.told (λ t. EndsInFault (work_of op) t.steps)
   ends_in_fault failed =
-      let Failed : Option Told → Type 0 = λ o. IfSome o (λ t. EndsInFault (work_of op) t.steps) in
-      (elim old.told as (λ (o : Option Told). new.told ≡ option_map (with_operation done.tag (work_of op) done.well c.told.0) o → Failed new.told) [
+      let Failed : Option Record → Type 0 = λ o. IfSome o (λ t. EndsInFault (work_of op) t.steps) in
+      (elim old.told as (λ (o : Option Record). new.told ≡ option_map (with_operation done.tag (work_of op) done.well c.told.0) o → Failed new.told) [
         | None ↦ λ e. subst Failed (sym e) tt
         | Some t ↦ λ e.
             let here : EndsInFault (work_of op) (with_operation done.tag (work_of op) done.well c.told.0 t).steps =

@@ -2,7 +2,7 @@
 use Rattle.std.proofs.Common.{◌≡◌, ◌<◌, ℕ, ◌-◌, Bool, true, false, not, ◌&&◌, ◌||◌, cond, slice_index_or, IsTrue, List, [], ◌∷◌, Option, Some, None, inl, inr, ⊎_elim, refl, sym, ap, subst, ◌∙◌, arith}
 use Rattle.sector_base.specs.declared.spans.Span.{Span}
 use Rattle.sector_base.specs.Spans.{covers}
-use Rattle.disk_model.specs.Steps.{Image, Work, Reading, Writing, Flushing, Step, Submitted, Completed, Told, value_at, now_after}
+use Rattle.disk_model.specs.Steps.{Image, Work, Reading, Writing, Flushing, Step, Submitted, Completed, Record, value_at, now_after}
 use Rattle.disk_model.specs.CrashValues.{MayLeave, HasCompleted, IsOvertaken, IsDropped, IsImage}
 use Rattle.disk_model.specs.Record.{IsIn, Operation, in_flight_after, IsRecord, IsNewTag}
 use Rattle.disk_model.specs.Durability.{OnlyLeaves, IsBase}
@@ -147,15 +147,15 @@ now_stands opened (Completed tag (Writing span sectors) well fresh ∷ steps) pv
     (found_in (in_flight_after steps) tag _ is.0) (now_stands opened steps pv sector is.1)
 
 -- so the contents of now are an image
-pub now_image : (told : Told) → IsRecord told.steps → IsImage told (now_after told.opened told.steps)
+pub now_image : (told : Record) → IsRecord told.steps → IsImage told (now_after told.opened told.steps)
 now_image told is pv sector = let s = now_stands told.opened told.steps pv sector is in (s.write, s.may)
 
 -- where each value that a crash may leave in the sector has Q, what a read gives has it
-pub now_has : (told : Told) (pv sector : ℕ) (Q : List ℕ → Type 0) → IsRecord told.steps → OnlyLeaves told pv sector Q → Q (now_after told.opened told.steps pv sector)
+pub now_has : (told : Record) (pv sector : ℕ) (Q : List ℕ → Type 0) → IsRecord told.steps → OnlyLeaves told pv sector Q → Q (now_after told.opened told.steps pv sector)
 now_has told pv sector Q is only = let s = now_image told is pv sector in only.each s.0 _ s.1
 
 -- where each sector has one possible value, a read gives it
-pub now_base : (told : Told) (base : Image) → IsRecord told.steps → IsBase told base → (pv sector : ℕ) → now_after told.opened told.steps pv sector ≡ base pv sector
+pub now_base : (told : Record) (base : Image) → IsRecord told.steps → IsBase told base → (pv sector : ℕ) → now_after told.opened told.steps pv sector ≡ base pv sector
 now_base told base is one pv sector = now_has told pv sector (λ v. v ≡ base pv sector) is (one pv sector)
 
 -- at opening each sector has one possible value

@@ -5,7 +5,7 @@ use Rattle.sector_base.specs.declared.spans.Span.{Span}
 use Rattle.sector_base.specs.Spans.{covers}
 use Rattle.disk_model.specs.declared.ops.Op.TheVariants.{Write, Flush}
 use Rattle.disk_model.specs.declared.ops.Done.{Done}
-use Rattle.disk_model.specs.Steps.{Image, Writing, Flushing, Submitted, Completed, Step, Told, now_after, steps_on, value_at}
+use Rattle.disk_model.specs.Steps.{Image, Writing, Flushing, Submitted, Completed, Step, Record, now_after, steps_on, value_at}
 use Rattle.disk_model.specs.Record.{in_flight_after}
 use Rattle.disk_model.specs.CrashValues.{MayLeave}
 use Rattle.disk_model.specs.State.{State, IsLawful}
@@ -23,7 +23,7 @@ use Rattle.disk_model.specs.Puts.{HasFirst, IsPutFault, Put, PutsAll, PutsAllTol
 
 -- The one value is brought to the one sector, by one write. Where all went well it is what a read gives there, and no
 -- crash leaves another one.
-record BringsPut (old : Told) (pv sector : ℕ) (value : List ℕ) (well : Bool) (new : Told) : Type 0 where
+record BringsPut (old : Record) (pv sector : ℕ) (value : List ℕ) (well : Bool) (new : Record) : Type 0 where
   since : List Step
   steps : new ≡ steps_on since old
   writes : writes_submitted since ≡ write_of_put (record { pv = pv; sector = sector; value = value }) ∷ []
@@ -41,7 +41,7 @@ covered pv sector p s h = (grind (arith, nat_tests), grind (arith, nat_tests))
 covers_it : (pv sector : ℕ) → IsTrue (covers (one_sector pv sector) pv sector)
 covers_it pv sector = grind (arith, nat_tests)
 
-module _ (t : Told) (pv sector : ℕ) (contents : List (List ℕ)) (one : contents ≡ slice_index_or contents 0 [] ∷ []) where
+module _ (t : Record) (pv sector : ℕ) (contents : List (List ℕ)) (one : contents ≡ slice_index_or contents 0 [] ∷ []) where
   abbrev value : List ℕ
   value = slice_index_or contents 0 []
 
@@ -110,7 +110,7 @@ at_put p s pv sector value old v there elsewhere =
     (λ away. rw away.0 (elsewhere (λ both. away.1 both.0)))
     (eqb_tells p pv)
 
-module _ (old new : Told) (pv sector : ℕ) (value : List ℕ) (well : Bool) (b : BringsPut old pv sector value well new) (base : Image) (is : IsBase old base) where
+module _ (old new : Record) (pv sector : ℕ) (value : List ℕ) (well : Bool) (b : BringsPut old pv sector value well new) (base : Image) (is : IsBase old base) where
   abbrev put : Put
   put = record { pv = pv; sector = sector; value = value }
 
@@ -141,7 +141,7 @@ module _ (old new : Told) (pv sector : ℕ) (value : List ℕ) (well : Bool) (b 
   put_images : EveryImageSince (length old.steps) new (HasFirst (put ∷ []) base)
   put_images =
       let every = every_moment (IsOldOrPut base put) old.opened old.steps start b.since brings_put in
-      subst (λ (t : Told). EveryImageSince (length old.steps) t (HasFirst (put ∷ []) base)) (sym b.steps)
+      subst (λ (t : Record). EveryImageSince (length old.steps) t (HasFirst (put ∷ []) base)) (sym b.steps)
       (λ moment from upto image im. one_image image (every moment from upto image im))
 
   put_lasts : IsTrue well → IsBase new (put_on put base)
@@ -150,11 +150,11 @@ module _ (old new : Told) (pv sector : ℕ) (value : List ℕ) (well : Bool) (b 
         at_put p s pv sector value (base p s) v
         (λ on here. (b.durable went).each write v (subst (λ (n : ℕ). MayLeave new.opened new.steps pv n write v) here (subst (λ (n : ℕ). MayLeave new.opened new.steps n s write v) on may)))
         (λ away. ⊎_elim (λ a. a) (λ h. absurd (away (h.0, h.1)))
-        ((subst (λ (t : Told). EachOnlyLeaves (IsOldOrPut base put) t) (sym b.steps) (only_leaves (IsOldOrPut base put) old.opened old.steps start b.since brings_put) p s).each write v may));
+        ((subst (λ (t : Record). EachOnlyLeaves (IsOldOrPut base put) t) (sym b.steps) (only_leaves (IsOldOrPut base put) old.opened old.steps start b.since brings_put) p s).each write v may));
   }
 
 -- the one sector was put
-puts_one : (old new : Told) (pv sector : ℕ) (value : List ℕ) (well : Bool) → BringsPut old pv sector value well new → PutsAll old (record { pv = pv; sector = sector; value = value } ∷ []) well new
+puts_one : (old new : Record) (pv sector : ℕ) (value : List ℕ) (well : Bool) → BringsPut old pv sector value well new → PutsAll old (record { pv = pv; sector = sector; value = value } ∷ []) well new
 puts_one old new pv sector value well b = record {
   since = b.since;
   steps = b.steps;
@@ -178,7 +178,7 @@ module _ (pv sector : ℕ) (contents : List (List ℕ)) (one : length contents �
   abbrev the_put : Put
   the_put = record { pv = pv; sector = sector; value = slice_index_or contents 0 [] }
 
-  written : (well : Bool) → done1.well ≡ well → (old : Told) → s0.told ≡ Some old
+  written : (well : Bool) → done1.well ≡ well → (old : Record) → s0.told ≡ Some old
       → (fresh : List Bool) × (s1.told ≡ Some (with_operation done1.tag (Writing (one_sector pv sector) contents) well fresh old))
   written well is old e =
       let f = operation_told s0 (Write (one_sector pv sector) contents) done1 s1 old c1 e in

@@ -2,18 +2,18 @@
 use Rattle.std.proofs.Common.{◌≡◌, ◌⊎◌, ℕ, IsTrue, List, Option, inl, inr, ⊎_elim, refl}
 use Rattle.sector_base.specs.declared.spans.Span.{Span}
 use Rattle.sector_base.specs.Spans.{covers}
-use Rattle.disk_model.specs.Steps.{Image, Writing, Submitted, Told, value_at, now_after, step_on}
+use Rattle.disk_model.specs.Steps.{Image, Writing, Submitted, Record, value_at, now_after, step_on}
 use Rattle.disk_model.specs.CrashValues.{MayLeave, IsImage}
 use Rattle.disk_model.specs.Record.{IsRecord}
 use Rattle.disk_model.proofs.NowStands.{now_image}
 
 -- the image that a write's submission leaves is one from before, with some of the write's sectors in place
-pub record IsPatched (told : Told) (span : Span) (sectors : List (List ℕ)) (image : Image) : Type 0 where
+pub record IsPatched (told : Record) (span : Span) (sectors : List (List ℕ)) (image : Image) : Type 0 where
   pub old : Image
   pub was : IsImage told old
   pub each : (pv sector : ℕ) → (image pv sector ≡ old pv sector) ⊎ (IsTrue (covers span pv sector) × (image pv sector ≡ value_at span sectors sector))
 
-module _ (told : Told) (tag : ℕ) (span : Span) (sectors : List (List ℕ)) (image : Image) (is : IsImage (step_on (Submitted tag (Writing span sectors)) told) image) where
+module _ (told : Record) (tag : ℕ) (span : Span) (sectors : List (List ℕ)) (image : Image) (is : IsImage (step_on (Submitted tag (Writing span sectors)) told) image) where
   -- the value that the earlier image has in the sector
   Choice : (pv sector : ℕ) → Type 0
   Choice pv sector = (old : List ℕ) × ((write : Option ℕ) × MayLeave told.opened told.steps pv sector write old) × ((image pv sector ≡ old) ⊎ (IsTrue (covers span pv sector) × (image pv sector ≡ value_at span sectors sector)))

@@ -2,7 +2,7 @@
 use Rattle.std.proofs.Common.{◌≡◌, ℕ, ◌+◌, ◌==◌, ◌&&◌, cond, Bool, true, false, List, [], ◌∷◌, ◌++◌, length, map, take, Option, refl, sym, ap, subst, ◌∙◌, arith, length-append}
 use Rattle.std.proofs.Math.Seq.{take-append-add, take-length}
 use Rattle.std.proofs.lemmas.List.{map-append, take-append-le}
-use Rattle.disk_model.specs.Steps.{Image, IsSame, Told, now_after, steps_on}
+use Rattle.disk_model.specs.Steps.{Image, IsSame, Record, now_after, steps_on}
 use Rattle.disk_model.specs.Moments.{EveryImageSince}
 use Rattle.disk_model.specs.Durability.{IsBase}
 use Rattle.sector_base.specs.declared.spans.Span.{Span}
@@ -51,7 +51,7 @@ pub first_none : (puts : List Put) (base image : Image) → IsSame image base �
 first_none puts base image same = record { count = 0; among = omega arith; same = same }
 
 -- a call that puts some sectors is followed by one that puts more
-module _ (old mid new : Told) (first more : List Put) (well : Bool) (a : PutsAll old first true mid) (b : PutsAll mid more well new) where
+module _ (old mid new : Record) (first more : List Put) (well : Bool) (a : PutsAll old first true mid) (b : PutsAll mid more well new) where
   later : new ≡ steps_on b.since mid
   later = b.steps
 
@@ -62,8 +62,8 @@ module _ (old mid new : Told) (first more : List Put) (well : Bool) (a : PutsAll
       let late : EveryImageSince (length mid.steps) new (HasFirst (first ++ more) base) =
       since_weaken new (length mid.steps) (length mid.steps) (HasFirst more (with_puts first base)) (HasFirst (first ++ more) base) (omega arith) (first_after_all first more base)
       (b.every_image (with_puts first base) (a.lasting refl base is)) in
-      let late' = subst (λ (t : Told). EveryImageSince (length mid.steps) t (HasFirst (first ++ more) base)) later late in
-      subst (λ (t : Told). EveryImageSince (length old.steps) t (HasFirst (first ++ more) base)) (sym later)
+      let late' = subst (λ (t : Record). EveryImageSince (length mid.steps) t (HasFirst (first ++ more) base)) later late in
+      subst (λ (t : Record). EveryImageSince (length old.steps) t (HasFirst (first ++ more) base)) (sym later)
       (since_join mid.opened mid.steps b.since (length old.steps) (HasFirst (first ++ more) base) (steps_grow old mid a.since a.steps) early late')
 
   -- all of the first were submitted, and then so many of the others
@@ -92,7 +92,7 @@ module _ (old mid new : Told) (first more : List Put) (well : Bool) (a : PutsAll
   }
 
 -- a call that puts sectors failed, and no more were put
-pub puts_failed : (old mid : Told) (first more : List Put) → PutsAll old first false mid → PutsAll old (first ++ more) false mid
+pub puts_failed : (old mid : Record) (first more : List Put) → PutsAll old first false mid → PutsAll old (first ++ more) false mid
 puts_failed old mid first more a = record {
   since = a.since;
   steps = a.steps;
@@ -107,7 +107,7 @@ puts_failed old mid first more a = record {
 }
 
 -- no sector is put
-puts_none : (well : Bool) (told : Told) → PutsAll told [] well told
+puts_none : (well : Bool) (told : Record) → PutsAll told [] well told
 puts_none well told = record {
   since = [];
   steps = refl;
@@ -121,15 +121,15 @@ puts_none well told = record {
 }
 
 -- the two where the shelf tells its record
-pub puts_told_both : (s0 s1 s2 : Option Told) (first more : List Put) (well : Bool) → PutsAllTold s0 first true s1 → PutsAllTold s1 more well s2 → PutsAllTold s0 (first ++ more) well s2
+pub puts_told_both : (s0 s1 s2 : Option Record) (first more : List Put) (well : Bool) → PutsAllTold s0 first true s1 → PutsAllTold s1 more well s2 → PutsAllTold s0 (first ++ more) well s2
 puts_told_both s0 s1 s2 first more well a b =
     between_both (λ old new. PutsAll old first true new) (λ old new. PutsAll old more well new) (λ old new. PutsAll old (first ++ more) well new) s0 s1 s2
     (λ old mid new p q. puts_both old mid new first more well p q) a b
 
-pub puts_told_failed : (s0 s1 : Option Told) (first more : List Put) → PutsAllTold s0 first false s1 → PutsAllTold s0 (first ++ more) false s1
+pub puts_told_failed : (s0 s1 : Option Record) (first more : List Put) → PutsAllTold s0 first false s1 → PutsAllTold s0 (first ++ more) false s1
 puts_told_failed s0 s1 first more a =
     between_weaker (λ old new. PutsAll old first false new) (λ old new. PutsAll old (first ++ more) false new) s0 s1 (λ old new p. puts_failed old new first more p) a
 
 -- nothing was put
-pub puts_told_none : (s0 s1 : Option Told) (well : Bool) → s1 ≡ s0 → PutsAllTold s0 [] well s1
+pub puts_told_none : (s0 s1 : Option Record) (well : Bool) → s1 ≡ s0 → PutsAllTold s0 [] well s1
 puts_told_none s0 s1 well same = between_same (λ old new. PutsAll old [] well new) s0 s1 same (puts_none well)

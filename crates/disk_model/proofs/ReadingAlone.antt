@@ -2,7 +2,7 @@
 use Rattle.std.proofs.Common.{◌≡◌, ℕ, Bool, List, [], ◌∷◌, ◌++◌, Option, Some, None, refl, sym, ap, subst, ◌∙◌}
 use Rattle.std.proofs.lemmas.List.Elements.{All-nil}
 use Rattle.sector_base.specs.declared.spans.Span.{Span}
-use Rattle.disk_model.specs.Steps.{Image, Reading, Writing, Flushing, Step, Submitted, Completed, Told, now_after}
+use Rattle.disk_model.specs.Steps.{Image, Reading, Writing, Flushing, Step, Submitted, Completed, Record, now_after}
 use Rattle.disk_model.specs.CarriesOut.{with_operation}
 use Rattle.disk_model.specs.Order.{HasFlushed, WritesNothing}
 use Rattle.disk_model.specs.Since.{HoldsOfDisk, KeepsSectors, KeepsSectorsTold, OnlyReads, ReadsAlone, ReadsTold, spans_read}
@@ -38,10 +38,10 @@ reads_alone_append (Completed tag (Writing span sectors) well fresh ∷ newer) o
 reads_alone_append (Completed tag (Flushing disk) well fresh ∷ newer) older r q = absurd r
 
 -- what a read gives is the same after a call that reads alone
-pub same_now : (old new : Told) (spans : List Span) → OnlyReads old spans new → now_after new.opened new.steps ≡ now_after old.opened old.steps
-same_now old new spans r = ap (λ (t : Told). now_after t.opened t.steps) r.steps ∙ now_after-reads old.opened r.since old.steps r.reads
+pub same_now : (old new : Record) (spans : List Span) → OnlyReads old spans new → now_after new.opened new.steps ≡ now_after old.opened old.steps
+same_now old new spans r = ap (λ (t : Record). now_after t.opened t.steps) r.steps ∙ now_after-reads old.opened r.since old.steps r.reads
 
-reads_both : (first more : List Span) (old mid new : Told) → OnlyReads old first mid → OnlyReads mid more new → OnlyReads old (first ++ more) new
+reads_both : (first more : List Span) (old mid new : Record) → OnlyReads old first mid → OnlyReads mid more new → OnlyReads old (first ++ more) new
 reads_both first more old mid new a b = record {
   since = b.since ++ a.since;
   steps = steps_joined old mid new a.since b.since a.steps b.steps;
@@ -50,15 +50,15 @@ reads_both first more old mid new a b = record {
 }
 
 -- a call that reads alone, and then another
-pub reads_told_both : (first more : List Span) (s0 s1 s2 : Option Told) → ReadsTold s0 first s1 → ReadsTold s1 more s2 → ReadsTold s0 (first ++ more) s2
+pub reads_told_both : (first more : List Span) (s0 s1 s2 : Option Record) → ReadsTold s0 first s1 → ReadsTold s1 more s2 → ReadsTold s0 (first ++ more) s2
 reads_told_both first more s0 s1 s2 a b =
     between_both (λ old new. OnlyReads old first new) (λ old new. OnlyReads old more new) (λ old new. OnlyReads old (first ++ more) new) s0 s1 s2 (reads_both first more) a b
 
 -- nothing was told
-pub reads_told_nothing : (s0 s1 : Option Told) → s1 ≡ s0 → ReadsTold s0 [] s1
+pub reads_told_nothing : (s0 s1 : Option Record) → s1 ≡ s0 → ReadsTold s0 [] s1
 reads_told_nothing s0 s1 same = between_same (λ old new. OnlyReads old [] new) s0 s1 same (λ old. record { since = []; steps = refl; reads = tt; spans_are = refl })
 
-keeps_reading : (spans : List Span) (old new : Told) → OnlyReads old spans new → KeepsSectors old [] new
+keeps_reading : (spans : List Span) (old new : Record) → OnlyReads old spans new → KeepsSectors old [] new
 keeps_reading spans old new r = record {
   since = r.since;
   steps = r.steps;
@@ -68,11 +68,11 @@ keeps_reading spans old new r = record {
 }
 
 -- a call that reads alone keeps the sectors
-pub keeps_told_reading : (spans : List Span) (s0 s1 : Option Told) → ReadsTold s0 spans s1 → KeepsSectorsTold s0 [] s1
+pub keeps_told_reading : (spans : List Span) (s0 s1 : Option Record) → ReadsTold s0 spans s1 → KeepsSectorsTold s0 [] s1
 keeps_told_reading spans s0 s1 r = between_weaker (λ old new. OnlyReads old spans new) (λ old new. KeepsSectors old [] new) s0 s1 (keeps_reading spans) r
 
 -- a read that was carried out alone
-pub reads_span : (t : Told) (tag : ℕ) (span : Span) (well : Bool) (fresh : List Bool) → OnlyReads t (span ∷ []) (with_operation tag (Reading span) well fresh t)
+pub reads_span : (t : Record) (tag : ℕ) (span : Span) (well : Bool) (fresh : List Bool) → OnlyReads t (span ∷ []) (with_operation tag (Reading span) well fresh t)
 reads_span t tag span well fresh = record {
   since = Completed tag (Reading span) well fresh ∷ Submitted tag (Reading span) ∷ [];
   steps = refl;
@@ -81,31 +81,31 @@ reads_span t tag span well fresh = record {
 }
 
 -- what holds of a disk after a call that reads alone held of it before
-pub holds_before : (s0 s1 : Option Told) (spans : List Span) (pv : ℕ) (P : (ℕ → List ℕ) → Type 0) → ReadsTold s0 spans s1 → HoldsOfDisk s1 pv P → HoldsOfDisk s0 pv P
+pub holds_before : (s0 s1 : Option Record) (spans : List Span) (pv : ℕ) (P : (ℕ → List ℕ) → Type 0) → ReadsTold s0 spans s1 → HoldsOfDisk s1 pv P → HoldsOfDisk s0 pv P
 holds_before None s1 spans pv P r h = tt
 holds_before (Some old) s1 spans pv P r h =
     let f = r old refl in
-    let after : HoldsOfDisk (Some f.0) pv P = subst (λ (o : Option Told). HoldsOfDisk o pv P) f.1 h in
+    let after : HoldsOfDisk (Some f.0) pv P = subst (λ (o : Option Record). HoldsOfDisk o pv P) f.1 h in
     subst (λ (image : Image). P (image pv)) (same_now old f.0 spans f.2) after
 
 -- and the other way round
-pub holds_after : (s0 s1 : Option Told) (spans : List Span) (pv : ℕ) (P : (ℕ → List ℕ) → Type 0) → ReadsTold s0 spans s1 → (s0 ≡ None → s1 ≡ None) → HoldsOfDisk s0 pv P → HoldsOfDisk s1 pv P
-holds_after None s1 spans pv P r silent h = subst (λ (o : Option Told). HoldsOfDisk o pv P) (sym (silent refl)) tt
+pub holds_after : (s0 s1 : Option Record) (spans : List Span) (pv : ℕ) (P : (ℕ → List ℕ) → Type 0) → ReadsTold s0 spans s1 → (s0 ≡ None → s1 ≡ None) → HoldsOfDisk s0 pv P → HoldsOfDisk s1 pv P
+holds_after None s1 spans pv P r silent h = subst (λ (o : Option Record). HoldsOfDisk o pv P) (sym (silent refl)) tt
 holds_after (Some old) s1 spans pv P r silent h =
     let f = r old refl in
     let here : HoldsOfDisk (Some f.0) pv P = subst (λ (image : Image). P (image pv)) (sym (same_now old f.0 spans f.2)) h in
-    subst (λ (o : Option Told). HoldsOfDisk o pv P) (sym f.1) here
+    subst (λ (o : Option Record). HoldsOfDisk o pv P) (sym f.1) here
 
 -- two facts of a disk give a third
-pub holds_both : (s : Option Told) (pv : ℕ) (P Q R : (ℕ → List ℕ) → Type 0) → ((sector_at : ℕ → List ℕ) → P sector_at → Q sector_at → R sector_at) → HoldsOfDisk s pv P → HoldsOfDisk s pv Q → HoldsOfDisk s pv R
+pub holds_both : (s : Option Record) (pv : ℕ) (P Q R : (ℕ → List ℕ) → Type 0) → ((sector_at : ℕ → List ℕ) → P sector_at → Q sector_at → R sector_at) → HoldsOfDisk s pv P → HoldsOfDisk s pv Q → HoldsOfDisk s pv R
 holds_both None pv P Q R make p q = tt
 holds_both (Some t) pv P Q R make p q = make (now_after t.opened t.steps pv) p q
 
-pub holds_weaker : (s : Option Told) (pv : ℕ) (P Q : (ℕ → List ℕ) → Type 0) → ((sector_at : ℕ → List ℕ) → P sector_at → Q sector_at) → HoldsOfDisk s pv P → HoldsOfDisk s pv Q
+pub holds_weaker : (s : Option Record) (pv : ℕ) (P Q : (ℕ → List ℕ) → Type 0) → ((sector_at : ℕ → List ℕ) → P sector_at → Q sector_at) → HoldsOfDisk s pv P → HoldsOfDisk s pv Q
 holds_weaker None pv P Q make p = tt
 holds_weaker (Some t) pv P Q make p = make (now_after t.opened t.steps pv) p
 
 -- what holds of all sectors
-pub holds_always : (s : Option Told) (pv : ℕ) (P : (ℕ → List ℕ) → Type 0) → ((sector_at : ℕ → List ℕ) → P sector_at) → HoldsOfDisk s pv P
+pub holds_always : (s : Option Record) (pv : ℕ) (P : (ℕ → List ℕ) → Type 0) → ((sector_at : ℕ → List ℕ) → P sector_at) → HoldsOfDisk s pv P
 holds_always None pv P all = tt
 holds_always (Some t) pv P all = all (now_after t.opened t.steps pv)

@@ -6,13 +6,13 @@ use Rattle.disk_model.specs.Brought.{BringOnly}
 use Rattle.disk_model.specs.Durability.{EachOnlyLeaves}
 use Rattle.disk_model.specs.Record.{IsRecord}
 use Rattle.disk_model.specs.State.{IsLawful, State}
-use Rattle.disk_model.specs.Steps.{Step, Told, now_after}
+use Rattle.disk_model.specs.Steps.{Step, Record, now_after}
 use Rattle.disk_model.proofs.Bringing.{only_leaves}
 use Rattle.disk_model.proofs.NowStands.{now_has}
 use Rattle.disk_model.proofs.Ordered.{bring_only_weaker}
 use Rattle.disk_model.proofs.WhereTold.{told_at}
 
-module _ (state : State) (t : Told) (lawful : IsLawful state) (e : state.told ≡ Some t) where
+module _ (state : State) (t : Record) (lawful : IsLawful state) (e : state.told ≡ Some t) where
   -- a value within its disk is a sector
   abbrev IsSectorWithin : ℕ → ℕ → List ℕ → Type 0
   IsSectorWithin pv sector value = sector < slice_index_or state.sizes pv 0 → IsSector value

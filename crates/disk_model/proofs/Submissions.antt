@@ -4,7 +4,7 @@ use Rattle.std.proofs.lemmas.List.{append-nil}
 use Rattle.std.proofs.lemmas.List.Sums.{sum_by-append}
 use Rattle.std.proofs.lemmas.List.Elements.{All-append, All-cons, All-nil}
 use Rattle.disk_model.specs.declared.ops.Op.{Op}
-use Rattle.disk_model.specs.Steps.{Work, Submitted, Told, step_on, sectors_of_work}
+use Rattle.disk_model.specs.Steps.{Work, Submitted, Record, step_on, sectors_of_work}
 use Rattle.disk_model.specs.Record.{Operation}
 use Rattle.disk_model.specs.Operations.{work_of}
 use Rattle.disk_model.specs.Calls.{Submits}
@@ -14,15 +14,15 @@ use Rattle.disk_model.specs.Durability.{OnlyLeaves}
 use Rattle.disk_model.proofs.Durable.{write_submitted}
 
 -- one submission more is told
-told_more : (os : List Operation) (o : Operation) (told : Told) → submitted_on (os ++ o ∷ []) told ≡ step_on (Submitted o.tag o.work) (submitted_on os told)
+told_more : (os : List Operation) (o : Operation) (told : Record) → submitted_on (os ++ o ∷ []) told ≡ step_on (Submitted o.tag o.work) (submitted_on os told)
 told_more [] o told = refl
 told_more (p ∷ os) o told = told_more os o (step_on (Submitted p.tag p.work) told)
 
-told_maps : (os : List Operation) (o : Operation) (told : Option Told) → option_map (submitted_on (os ++ o ∷ [])) told ≡ option_map (step_on (Submitted o.tag o.work)) (option_map (submitted_on os) told)
+told_maps : (os : List Operation) (o : Operation) (told : Option Record) → option_map (submitted_on (os ++ o ∷ [])) told ≡ option_map (step_on (Submitted o.tag o.work)) (option_map (submitted_on os) told)
 told_maps os o None = refl
 told_maps os o (Some told) = ap Some (told_more os o told)
 
-told_none : (told : Option Told) → told ≡ option_map (submitted_on []) told
+told_none : (told : Option Record) → told ≡ option_map (submitted_on []) told
 told_none None = refl
 told_none (Some told) = refl
 
@@ -66,7 +66,7 @@ submits_more old mid new os op tag s one =
     }
 
 -- a submission that brings only a value with P to the sector leaves only such
-pub submitted_leaves : (o : Operation) (told : Told) (pv sector : ℕ) (P : List ℕ → Type 0) → BringsAt o.work pv sector P → OnlyLeaves told pv sector P → OnlyLeaves (step_on (Submitted o.tag o.work) told) pv sector P
+pub submitted_leaves : (o : Operation) (told : Record) (pv sector : ℕ) (P : List ℕ → Type 0) → BringsAt o.work pv sector P → OnlyLeaves told pv sector P → OnlyLeaves (step_on (Submitted o.tag o.work) told) pv sector P
 submitted_leaves o told pv sector P b h =
     write_submitted told pv sector o.tag o.work P P h (λ v p. p)
     (λ span sectors e inside. let brings = subst (λ (w : Work). BringsAt w pv sector P) e b in brings inside)

@@ -4,7 +4,7 @@ use Rattle.std.proofs.lemmas.List.{get_or_default}
 use Rattle.std.proofs.lemmas.List.Elements.{All-head, All-tail}
 use Rattle.std.proofs.lemmas.Bool.{cases_lt}
 use Rattle.std.proofs.lemmas.Bool.Decides.{eqb_tells}
-use Rattle.disk_model.specs.Steps.{Image, Work, Reading, Writing, Flushing, Step, Submitted, Completed, Told}
+use Rattle.disk_model.specs.Steps.{Image, Work, Reading, Writing, Flushing, Step, Submitted, Completed, Record}
 use Rattle.disk_model.specs.CrashValues.{MayLeave, HasCompleted}
 use Rattle.disk_model.specs.Record.{Operation, in_flight_after}
 use Rattle.disk_model.specs.Brought.{writes}
@@ -62,7 +62,7 @@ completed_or_in_flight opened (Completed tag work well fresh ∷ steps) pv secto
     (completed_or_in_flight opened steps pv sector write value (quiet opened (Completed tag work well fresh) steps pv sector write value tt may))
 
 -- where nothing is in flight, every write has completed
-pub idle_completed : (told : Told) (pv sector : ℕ) (Q : List ℕ → Type 0) → in_flight_after told.steps ≡ [] → OnlyLeavesOrCompleted told pv sector Q
+pub idle_completed : (told : Record) (pv sector : ℕ) (Q : List ℕ → Type 0) → in_flight_after told.steps ≡ [] → OnlyLeavesOrCompleted told pv sector Q
 idle_completed told pv sector Q idle = record {
   each = λ write value may.
       ⊎_elim (λ a. inr a) (λ b. absurd (let P : List Operation → Type 0 = λ fs. IsInFlight fs pv sector write in subst P idle b)) (completed_or_in_flight told.opened told.steps pv sector write value may);
@@ -76,7 +76,7 @@ none_in_flight (f ∷ fs) pv sector write h fly =
     (λ b. none_in_flight fs pv sector write (All-tail (λ (x : Operation). writes x.work pv sector ≡ false) f fs h) b) fly
 
 -- where no operation in flight writes the sector, every write of it has completed
-pub alone_completed : (told : Told) (fs : List Operation) (pv sector : ℕ) (Q : List ℕ → Type 0) → fs ≡ in_flight_after told.steps → All (λ (f : Operation). writes f.work pv sector ≡ false) fs → OnlyLeavesOrCompleted told pv sector Q
+pub alone_completed : (told : Record) (fs : List Operation) (pv sector : ℕ) (Q : List ℕ → Type 0) → fs ≡ in_flight_after told.steps → All (λ (f : Operation). writes f.work pv sector ≡ false) fs → OnlyLeavesOrCompleted told pv sector Q
 alone_completed told fs pv sector Q e h = record {
   each = λ write value may.
       ⊎_elim (λ a. inr a) (λ b. absurd (none_in_flight fs pv sector write h (subst (λ (l : List Operation). IsInFlight l pv sector write) (sym e) b))) (completed_or_in_flight told.opened told.steps pv sector write value may);

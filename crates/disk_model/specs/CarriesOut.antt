@@ -2,13 +2,13 @@
 use Rattle.std.specs.Prelude.{◌≡◌, ◌≤◌, ◌<◌, ℕ, ◌+◌, Bool, not, ◌==◌, ◌&&◌, if◌then◌else◌, List, [], IfSome, option_map}
 use Rattle.disk_model.specs.declared.ops.Op.{Op}
 use Rattle.disk_model.specs.declared.ops.Done.{Done}
-use Rattle.disk_model.specs.Steps.{Work, Submitted, Completed, Told, step_on}
+use Rattle.disk_model.specs.Steps.{Work, Submitted, Completed, Record, step_on}
 use Rattle.disk_model.specs.Operations.{work_of, disk_of, sectors_of, Lies}
 use Rattle.disk_model.specs.Reading.{ReadsAll}
 use Rattle.disk_model.specs.State.{State}
 
 -- what is told after an operation was submitted and completed
-abbrev pub with_operation : ℕ → Work → Bool → List Bool → Told → Told
+abbrev pub with_operation : ℕ → Work → Bool → List Bool → Record → Record
 with_operation tag work well fresh told = step_on (Completed tag work well fresh) (step_on (Submitted tag work) told)
 
 -- the operation was carried out where nothing else was in flight, and nothing is in flight afterwards

@@ -1,7 +1,7 @@
 -- What a crash may leave in each sector.
 use Rattle.std.specs.Prelude.{◌≡◌, ◌⊎◌, ℕ, true, IsTrue, List, [], ◌∷◌, Option, Some, None}
 use Rattle.sector_base.specs.Spans.{covers}
-use Rattle.disk_model.specs.Steps.{Image, Writing, Flushing, Step, Submitted, Completed, Told, value_at}
+use Rattle.disk_model.specs.Steps.{Image, Writing, Flushing, Step, Submitted, Completed, Record, value_at}
 
 -- the write with this tag has completed, well or not; None stands for the opened value, which counts as completed
 abbrev pub HasCompleted : List Step → Option ℕ → Type 0
@@ -34,5 +34,5 @@ MayLeave opened (Completed tag (Flushing disk) true fresh ∷ steps) pv sector w
 MayLeave opened (_ ∷ steps) pv sector write value = MayLeave opened steps pv sector write value
 
 -- a crash may leave this image: one of its possible values in each sector
-abbrev pub IsImage : Told → Image → Type 0
+abbrev pub IsImage : Record → Image → Type 0
 IsImage told image = (pv sector : ℕ) → (write : Option ℕ) × MayLeave told.opened told.steps pv sector write (image pv sector)

@@ -1,11 +1,11 @@
 -- Sectors that are put one after another, each made lasting before the next.
 use Rattle.std.specs.Prelude.{◌≡◌, ◌≤◌, ◌⊎◌, ℕ, Bool, IsTrue, ◌&&◌, ◌==◌, if◌then◌else◌, List, [], ◌∷◌, length, map, take, Option}
 use Rattle.sector_base.specs.declared.spans.Span.{Span}
-use Rattle.disk_model.specs.Steps.{Image, IsSame, Writing, Flushing, Step, Told, now_after, steps_on}
+use Rattle.disk_model.specs.Steps.{Image, IsSame, Writing, Flushing, Step, Record, now_after, steps_on}
 use Rattle.disk_model.specs.Moments.{EveryImageSince}
 use Rattle.disk_model.specs.Durability.{IsBase}
 use Rattle.disk_model.specs.State.{State}
-use Rattle.disk_model.specs.Since.{BetweenTold, writes_submitted}
+use Rattle.disk_model.specs.Since.{BetweenRecords, writes_submitted}
 use Rattle.disk_model.specs.Faults.{IsLastFault}
 
 -- a sector of a disk, and what it gets
@@ -40,7 +40,7 @@ pub record HasFirst (puts : List Put) (base image : Image) : Type 0 where
 -- The first so many of the puts were submitted in their order, each once, and no other write. At every moment a crash
 -- leaves the first so many of them, whole. Where all went well all were submitted, a crash leaves all of them, and a
 -- read gives what they put.
-pub record PutsAll (old : Told) (puts : List Put) (well : Bool) (new : Told) : Type 0 where
+pub record PutsAll (old : Record) (puts : List Put) (well : Bool) (new : Record) : Type 0 where
   pub since : List Step
   pub steps : new ≡ steps_on since old
   pub submitted : ℕ
@@ -52,8 +52,8 @@ pub record PutsAll (old : Told) (puts : List Put) (well : Bool) (new : Told) : T
   pub now : IsTrue well → IsSame (now_after new.opened new.steps) (with_puts puts (now_after old.opened old.steps))
 
 -- a call that puts sectors, where the shelf tells its record
-abbrev pub PutsAllTold : Option Told → List Put → Bool → Option Told → Type 0
-PutsAllTold before puts well after = BetweenTold (λ old new. PutsAll old puts well new) before after
+abbrev pub PutsAllTold : Option Record → List Put → Bool → Option Record → Type 0
+PutsAllTold before puts well after = BetweenRecords (λ old new. PutsAll old puts well new) before after
 
 -- the write of this put failed, or the flush of its disk after it, and that was the last step
 abbrev pub IsPutFault : State → State → Put → ℕ → Type 0

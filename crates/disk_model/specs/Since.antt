@@ -1,7 +1,7 @@
 -- The steps of a call, on top of those before it.
 use Rattle.std.specs.Prelude.{◌≡◌, ℕ, List, [], ◌∷◌, ◌++◌, All, Option, Some, IfSome}
 use Rattle.sector_base.specs.declared.spans.Span.{Span}
-use Rattle.disk_model.specs.Steps.{IsSame, Reading, Writing, Step, Submitted, Completed, Told, now_after, steps_on}
+use Rattle.disk_model.specs.Steps.{IsSame, Reading, Writing, Step, Submitted, Completed, Record, now_after, steps_on}
 use Rattle.disk_model.specs.Order.{HasFlushed, WritesNothing}
 
 -- the writes that were submitted in these steps, the oldest first: the span of each, and its sectors
@@ -24,22 +24,22 @@ ReadsAlone (Completed tag (Reading span) well fresh ∷ steps) = ReadsAlone step
 ReadsAlone (_ ∷ steps) = ⊥
 
 -- a relation between what is told before a call and after it, where the shelf tells its record
-abbrev pub BetweenTold : (Told → Told → Type 0) → Option Told → Option Told → Type 0
-BetweenTold R before after = (old : Told) → before ≡ Some old → (new : Told) × (after ≡ Some new) × R old new
+abbrev pub BetweenRecords : (Record → Record → Type 0) → Option Record → Option Record → Type 0
+BetweenRecords R before after = (old : Record) → before ≡ Some old → (new : Record) × (after ≡ Some new) × R old new
 
 -- the newer record has the reads of these spans, in this order and each once, on top of the older one, and nothing else
-pub record OnlyReads (old : Told) (spans : List Span) (new : Told) : Type 0 where
+pub record OnlyReads (old : Record) (spans : List Span) (new : Record) : Type 0 where
   pub since : List Step
   pub steps : new ≡ steps_on since old
   pub reads : ReadsAlone since
   pub spans_are : spans_read since ≡ spans
 
 -- the same of a call, where the shelf tells its record
-abbrev pub ReadsTold : Option Told → List Span → Option Told → Type 0
-ReadsTold before spans after = BetweenTold (λ old new. OnlyReads old spans new) before after
+abbrev pub ReadsTold : Option Record → List Span → Option Record → Type 0
+ReadsTold before spans after = BetweenRecords (λ old new. OnlyReads old spans new) before after
 
 -- no write was submitted, a read gives what it gave, and a flush of each of these disks was submitted and completed well
-pub record KeepsSectors (old : Told) (flushed : List ℕ) (new : Told) : Type 0 where
+pub record KeepsSectors (old : Record) (flushed : List ℕ) (new : Record) : Type 0 where
   pub since : List Step
   pub steps : new ≡ steps_on since old
   pub nothing : WritesNothing since
@@ -47,9 +47,9 @@ pub record KeepsSectors (old : Told) (flushed : List ℕ) (new : Told) : Type 0 
   pub flushes : All (λ pv. HasFlushed pv since) flushed
 
 -- the same of a call, where the shelf tells its record
-abbrev pub KeepsSectorsTold : Option Told → List ℕ → Option Told → Type 0
-KeepsSectorsTold before flushed after = BetweenTold (λ old new. KeepsSectors old flushed new) before after
+abbrev pub KeepsSectorsTold : Option Record → List ℕ → Option Record → Type 0
+KeepsSectorsTold before flushed after = BetweenRecords (λ old new. KeepsSectors old flushed new) before after
 
 -- what holds of the sectors of a disk, by what a read gives, where the shelf tells its record
-abbrev pub HoldsOfDisk : Option Told → ℕ → ((ℕ → List ℕ) → Type 0) → Type 0
+abbrev pub HoldsOfDisk : Option Record → ℕ → ((ℕ → List ℕ) → Type 0) → Type 0
 HoldsOfDisk told pv P = IfSome told (λ t. P (now_after t.opened t.steps pv))

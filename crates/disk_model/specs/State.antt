@@ -2,7 +2,7 @@
 use Rattle.std.specs.Prelude.{◌≡◌, ◌≤◌, ◌<◌, ℕ, ◌+◌, ◌*◌, ◌^◌, List, length, map, slice_index_or, All, AllPairs, Contains, Option, IfSome}
 use Rattle.sector_base.specs.Sectors.{IsSector}
 use Rattle.disk_model.specs.Brought.{BringOnly}
-use Rattle.disk_model.specs.Steps.{Told}
+use Rattle.disk_model.specs.Steps.{Record}
 use Rattle.disk_model.specs.Record.{Operation, in_flight_after, IsRecord, IsNewTag}
 use Rattle.disk_model.specs.Operations.{LiesWithin}
 
@@ -24,7 +24,7 @@ pub record State : Type 0 where
   -- every tag so far is below it
   pub next_tag : ℕ
   -- the images at opening and the record, where the shelf tells them
-  pub told : Option Told
+  pub told : Option Record
 
 -- the tags of these operations
 abbrev pub tags_of : List Operation → List ℕ

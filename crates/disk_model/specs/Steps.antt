@@ -32,16 +32,16 @@ abbrev pub Image : Type 0
 Image = ℕ → ℕ → List ℕ
 
 -- what a shelf tells: what each sector held at opening, and the record of all steps since then, the newest first
-pub record Told : Type 0 where
+pub record Record : Type 0 where
   pub opened : Image
   pub steps : List Step
 
 -- what is told after one step more
-abbrev pub step_on : Step → Told → Told
+abbrev pub step_on : Step → Record → Record
 step_on step told = record { opened = told.opened; steps = step ∷ told.steps }
 
 -- what is told after these steps more, the newest first
-abbrev pub steps_on : List Step → Told → Told
+abbrev pub steps_on : List Step → Record → Record
 steps_on since told = record { opened = told.opened; steps = since ++ told.steps }
 
 -- the two images have the same sectors

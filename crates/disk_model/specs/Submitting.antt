@@ -1,13 +1,13 @@
 -- Operations that are submitted one after another.
 use Rattle.std.specs.Prelude.{◌≡◌, ◌≤◌, ◌<◌, ℕ, ◌+◌, Bool, false, ◌||◌, IsTrue, List, [], ◌∷◌, ◌++◌, length, map, sum_by, All, Contains, option_map}
 use Rattle.sector_base.specs.Spans.{covers}
-use Rattle.disk_model.specs.Steps.{Work, Reading, Writing, Flushing, Submitted, Told, step_on, value_at, sectors_of_work}
+use Rattle.disk_model.specs.Steps.{Work, Reading, Writing, Flushing, Submitted, Record, step_on, value_at, sectors_of_work}
 use Rattle.disk_model.specs.Record.{Operation}
 use Rattle.disk_model.specs.Brought.{writes}
 use Rattle.disk_model.specs.State.{State}
 
 -- what is told after these operations were submitted, the first of them first
-abbrev pub submitted_on : List Operation → Told → Told
+abbrev pub submitted_on : List Operation → Record → Record
 submitted_on [] told = told
 submitted_on (o ∷ os) told = submitted_on os (step_on (Submitted o.tag o.work) told)
 

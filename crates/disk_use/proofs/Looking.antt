@@ -4,9 +4,9 @@ use Rattle.std.specs.Prelude.{MatchResult}
 use Rattle.std.proofs.lemmas.Option.{same_Some}
 use Rattle.sector_base.specs.declared.spans.Span.{Span}
 use Rattle.disk_model.specs.Faults.{HasSameFaults}
-use Rattle.disk_model.specs.Since.{BetweenTold, OnlyReads, ReadsTold}
+use Rattle.disk_model.specs.Since.{BetweenRecords, OnlyReads, ReadsTold}
 use Rattle.disk_model.specs.State.{State}
-use Rattle.disk_model.specs.Steps.{Image, Told, now_after}
+use Rattle.disk_model.specs.Steps.{Image, Record, now_after}
 use Rattle.disk_model.proofs.IdleAgain.{again_both, again_same}
 use Rattle.disk_model.proofs.ReadingAlone.{reads_told_both, same_now}
 use Rattle.disk_model.proofs.StepsSince.{between_both, between_same, between_weaker}
@@ -22,34 +22,34 @@ use Rattle.disk_use.specs.Looks.{Looks, ReadsSome}
 
 -- ---- what is told
 
-told_reads : (old new : Told) (spans : List Span) → OnlyReads old spans new → ReadsTold (Some old) spans (Some new)
-told_reads old new spans reads = λ before is. (new, refl, subst (λ (t : Told). OnlyReads t spans new) (same_Some old before is) reads)
+told_reads : (old new : Record) (spans : List Span) → OnlyReads old spans new → ReadsTold (Some old) spans (Some new)
+told_reads old new spans reads = λ before is. (new, refl, subst (λ (t : Record). OnlyReads t spans new) (same_Some old before is) reads)
 
-some_both : (old mid new : Told) → ReadsSome old mid → ReadsSome mid new → ReadsSome old new
+some_both : (old mid new : Record) → ReadsSome old mid → ReadsSome mid new → ReadsSome old new
 some_both old mid new a b =
     let told = reads_told_both a.0 b.0 (Some old) (Some mid) (Some new) (told_reads old mid a.0 a.1) (told_reads mid new b.0 b.1) in
     let both = told old refl in
-    (a.0 ++ b.0, subst (λ (t : Told). OnlyReads old (a.0 ++ b.0) t) (sym (same_Some new both.0 both.1)) both.2)
+    (a.0 ++ b.0, subst (λ (t : Record). OnlyReads old (a.0 ++ b.0) t) (sym (same_Some new both.0 both.1)) both.2)
 
 -- what holds of the disks after reads alone held of them before
-pub now_before : (s0 s1 : Option Told) (P : Image → Type 0) → BetweenTold ReadsSome s0 s1 → HoldsNow s1 P → HoldsNow s0 P
+pub now_before : (s0 s1 : Option Record) (P : Image → Type 0) → BetweenRecords ReadsSome s0 s1 → HoldsNow s1 P → HoldsNow s0 P
 now_before None s1 P told h = tt
 now_before (Some old) s1 P told h =
     let f = told old refl in
-    let after : HoldsNow (Some f.0) P = subst (λ (o : Option Told). HoldsNow o P) f.1 h in
+    let after : HoldsNow (Some f.0) P = subst (λ (o : Option Record). HoldsNow o P) f.1 h in
     subst P (same_now old f.0 f.2.0 f.2.1) after
 
 -- two facts of the disks give a third
-pub now_both : (s : Option Told) (P Q R : Image → Type 0) → ((image : Image) → P image → Q image → R image) → HoldsNow s P → HoldsNow s Q
+pub now_both : (s : Option Record) (P Q R : Image → Type 0) → ((image : Image) → P image → Q image → R image) → HoldsNow s P → HoldsNow s Q
     → HoldsNow s R
 now_both None P Q R make p q = tt
 now_both (Some t) P Q R make p q = make (now_after t.opened t.steps) p q
 
-pub now_weaker : (s : Option Told) (P Q : Image → Type 0) → ((image : Image) → P image → Q image) → HoldsNow s P → HoldsNow s Q
+pub now_weaker : (s : Option Record) (P Q : Image → Type 0) → ((image : Image) → P image → Q image) → HoldsNow s P → HoldsNow s Q
 now_weaker None P Q make p = tt
 now_weaker (Some t) P Q make p = make (now_after t.opened t.steps) p
 
-pub now_always : (s : Option Told) (P : Image → Type 0) → ((image : Image) → P image) → HoldsNow s P
+pub now_always : (s : Option Record) (P : Image → Type 0) → ((image : Image) → P image) → HoldsNow s P
 now_always None P all = tt
 now_always (Some t) P all = all (now_after t.opened t.steps)
 

@@ -8,7 +8,7 @@ use Rattle.std.specs.FinSet as set
 use Rattle.std.specs.Ordering.{nat_cmp}
 use Rattle.disk_model.specs.Faults.{HasSameFaults}
 use Rattle.disk_model.specs.Idle.{IsIdleAgain}
-use Rattle.disk_model.specs.Since.{BetweenTold, spans_read}
+use Rattle.disk_model.specs.Since.{BetweenRecords, spans_read}
 use Rattle.disk_model.specs.State.{State}
 use Rattle.disk_model.specs.Steps.{Image}
 use Rattle.disk_model.proofs.StepsSince.{between_weaker}
@@ -23,7 +23,7 @@ use Rattle.disk_use.specs.Looks.{Looks, ReadsSome}
 use Rattle.disk_use.specs.Uses.{IsAmong, IsOfGroup, IsOfNone, refused, unlisted}
 use Rattle.disk_use.proofs.Looking.{now_weaker}
 
-pub looks_scan : (s0 s1 : State) → BetweenTold (ReadsFew s0.sizes) s0.told s1.told → IsIdleAgain s0 s1 → Looks s0 s1
+pub looks_scan : (s0 s1 : State) → BetweenRecords (ReadsFew s0.sizes) s0.told s1.told → IsIdleAgain s0 s1 → Looks s0 s1
 looks_scan s0 s1 told again = record {
   told = between_weaker (ReadsFew s0.sizes) ReadsSome s0.told s1.told
       (λ old new r. (spans_read r.since, record { since = r.since; steps = r.steps; reads = r.reads; spans_are = refl })) told;

@@ -5,7 +5,7 @@ use Rattle.std.specs.Prelude.{MatchResult}
 use Rattle.std.proofs.lemmas.Bool.{false≢true}
 use Rattle.std.proofs.lemmas.Result.{MatchResult-weaker}
 use Rattle.disk_model.specs.State.{State}
-use Rattle.disk_model.specs.Steps.{Image, Told, now_after}
+use Rattle.disk_model.specs.Steps.{Image, Record, now_after}
 use Rattle.disk_model.specs.Faults.{HasSameFaults}
 use Rattle.pv_header.specs.declared.header.PvHeader.{PvHeader}
 use Rattle.disk_contents.specs.declared.contents.AreaFound.{AreaFound}
@@ -47,7 +47,7 @@ shown_at new image sizes pv (Whole label header areas) kind first found = by_mar
     (is_marked header) refl found
 
 -- what the disk shows is so
-pub shown_so : (new wanted : Bool) (told : Option Told) (sizes : List ℕ) (pv : ℕ) (contents : PvFound) (kind : Option Kind)
+pub shown_so : (new wanted : Bool) (told : Option Record) (sizes : List ℕ) (pv : ℕ) (contents : PvFound) (kind : Option Kind)
     (shown : Shown) → wanted ≡ is_wanted new contents → shown ≡ shown_of new contents kind
     → (wanted ≡ true → HoldsNow told (λ image. kind ≡ first_kind (image pv) (slice_index_or sizes pv 0)))
     → HoldsNow told (λ image. IsShownWith new image sizes pv contents shown)

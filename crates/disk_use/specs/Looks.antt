@@ -2,9 +2,9 @@
 use Rattle.std.specs.Prelude.{◌≡◌, ℕ, Bool, true, false, if◌then◌else◌, List, slice_index_or, All, Contains, Option, Some, None}
 use Rattle.sector_base.specs.declared.spans.Span.{Span}
 use Rattle.disk_model.specs.Idle.{IsIdleAgain}
-use Rattle.disk_model.specs.Since.{BetweenTold, OnlyReads}
+use Rattle.disk_model.specs.Since.{BetweenRecords, OnlyReads}
 use Rattle.disk_model.specs.State.{State}
-use Rattle.disk_model.specs.Steps.{Image, Told}
+use Rattle.disk_model.specs.Steps.{Image, Record}
 use Rattle.disk_contents.specs.declared.contents.PvFound.{PvFound}
 use Rattle.disk_contents.specs.declared.contents.PvFound.TheVariants.{NoLabel, NoHeader, Whole}
 use Rattle.disk_contents.specs.Contents.{IsFound}
@@ -16,12 +16,12 @@ use Rattle.disk_use.specs.declared.in_use.Use.TheVariants.{Header, Signature}
 use Rattle.disk_use.specs.Uses.{IsFree, IsOfGroup, IsUsedBy, is_marked}
 
 -- some spans were read, and nothing else was done
-abbrev pub ReadsSome : Told → Told → Type 0
+abbrev pub ReadsSome : Record → Record → Type 0
 ReadsSome old new = (spans : List Span) × OnlyReads old spans new
 
 -- the disks were read, and nothing is in flight
 pub record Looks (old new : State) : Type 0 where
-  pub told : BetweenTold ReadsSome old.told new.told
+  pub told : BetweenRecords ReadsSome old.told new.told
   pub again : IsIdleAgain old new
 
 -- ---- one disk

@@ -3,7 +3,7 @@ ghost use Rattle.std.specs.Prelude.{◌≡◌, ◌≤◌, ◌<◌, ℕ, ◌^◌,
 ghost use Rattle.std.specs.Prelude.{All, Contains, IfOk, IfSome, MatchOption, MatchResult, option_map};
 ghost use Rattle.disk_model.specs.Faults.{HasSameFaults};
 ghost use Rattle.disk_model.specs.Idle.{IsIdleAgain};
-ghost use Rattle.disk_model.specs.Since.{BetweenTold};
+ghost use Rattle.disk_model.specs.Since.{BetweenRecords};
 ghost use Rattle.vg_scan.specs.Scans.{HoldsNow};
 ghost use Rattle.disk_use.specs.declared.in_use.Use.TheVariants.{Group};
 ghost use Rattle.disk_use.specs.Faults.{IsUseFault};
@@ -57,7 +57,7 @@ pub fn find_use<S: Shelf>(
     // Nothing is read of a command that takes no disk.
     ensures untouched { taken_by names.now command.now ≡ [] → S.state shelf.new ≡ S.state shelf.old }
     ensures again { IsIdleAgain (S.state shelf.old) (S.state shelf.new) }
-    ensures told { BetweenTold ReadsSome (S.state shelf.old).told (S.state shelf.new).told }
+    ensures told { BetweenRecords ReadsSome (S.state shelf.old).told (S.state shelf.new).told }
 {
     let taken = disks_taken(alloc, names, command)?;
     if taken.is_empty() {

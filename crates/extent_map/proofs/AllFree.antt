@@ -6,7 +6,7 @@ use Rattle.std.proofs.lemmas.List.{length_push}
 use Rattle.std.proofs.lemmas.List.FromFn.{get_or-map-range_with_len, length-map-range_with_len}
 use Rattle.std.proofs.lemmas.Option.{none-some, same_Some, slice_get-get_or}
 use Rattle.meta_model.specs.declared.group.Group.{Group}
-use Rattle.meta_model.specs.declared.run.Run.{Run}
+use Rattle.meta_model.specs.declared.extent_span.ExtentSpan.{ExtentSpan}
 use Rattle.extent_map.specs.ByVolume.{lists_of}
 use Rattle.extent_map.specs.FreeRuns.{AreFreeRuns}
 use Rattle.extent_map.specs.declared.extent_run.ExtentRun.{ExtentRun}
@@ -34,13 +34,13 @@ free_more group count all runs free next = record {
 }
 
 -- what a bucket has
-pub bucket_has : {Z : Type 0} (buckets : List (Vec Run Z)) (k : ℕ) (bucket : Vec Run Z) (runs : List Run) → slice_get (lists_of buckets) k ≡ Some runs → bucket ≡ slice_index_or buckets k bucket → bucket.items ≡ runs
+pub bucket_has : {Z : Type 0} (buckets : List (Vec ExtentSpan Z)) (k : ℕ) (bucket : Vec ExtentSpan Z) (runs : List ExtentSpan) → slice_get (lists_of buckets) k ≡ Some runs → bucket ≡ slice_index_or buckets k bucket → bucket.items ≡ runs
 bucket_has [] k bucket runs is at = absurd (none-some runs is)
 bucket_has (first ∷ buckets) zero bucket runs is at = ap (λ v. v.items) at ∙ same_Some first.items runs is
 bucket_has (first ∷ buckets) (suc k) bucket runs is at = bucket_has buckets k bucket runs is at
 
 -- the others are as they were where one was put in order
-pub others_stay : {Z : Type 0} (buckets : List (Vec Run Z)) (k n : ℕ) (bucket : Vec Run Z) → n ≢ k → slice_get (lists_of (slice_set buckets k bucket)) n ≡ slice_get (lists_of buckets) n
+pub others_stay : {Z : Type 0} (buckets : List (Vec ExtentSpan Z)) (k n : ℕ) (bucket : Vec ExtentSpan Z) → n ≢ k → slice_get (lists_of (slice_set buckets k bucket)) n ≡ slice_get (lists_of buckets) n
 others_stay [] k n bucket other = refl
 others_stay (first ∷ buckets) zero zero bucket other = absurd (other refl)
 others_stay (first ∷ buckets) zero (suc n) bucket other = refl

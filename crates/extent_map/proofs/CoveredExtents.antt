@@ -5,32 +5,32 @@ use Rattle.std.specs.List.{list_any}
 use Rattle.std.specs.List.Sorted.{IsPermutation}
 use Rattle.std.proofs.lemmas.Bool.{and_from, and_parts, or_cases, or_left, or_right, false≢true, leb-true, le-leb, ltb-true, lt-ltb}
 use Rattle.std.proofs.lemmas.List.Sorted.{Contains-permutation}
-use Rattle.meta_model.specs.declared.run.Run.{Run}
+use Rattle.meta_model.specs.declared.extent_span.ExtentSpan.{ExtentSpan}
 use Rattle.volume_rules.proofs.LegRuns.{contains_first, contains_later}
 use Rattle.extent_map.specs.Covered.{is_in}
 
-abbrev pub Has : Run → ℕ → Type 0
+abbrev pub Has : ExtentSpan → ℕ → Type 0
 Has run extent = (run.first ≤ extent) × (extent < run.first + run.count)
 
 -- a run has the extent
-abbrev pub Cover : List Run → ℕ → Type 0
-Cover runs extent = (run : Run) × Contains runs run × Has run extent
+abbrev pub Cover : List ExtentSpan → ℕ → Type 0
+Cover runs extent = (run : ExtentSpan) × Contains runs run × Has run extent
 
-pub cover_first : (run : Run) (runs : List Run) (extent : ℕ) → Has run extent → Cover (run ∷ runs) extent
+pub cover_first : (run : ExtentSpan) (runs : List ExtentSpan) (extent : ℕ) → Has run extent → Cover (run ∷ runs) extent
 cover_first run runs extent has = (run, contains_first run runs, has)
 
-pub cover_later : (run : Run) (runs : List Run) (extent : ℕ) → Cover runs extent → Cover (run ∷ runs) extent
+pub cover_later : (run : ExtentSpan) (runs : List ExtentSpan) (extent : ℕ) → Cover runs extent → Cover (run ∷ runs) extent
 cover_later run runs extent cover = (cover.0, contains_later run cover.0 runs cover.1, cover.2)
 
-pub cover_cases : {P : Type 0} (run : Run) (runs : List Run) (extent : ℕ) → Cover (run ∷ runs) extent → (Has run extent → P) → (Cover runs extent → P) → P
-cover_cases run runs extent (one, (zero, lt, is), has) first later = first (subst (λ (r : Run). Has r extent) (sym is) has)
+pub cover_cases : {P : Type 0} (run : ExtentSpan) (runs : List ExtentSpan) (extent : ℕ) → Cover (run ∷ runs) extent → (Has run extent → P) → (Cover runs extent → P) → P
+cover_cases run runs extent (one, (zero, lt, is), has) first later = first (subst (λ (r : ExtentSpan). Has r extent) (sym is) has)
 cover_cases run runs extent (one, (suc k, lt, is), has) first later = later (one, (k, omega arith, is), has)
 
-pub cover_permuted : (xs ys : List Run) (extent : ℕ) → IsPermutation xs ys → Cover xs extent → Cover ys extent
+pub cover_permuted : (xs ys : List ExtentSpan) (extent : ℕ) → IsPermutation xs ys → Cover xs extent → Cover ys extent
 cover_permuted xs ys extent moved cover = (cover.0, Contains-permutation xs ys cover.0 moved cover.1, cover.2)
 
 -- the test finds it
-pub cover_from : (extent : ℕ) (runs : List Run) → list_any (is_in extent) runs ≡ true → Cover runs extent
+pub cover_from : (extent : ℕ) (runs : List ExtentSpan) → list_any (is_in extent) runs ≡ true → Cover runs extent
 cover_from extent [] is = absurd (false≢true is)
 cover_from extent (run ∷ runs) is =
     ⊎_elim
@@ -39,7 +39,7 @@ cover_from extent (run ∷ runs) is =
     (λ later. cover_later run runs extent (cover_from extent runs later))
     (or_cases (is_in extent run) (list_any (is_in extent) runs) is)
 
-pub cover_found : (extent : ℕ) (runs : List Run) → Cover runs extent → list_any (is_in extent) runs ≡ true
+pub cover_found : (extent : ℕ) (runs : List ExtentSpan) → Cover runs extent → list_any (is_in extent) runs ≡ true
 cover_found extent [] cover = absurd (omega (arith, cover.1.1))
 cover_found extent (run ∷ runs) cover =
     cover_cases run runs extent cover
@@ -54,5 +54,5 @@ true_is : (b : Bool) → b ≡ true → IsTrue b
 true_is true is = grind arith
 true_is false is = absurd (false≢true is)
 
-pub test_covers : (extent : ℕ) (runs : List Run) (b : Bool) → b ≡ list_any (is_in extent) runs → IsTrue b ↔ Cover runs extent
+pub test_covers : (extent : ℕ) (runs : List ExtentSpan) (b : Bool) → b ≡ list_any (is_in extent) runs → IsTrue b ↔ Cover runs extent
 test_covers extent runs b same = (λ is. cover_from extent runs (sym same ∙ is_true b is), λ cover. true_is b (same ∙ cover_found extent runs cover))

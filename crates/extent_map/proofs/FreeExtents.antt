@@ -8,7 +8,7 @@ use Rattle.std.proofs.lemmas.List.Sorted.{All-permutation, IsPermutation-sym}
 use Rattle.std.proofs.lemmas.Option.{same_Some}
 use Rattle.meta_model.specs.declared.group.Group.{Group}
 use Rattle.meta_model.specs.declared.pv.Pv.{Pv}
-use Rattle.meta_model.specs.declared.run.Run.{Run}
+use Rattle.meta_model.specs.declared.extent_span.ExtentSpan.{ExtentSpan}
 use Rattle.volume_rules.specs.Rules.{IsAccepted}
 use Rattle.volume_rules.specs.Sorting.{StandsBefore}
 use Rattle.volume_rules.proofs.Permuted.{sorted_tells}
@@ -22,7 +22,7 @@ use Rattle.extent_map.proofs.LegsOnVolume.{all_fit, can_sort, covered_where_used
 use Rattle.extent_map.proofs.RunsInOrder.{Fits, InOrder, in_order, sorted_between}
 
 -- those between runs in order that cover the same
-pub are_free : (group : Group) (pv : ℕ) (row : List ℕ × Pv) (runs : List Run) → slice_get group.pvs pv ≡ Some row → StandBetween 0 row.1.pe_count runs
+pub are_free : (group : Group) (pv : ℕ) (row : List ℕ × Pv) (runs : List ExtentSpan) → slice_get group.pvs pv ≡ Some row → StandBetween 0 row.1.pe_count runs
     → ((extent : ℕ) → Cover runs extent → Cover (lvs_on pv group.lvs) extent) → ((extent : ℕ) → Cover (lvs_on pv group.lvs) extent → Cover runs extent)
     → AreFreeRuns group pv (gaps 0 row.1.pe_count runs)
 are_free group pv row runs is stand from to = record {
@@ -42,7 +42,7 @@ are_free group pv row runs is stand from to = record {
         lies_in_gaps 0 row.1.pe_count extent runs stand (omega arith) below (λ cover. free.1 (used_where_covered group pv extent (from extent cover)))
 
 -- once the runs were sorted, they stand in order
-pub sorted_stand : (group : Group) (pv : ℕ) (row : List ℕ × Pv) (runs : List Run) → IsAccepted group → slice_get group.pvs pv ≡ Some row → IsPermutation (lvs_on pv group.lvs) runs → AllAdjacentBelow StandsBefore runs (length runs)
+pub sorted_stand : (group : Group) (pv : ℕ) (row : List ℕ × Pv) (runs : List ExtentSpan) → IsAccepted group → slice_get group.pvs pv ≡ Some row → IsPermutation (lvs_on pv group.lvs) runs → AllAdjacentBelow StandsBefore runs (length runs)
     → StandBetween 0 row.1.pe_count runs
 sorted_stand group pv row runs accepted is moved order =
     let fit : All (Fits (2 * pv) row.1.pe_count) runs = All-permutation (Fits (2 * pv) row.1.pe_count) (lvs_on pv group.lvs) runs moved (all_fit group pv row accepted is) in
@@ -50,7 +50,7 @@ sorted_stand group pv row runs accepted is moved order =
     ((sorted_tells (lvs_on pv group.lvs) runs (can_sort group pv row accepted is) moved order).1 (lie_apart_there group pv accepted))
 
 -- and their gaps are free
-pub sorted_are_free : (group : Group) (pv : ℕ) (row : List ℕ × Pv) (runs : List Run) → IsAccepted group → slice_get group.pvs pv ≡ Some row → IsPermutation (lvs_on pv group.lvs) runs → AllAdjacentBelow StandsBefore runs (length runs)
+pub sorted_are_free : (group : Group) (pv : ℕ) (row : List ℕ × Pv) (runs : List ExtentSpan) → IsAccepted group → slice_get group.pvs pv ≡ Some row → IsPermutation (lvs_on pv group.lvs) runs → AllAdjacentBelow StandsBefore runs (length runs)
     → AreFreeRuns group pv (gaps 0 row.1.pe_count runs)
 sorted_are_free group pv row runs accepted is moved order =
     are_free group pv row runs is (sorted_stand group pv row runs accepted is moved order)

@@ -5,7 +5,7 @@ use Rattle.std.specs.List.{AllAdjacentBelow}
 use Rattle.std.proofs.lemmas.Bool.{cases_lt, cond-true, cond-false, lt-ltb, le-ltb}
 use Rattle.std.proofs.lemmas.List.Elements.{All-append, All-cons, Contains-append_cases, Contains-append_left, Contains-append_right}
 use Rattle.std.proofs.lemmas.List.Sums.{sum_by-append, sum_by-cons}
-use Rattle.meta_model.specs.declared.run.Run.{Run}
+use Rattle.meta_model.specs.declared.extent_span.ExtentSpan.{ExtentSpan}
 use Rattle.volume_rules.proofs.LegRuns.{contains_first}
 use Rattle.extent_map.specs.declared.extent_run.ExtentRun.{ExtentRun}
 use Rattle.extent_map.specs.FreeRuns.{LiesIn}
@@ -19,11 +19,11 @@ no_gap : (from to : ℕ) → to ≤ from → gap from to ≡ []
 no_gap from to le = cond-false (nat_lt from to) _ _ (le-ltb from to le)
 
 -- the runs lie between
-pub in_between : (at end : ℕ) (runs : List Run) → StandBetween at end runs → at ≤ end
+pub in_between : (at end : ℕ) (runs : List ExtentSpan) → StandBetween at end runs → at ≤ end
 in_between at end [] stand = stand
 in_between at end (run ∷ runs) stand = let rest : run.first + run.count ≤ end = in_between (run.first + run.count) end runs stand.2 in omega (arith, stand.0)
 
-covers_between : (at end extent : ℕ) (runs : List Run) → StandBetween at end runs → Cover runs extent → (at ≤ extent) × (extent < end)
+covers_between : (at end extent : ℕ) (runs : List ExtentSpan) → StandBetween at end runs → Cover runs extent → (at ≤ extent) × (extent < end)
 covers_between at end extent [] stand cover = absurd (omega (arith, cover.1.1))
 covers_between at end extent (run ∷ runs) stand cover =
     let rest : run.first + run.count ≤ end = in_between (run.first + run.count) end runs stand.2 in
@@ -61,7 +61,7 @@ lies_cases : {P : Type 0} (a b : List ExtentRun) (extent : ℕ) → LiesIn (a ++
 lies_cases a b extent lies left right = ⊎_elim (λ at. left (lies.0, at, lies.2, lies.3)) (λ at. right (lies.0, at, lies.2, lies.3)) (Contains-append_cases a b lies.0 lies.1)
 
 -- what the gaps have lies between, and no run has it
-pub gaps_have : (at end extent : ℕ) (runs : List Run) → StandBetween at end runs → LiesIn (gaps at end runs) extent → (at ≤ extent) × (extent < end) × (Cover runs extent → ⊥)
+pub gaps_have : (at end extent : ℕ) (runs : List ExtentSpan) → StandBetween at end runs → LiesIn (gaps at end runs) extent → (at ≤ extent) × (extent < end) × (Cover runs extent → ⊥)
 gaps_have at end extent [] stand lies = let both = gap_has at end extent lies in (both.0, both.1, λ cover. omega (arith, cover.1.1))
 gaps_have at end extent (run ∷ runs) stand lies =
     let rest : run.first + run.count ≤ end = in_between (run.first + run.count) end runs stand.2 in
@@ -78,7 +78,7 @@ gaps_have at end extent (run ∷ runs) stand lies =
     ))
 
 -- and they have all of that
-pub lies_in_gaps : (at end extent : ℕ) (runs : List Run) → StandBetween at end runs → at ≤ extent → extent < end → (Cover runs extent → ⊥) → LiesIn (gaps at end runs) extent
+pub lies_in_gaps : (at end extent : ℕ) (runs : List ExtentSpan) → StandBetween at end runs → at ≤ extent → extent < end → (Cover runs extent → ⊥) → LiesIn (gaps at end runs) extent
 lies_in_gaps at end extent [] stand low high free = lies_in_gap at end extent low high
 lies_in_gaps at end extent (run ∷ runs) stand low high free =
     elim (cases_lt extent run.first) [
@@ -98,7 +98,7 @@ gap_some from to =
       | inr more ↦ subst (All (λ (run : ExtentRun). 1 ≤ run.count)) (sym (no_gap from to more)) (λ k d lt. absurd (omega arith))
     ]
 
-pub gaps_some : (at end : ℕ) (runs : List Run) → All (λ (run : ExtentRun). 1 ≤ run.count) (gaps at end runs)
+pub gaps_some : (at end : ℕ) (runs : List ExtentSpan) → All (λ (run : ExtentRun). 1 ≤ run.count) (gaps at end runs)
 gaps_some at end [] = gap_some at end
 gaps_some at end (run ∷ runs) = All-append (λ (run : ExtentRun). 1 ≤ run.count) (gap at run.first) (gaps (run.first + run.count) end runs) (gap_some at run.first) (gaps_some (run.first + run.count) end runs)
 
@@ -120,7 +120,7 @@ begin_gap from to runs later begin =
       | inr more ↦ subst (λ (some : List ExtentRun). Begin from (some ++ runs)) (sym (no_gap from to more)) begin
     ]
 
-gaps_begin : (at end : ℕ) (runs : List Run) → StandBetween at end runs → Begin at (gaps at end runs)
+gaps_begin : (at end : ℕ) (runs : List ExtentSpan) → StandBetween at end runs → Begin at (gaps at end runs)
 unfolding Begin
 gaps_begin at end [] stand =
     elim (cases_lt at end) [
@@ -143,7 +143,7 @@ apart_from at (run ∷ next ∷ runs) begin (suc k) d lt =
     let P : ℕ → Type 0 = λ n. (get_or (next ∷ runs) k d).first + (get_or (next ∷ runs) k d).count < (get_or (run ∷ next ∷ runs) n d).first in
     subst P here (apart_from (run.first + run.count + 1) (next ∷ runs) begin.1 k d (omega arith))
 
-pub gaps_apart : (at end : ℕ) (runs : List Run) → StandBetween at end runs → AllAdjacentBelow (λ (a b : ExtentRun). a.first + a.count < b.first) (gaps at end runs) (length (gaps at end runs))
+pub gaps_apart : (at end : ℕ) (runs : List ExtentSpan) → StandBetween at end runs → AllAdjacentBelow (λ (a b : ExtentRun). a.first + a.count < b.first) (gaps at end runs) (length (gaps at end runs))
 gaps_apart at end runs stand = apart_from at (gaps at end runs) (gaps_begin at end runs stand)
 
 -- runs and gaps have all extents
@@ -154,18 +154,18 @@ gap_sum from to le =
       | inr more ↦ ap (λ (runs : List ExtentRun). from + sum_by (λ (run : ExtentRun). run.count) runs) (no_gap from to more) ∙ omega arith
     ]
 
-pub gaps_sum : (at end : ℕ) (runs : List Run) → StandBetween at end runs → at + sum_by (λ (run : ExtentRun). run.count) (gaps at end runs) + sum_by (λ (run : Run). run.count) runs ≡ end
+pub gaps_sum : (at end : ℕ) (runs : List ExtentSpan) → StandBetween at end runs → at + sum_by (λ (run : ExtentRun). run.count) (gaps at end runs) + sum_by (λ (run : ExtentSpan). run.count) runs ≡ end
 gaps_sum at end [] stand = let all : at + sum_by (λ (run : ExtentRun). run.count) (gap at end) ≡ end = gap_sum at end stand in omega arith
 gaps_sum at end (run ∷ runs) stand =
     let here : at + sum_by (λ (run : ExtentRun). run.count) (gap at run.first) ≡ run.first = gap_sum at run.first stand.0 in
-    let rest : run.first + run.count + sum_by (λ (run : ExtentRun). run.count) (gaps (run.first + run.count) end runs) + sum_by (λ (run : Run). run.count) runs ≡ end = gaps_sum (run.first + run.count) end runs stand.2 in
+    let rest : run.first + run.count + sum_by (λ (run : ExtentRun). run.count) (gaps (run.first + run.count) end runs) + sum_by (λ (run : ExtentSpan). run.count) runs ≡ end = gaps_sum (run.first + run.count) end runs stand.2 in
     let both = sum_by-append (λ (run : ExtentRun). run.count) (gap at run.first) (gaps (run.first + run.count) end runs) in
-    let all = sum_by-cons (λ (run : Run). run.count) run runs in
+    let all = sum_by-cons (λ (run : ExtentSpan). run.count) run runs in
     omega (arith, here, rest, both, all)
 
 -- the next run ends before the end
-pub next_within : (at end : ℕ) (runs : List Run) (i : ℕ) (d : Run) → i < length runs → StandBetween at end (drop i runs) → (get_or runs i d).first + (get_or runs i d).count ≤ end
+pub next_within : (at end : ℕ) (runs : List ExtentSpan) (i : ℕ) (d : ExtentSpan) → i < length runs → StandBetween at end (drop i runs) → (get_or runs i d).first + (get_or runs i d).count ≤ end
 next_within at end runs i d lt stand =
-    let run : Run = get_or runs i d in
+    let run : ExtentSpan = get_or runs i d in
     let rest : StandBetween at end (run ∷ drop (suc i) runs) = subst (StandBetween at end) (drop-cons runs i d lt) stand in
     in_between (run.first + run.count) end (drop (suc i) runs) rest.2

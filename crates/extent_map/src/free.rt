@@ -9,7 +9,7 @@ ghost use Rattle.volume_rules.specs.Rules.{IsAccepted};
 use crate::ExtentRuns;
 use crate::gap_runs::gaps_between;
 use crate::leg_runs::{covered_there, runs_there};
-use meta_model::{Group, Run};
+use meta_model::{ExtentSpan, Group};
 use std::alloc::{AllocError, Global};
 use volume_rules::sort_runs;
 
@@ -32,7 +32,7 @@ pub(crate) fn free_beside(
     alloc: Global,
     group: &Group,
     pv: u32,
-    runs: &mut [Run],
+    runs: &mut [ExtentSpan],
 ) -> Result<ExtentRuns, AllocError>
     requires accepted { IsAccepted group.now }
     requires stands { pv < length group.now.pvs }

@@ -3,13 +3,13 @@ ghost use Rattle.std.specs.Prelude.{◌≡◌, ◌++◌, IfOk, OnOk};
 ghost use Rattle.extent_map.specs.Gaps.{StandBetween, gap, gaps};
 
 use crate::ExtentRun;
-use meta_model::Run;
+use meta_model::ExtentSpan;
 use std::alloc::{AllocError, Global};
 
 // The gaps before, between and behind the runs, up to the end.
 pub(crate) fn gaps_between(
     alloc: Global,
-    runs: &[Run],
+    runs: &[ExtentSpan],
     end: u64,
 ) -> Result<Vec<ExtentRun>, AllocError>
     requires { StandBetween 0 end runs.now }

@@ -4,11 +4,15 @@ ghost use Rattle.std.specs.List.{flat_map};
 ghost use Rattle.extent_map.specs.Covered.{EachHasLeg, HasLeg, extents_in, leg_on, lvs_on, segment_on};
 
 use crate::leg::{is_pv, share};
-use meta_model::{Leg, LvTable, Run, Segment};
+use meta_model::{ExtentSpan, Leg, LvTable, Segment};
 use std::alloc::{AllocError, Global};
 
 // The runs of all legs on the volume, in the order of the text.
-pub(crate) fn runs_there(alloc: Global, lvs: &LvTable, pv: u32) -> Result<Vec<Run>, AllocError>
+pub(crate) fn runs_there(
+    alloc: Global,
+    lvs: &LvTable,
+    pv: u32,
+) -> Result<Vec<ExtentSpan>, AllocError>
     requires { EachHasLeg lvs.now }
     ensures { IfOk result (λ runs. runs.items ≡ lvs_on pv lvs.now) }
 {
@@ -22,7 +26,7 @@ pub(crate) fn runs_there(alloc: Global, lvs: &LvTable, pv: u32) -> Result<Vec<Ru
 
 // Adds those of the segments' legs.
 pub(crate) fn add_segments(
-    runs: &mut Vec<Run>,
+    runs: &mut Vec<ExtentSpan>,
     segments: &[Segment],
     pv: u32,
 ) -> Result<(), AllocError>
@@ -37,13 +41,13 @@ pub(crate) fn add_segments(
 }
 
 // Adds those of the legs, each with so many extents.
-fn add_legs(runs: &mut Vec<Run>, legs: &[Leg], share: u64, pv: u32) -> Result<(), AllocError>
+fn add_legs(runs: &mut Vec<ExtentSpan>, legs: &[Leg], share: u64, pv: u32) -> Result<(), AllocError>
     ensures { OnOk result (runs.new.items ≡ runs.old.items ++ flat_map (leg_on pv share) legs.now) }
 {
     for leg in legs {
         if is_pv(leg.on, pv) {
             let on = 2 * u64::from(pv);
-            runs.push(Run {
+            runs.push(ExtentSpan {
                 on,
                 first: leg.first,
                 count: share,

@@ -12,7 +12,7 @@ use Rattle.std.proofs.lemmas.Option.{same_Some, slice_get_cases, slice_get_withi
 use Rattle.meta_model.specs.Runs.{legs_of}
 use Rattle.meta_model.specs.declared.group.Group.{Group}
 use Rattle.meta_model.specs.declared.pv.Pv.{Pv}
-use Rattle.meta_model.specs.declared.run.Run.{Run}
+use Rattle.meta_model.specs.declared.extent_span.ExtentSpan.{ExtentSpan}
 use Rattle.meta_model.specs.declared.segment.Leg.{Leg}
 use Rattle.meta_model.specs.declared.segment.On.{On}
 use Rattle.meta_model.specs.declared.segment.On.TheVariants as on
@@ -76,12 +76,12 @@ abbrev total_at : ℕ → List LegRun → ℕ
 total_at pv [] = 0
 total_at pv (run ∷ runs) = cond (tests pv run) (run.count + total_at pv runs) (total_at pv runs)
 
-at_sum : (pv : ℕ) (runs : List LegRun) → sum_by (λ (run : Run). run.count) (map run_to_sort (filter (tests pv) runs)) ≡ total_at pv runs
+at_sum : (pv : ℕ) (runs : List LegRun) → sum_by (λ (run : ExtentSpan). run.count) (map run_to_sort (filter (tests pv) runs)) ≡ total_at pv runs
 at_sum pv [] = refl
 at_sum pv (run ∷ runs) = by (tests pv run) (at_sum pv runs) where
-  by : (b : Bool) → sum_by (λ (run : Run). run.count) (map run_to_sort (filter (tests pv) runs)) ≡ total_at pv runs
-      → sum_by (λ (run : Run). run.count) (map run_to_sort (cond b (run ∷ filter (tests pv) runs) (filter (tests pv) runs))) ≡ cond b (run.count + total_at pv runs) (total_at pv runs)
-  by true later = sum_by-cons (λ (run : Run). run.count) (run_to_sort run) (map run_to_sort (filter (tests pv) runs)) ∙ ap (λ (n : ℕ). run.count + n) later
+  by : (b : Bool) → sum_by (λ (run : ExtentSpan). run.count) (map run_to_sort (filter (tests pv) runs)) ≡ total_at pv runs
+      → sum_by (λ (run : ExtentSpan). run.count) (map run_to_sort (cond b (run ∷ filter (tests pv) runs) (filter (tests pv) runs))) ≡ cond b (run.count + total_at pv runs) (total_at pv runs)
+  by true later = sum_by-cons (λ (run : ExtentSpan). run.count) (run_to_sort run) (map run_to_sort (filter (tests pv) runs)) ∙ ap (λ (n : ℕ). run.count + n) later
   by false later = later
 
 on_it : (pv : ℕ) (is : On) → is_on pv is ≡ true → is ≡ on.Pv pv

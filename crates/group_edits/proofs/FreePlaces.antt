@@ -26,7 +26,7 @@ pub record IsUsedAt (group : Group) (at : At) : Type 0 where
   pub pv : List ℕ × Pv
   pub is_pv : slice_get group.pvs at.pv ≡ Some pv
   pub into : ℕ
-  pub at_xl : at.sector ≡ pv.1.pe_start + into
+  pub at_is : at.sector ≡ pv.1.pe_start + into
   pub used : IsUsed group (on.Pv at.pv) (into / group.extent_size)
 
 lv_is_no_pv : (lv pv : ℕ) → on.Lv lv ≡ on.Pv pv → ⊥
@@ -41,7 +41,7 @@ copy_is_used group lv sector (leg ∷ legs) at accepted copy =
     let r : InRun group copy.lead.0 leg.0 leg.1 (record { on = on.Pv at.pv; sector = copy.into }) =
     in_run group copy.lead.0 copy.lead.1 leg.0 leg.1 (record { on = on.Pv at.pv; sector = copy.into }) accepted copy.lead.3
     in
-    record { pv = copy.pv; is_pv = copy.is_pv; into = copy.into; at_xl = copy.at_xl; used = (r.run, r.contained, r.inside) }
+    record { pv = copy.pv; is_pv = copy.is_pv; into = copy.into; at_is = copy.at_is; used = (r.run, r.contained, r.inside) }
 
 -- so is each primary place
 pub primary_is_used : (group : Group) (lv sector : ℕ) (at : At) → IsAccepted group → primary group lv sector ≡ Some at → IsUsedAt group at
@@ -73,8 +73,8 @@ module _ (group : Group) (accepted : IsAccepted group) (run : PvRun) (free : IsF
       none : pv.1.pe_start + run.first * group.extent_size ≤ at.sector → at.sector < pv.1.pe_start + (run.first + run.count) * group.extent_size → ⊥
       none reached inside =
           let some : 0 < group.extent_size = (let least = (accepted Numbers).extent_size.0 in omega (arith, least)) in
-          let low : run.first * group.extent_size ≤ used.into = omega (arith, reached, starts, used.at_xl) in
-          let high : used.into < (run.first + run.count) * group.extent_size = omega (arith, inside, starts, used.at_xl) in
+          let low : run.first * group.extent_size ≤ used.into = omega (arith, reached, starts, used.at_is) in
+          let high : used.into < (run.first + run.count) * group.extent_size = omega (arith, inside, starts, used.at_is) in
           (free (used.into / group.extent_size) (le-div run.first used.into group.extent_size some low) (div_below used.into group.extent_size (run.first + run.count) some high)).1
           (subst (λ (n : ℕ). IsUsed group (on.Pv n) (used.into / group.extent_size)) same used.used)
 

@@ -111,13 +111,13 @@ module _ (group : Group) (name : List ℕ) (given : List Part) where
 
   changed_is : (f : IsFound) → longer_volume name given group ≡ with_lvs group (f.place.before ++ longer_row given f.place.row ∷ f.place.after)
   changed_is f =
-      ap (λ (lvs : List Row). with_lvs group (map (changed_if name (longer_row given)) lvs)) f.place.rows_xl
+      ap (λ (lvs : List Row). with_lvs group (map (changed_if name (longer_row given)) lvs)) f.place.rows_is
       ∙ ap (with_lvs group) (change_between name (longer_row given) f.place.before f.place.after f.place.row f.place.earlier f.place.later f.place.named)
 
   pub longer_whole : Grows → group.seqno ≢ 4294967295 → IsAccepted group → HasTree group → IsWhole (longer_volume name given group)
   longer_whole grows other accepted tree =
       let f : IsFound = found_by tree grows in
-      subst IsWhole (sym (changed_is f)) (whole_around group f.place.before f.place.after f.place.row given f.place.rows_xl f.place.seen f.may accepted (seqno_below group accepted other) tree)
+      subst IsWhole (sym (changed_is f)) (whole_around group f.place.before f.place.after f.place.row given f.place.rows_is f.place.seen f.may accepted (seqno_below group accepted other) tree)
 
   others_can : (rows : List Row) → Each (λ (row : Row). same_bytes row.0 name ≡ false) rows → Each (CanBeLongerIf name given) rows
   others_can [] others = tt
@@ -126,10 +126,10 @@ module _ (group : Group) (name : List ℕ) (given : List Part) where
   pub can_lengthen : Grows → IsAccepted group → HasTree group → All (CanBeLongerIf name given) group.lvs
   can_lengthen grows accepted tree =
       let f : IsFound = found_by tree grows in
-      subst (All (CanBeLongerIf name given)) (sym f.place.rows_xl)
+      subst (All (CanBeLongerIf name given)) (sym f.place.rows_is)
       (All-from_recursion (CanBeLongerIf name given) (f.place.before ++ f.place.row ∷ f.place.after)
       (join_all (CanBeLongerIf name given) f.place.before (f.place.row ∷ f.place.after) (others_can f.place.before f.place.earlier)
-      (λ named. can_be group f.place.before f.place.after f.place.row given f.place.rows_xl f.place.seen f.may accepted, others_can f.place.after f.place.later)))
+      (λ named. can_be group f.place.before f.place.after f.place.row given f.place.rows_is f.place.seen f.may accepted, others_can f.place.after f.place.later)))
 
 -- ---- as it is made
 

@@ -182,7 +182,7 @@ may_grow group name given v accepted tree disks found on_pvs laid few =
       laid = laid;
       sectors =
           subst (λ (lv : Lv). extents_of (longer given lv) * group.extent_size < 2 ^ 48) place.is_volume
-          (longer_sectors group place.before place.after place.row place.rows_xl accepted disks given
+          (longer_sectors group place.before place.after place.row place.rows_is accepted disks given
           (subst (λ (lv : Lv). MayBeLaid group (length (legs_of (last_kind lv.segments))) given) (sym place.is_volume) laid)
           (subst (λ (lv : Lv). LieOnPvs lv.segments) (sym place.is_volume) on_pvs));
       segments = few;

@@ -63,7 +63,7 @@ pub runs_elsewhere : (removed : ℕ) (group : Group) → has_leg_on_pv group rem
 runs_elsewhere removed group unused k d within =
     let run : LegRun = get_or (runs_of group) k d in
     let is : IsRunOf group.lvs 0 run = run_is group run (All-contains_itself (runs_of group) k d within) in
-    λ same. leg_elsewhere removed group unused is.nth is.volume run.segment is.segment run.leg is.leg is.is_volume is.is_segment is.is_leg (sym is.on_xl ∙ same)
+    λ same. leg_elsewhere removed group unused is.nth is.volume run.segment is.segment run.leg is.leg is.is_volume is.is_segment is.is_leg (sym is.on_is ∙ same)
 
 -- ---- numbers
 

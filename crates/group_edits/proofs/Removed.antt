@@ -94,7 +94,7 @@ module _ (group : Group) where
   numbered : (n m : ℕ) → LiesOn group n m → Contains (lv_numbers group) n
   numbered n m lies =
       let run : IsRunOf group.lvs 0 lies.0 = run_is group lies.0 lies.1 in
-      let at : run.nth ≡ n = omega (arith, run.lv_xl, lies.2) in
+      let at : run.nth ≡ n = omega (arith, run.lv_is, lies.2) in
       let within : run.nth < length group.lvs = slice_get_within group.lvs run.nth run.volume run.is_volume in
       subst (Contains (lv_numbers group)) (let e : 0 + run.nth ≡ n = omega (arith, at) in e) (in_range 0 (length group.lvs) run.nth within)
 

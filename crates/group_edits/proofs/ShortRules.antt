@@ -303,7 +303,7 @@ module _ (group : Group) (name : List ℕ) (left : ℕ) (v : ℕ × Lv) (accepte
     now : LegRun
     within : Contains (runs_of other) now
     lv : now.lv ≡ run.lv
-    on_xl : now.on ≡ run.on
+    on_is : now.on ≡ run.on
     first : now.first ≡ run.first
     count : now.count ≡ run.count
 
@@ -315,7 +315,7 @@ module _ (group : Group) (name : List ℕ) (left : ℕ) (v : ℕ × Lv) (accepte
     by : (b : Bool) → same_bytes is.volume.0 name ≡ b → IsThere run
     by true same =
         let apart : is_layered is.volume.1 ≡ false = ap is_layered (this is.volume (contains_at group.lvs is.nth is.volume is.is_volume) same) ∙ may.apart in
-        absurd (no_layer is.volume.1 run.segment is.segment run.leg is.leg m apart is.is_segment is.is_leg (sym is.on_xl ∙ on_is))
+        absurd (no_layer is.volume.1 run.segment is.segment run.leg is.leg m apart is.is_segment is.is_leg (sym is.on_is ∙ on_is))
     by false same =
         let as_was : new is.volume ≡ is.volume = ap (λ (b : Bool). cond b (is.volume.0, shortened left is.volume.1) is.volume) same in
         let stands : slice_get other.lvs is.nth ≡ Some is.volume = lv_there is.nth is.volume is.is_volume ∙ ap (λ (r : Row). Some r) as_was in
@@ -323,10 +323,10 @@ module _ (group : Group) (name : List ℕ) (left : ℕ) (v : ℕ × Lv) (accepte
         record {
           now = r.0;
           within = r.1;
-          lv = (let e = r.2 in let f = is.lv_xl in omega (arith, e, f));
-          on_xl = r.5 ∙ sym is.on_xl;
-          first = r.6 ∙ sym is.first_xl;
-          count = r.7 ∙ sym is.count_xl;
+          lv = (let e = r.2 in let f = is.lv_is in omega (arith, e, f));
+          on_is = r.5 ∙ sym is.on_is;
+          first = r.6 ∙ sym is.first_is;
+          count = r.7 ∙ sym is.count_is;
         }
 
   lies_on_back : (n below : ℕ) → LiesOn other n below → LiesOn group n below
@@ -337,7 +337,7 @@ module _ (group : Group) (name : List ℕ) (left : ℕ) (v : ℕ × Lv) (accepte
   lies_on_there : (n below : ℕ) → LiesOn group n below → LiesOn other n below
   lies_on_there n below lies =
       let now = run_there lies.0 below lies.1 lies.3 in
-      (now.now, now.within, now.lv ∙ lies.2, now.on_xl ∙ lies.3)
+      (now.now, now.within, now.lv ∙ lies.2, now.on_is ∙ lies.3)
 
   way_back : (way : List ℕ) → IsWayDown other way → IsWayDown group way
   way_back [] is = is
@@ -411,7 +411,7 @@ module _ (group : Group) (name : List ℕ) (left : ℕ) (v : ℕ × Lv) (accepte
   used_there : (m extent : ℕ) → IsUsed group (on.Lv m) extent → IsUsed other (on.Lv m) extent
   used_there m extent used =
       let now = run_there used.0 m used.1 used.2.0 in
-      (now.now, now.within, (now.on_xl ∙ used.2.0, (let f = now.first in let u = used.2.1 in omega (arith, f, u)), (let f = now.first in let n = now.count in let u = used.2.2 in omega (arith, f, n, u))))
+      (now.now, now.within, (now.on_is ∙ used.2.0, (let f = now.first in let u = used.2.1 in omega (arith, f, u)), (let f = now.first in let n = now.count in let u = used.2.2 in omega (arith, f, n, u))))
 
   pvmove_kept : Keeps other Pvmove
   pvmove_kept = record {

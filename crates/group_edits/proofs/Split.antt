@@ -65,7 +65,7 @@ module _ (name : List ℕ) where
     pub before : List Row
     pub row : Row
     pub after : List Row
-    pub rows_xl : rows ≡ before ++ row ∷ after
+    pub rows_is : rows ≡ before ++ row ∷ after
     pub is_volume : row.1 ≡ v
     pub named : same_bytes row.0 name ≡ true
     pub seen : row.1.status.visible ≡ true
@@ -86,7 +86,7 @@ module _ (name : List ℕ) where
     other : IsSplit rows v.1 → (b : Bool) → same_bytes row.0 name ≡ b → b ≡ false
     other rest true is =
         let all : Each IsOther rows = all_other rows (row.0 ∷ taken) are.2 (among_first name row.0 taken (same_bytes_tells row.0 name is)) in
-        absurd (true≢false (sym rest.named ∙ each_between IsOther rest.before rest.after rest.row (subst (Each IsOther) rest.rows_xl all)))
+        absurd (true≢false (sym rest.named ∙ each_between IsOther rest.before rest.after rest.row (subst (Each IsOther) rest.rows_is all)))
     other rest false is = refl
 
     by : (b : Bool) → (row.1.status.visible && same_bytes row.0 name) ≡ b → cond b (Some (number, row.1)) (visible_from (number + 1) name rows) ≡ Some v → (visible_from (number + 1) name rows ≡ Some v → IsSplit rows v.1) → IsSplit (row ∷ rows) v.1
@@ -96,7 +96,7 @@ module _ (name : List ℕ) where
           before = [];
           row = row;
           after = rows;
-          rows_xl = refl;
+          rows_is = refl;
           is_volume = ap (λ (u : ℕ × Lv). u.1) (same_Some (number, row.1) v made);
           named = both.1;
           seen = both.0;
@@ -109,7 +109,7 @@ module _ (name : List ℕ) where
           before = row ∷ rest.before;
           row = rest.row;
           after = rest.after;
-          rows_xl = ap (λ (rs : List Row). row ∷ rs) rest.rows_xl;
+          rows_is = ap (λ (rs : List Row). row ∷ rs) rest.rows_is;
           is_volume = rest.is_volume;
           named = rest.named;
           seen = rest.seen;

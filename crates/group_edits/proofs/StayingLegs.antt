@@ -53,7 +53,7 @@ module _ (group : Group) (stays : ℕ → Bool) where
     pub was : LegRun
     pub within : Contains (runs_of group) was
     pub stayed : stays was.lv ≡ true
-    pub is_xl : run ≡ run_after stays was
+    pub is_run : run ≡ run_after stays was
 
   pub run_from : (run : LegRun) → Contains (runs_of other) run → IsKept run
   run_from run within =
@@ -62,7 +62,7 @@ module _ (group : Group) (stays : ℕ → Bool) where
         was = get_or (filter (run_stays stays) (runs_of group)) k d;
         within = All-filter (run_stays stays) (Contains (runs_of group)) (runs_of group) (All-contains_itself (runs_of group)) k d inside;
         stayed = filter_passes (run_stays stays) (runs_of group) k d inside;
-        is_xl = refl;
+        is_run = refl;
       }))
       (subst (λ (runs : List LegRun). Contains runs run) other_runs within)
 
@@ -83,7 +83,7 @@ module _ (group : Group) (stays : ℕ → Bool) where
     pub was : Lv
     pub there : slice_get group.lvs n ≡ Some (name, was)
     pub stayed : stays n ≡ true
-    pub lv_xl : lv ≡ renumbered_lv (on_after stays) was
+    pub lv_is : lv ≡ renumbered_lv (on_after stays) was
     pub number : new stays n ≡ m
 
   pub lv_from : (m : ℕ) (name : List ℕ) (lv : Lv) → slice_get other.lvs m ≡ Some (name, lv) → WasLv m name lv
@@ -93,9 +93,9 @@ module _ (group : Group) (stays : ℕ → Bool) where
       record {
         n = row.k;
         was = row.was.1;
-        there = row.there ∙ ap (λ (own : List ℕ). Some (own, row.was.1)) (sym (ap (λ (r : List ℕ × Lv). r.0) row.row_xl));
+        there = row.there ∙ ap (λ (own : List ℕ). Some (own, row.was.1)) (sym (ap (λ (r : List ℕ × Lv). r.0) row.row_is));
         stayed = ap stays (sym at) ∙ row.stayed;
-        lv_xl = ap (λ (r : List ℕ × Lv). r.1) row.row_xl;
+        lv_is = ap (λ (r : List ℕ × Lv). r.1) row.row_is;
         number = ap (new stays) (sym at) ∙ (let e : new stays (0 + row.k) ≡ m = omega (arith, row.number) in e);
       }
 
@@ -115,7 +115,7 @@ module _ (group : Group) (stays : ℕ → Bool) where
   pub lies_from : (a b : ℕ) → LiesOn other a b → LaidOn a b
   lies_from a b lies =
       let kept : IsKept lies.0 = run_from lies.0 lies.1 in
-      by kept kept.was.on refl (sym (ap (λ (r : LegRun). r.on) kept.is_xl) ∙ lies.3)
+      by kept kept.was.on refl (sym (ap (λ (r : LegRun). r.on) kept.is_run) ∙ lies.3)
     where
       by : (kept : IsKept lies.0) (o : On) → kept.was.on ≡ o → on_after stays kept.was.on ≡ on.Lv b → LaidOn a b
       by kept (on.Pv pv) is made = absurd (none (sym (ap (λ (o : On). lv_number (on_after stays o)) is) ∙ ap lv_number made)) where
@@ -126,7 +126,7 @@ module _ (group : Group) (stays : ℕ → Bool) where
         m = m;
         lies = (kept.was, kept.within, refl, is);
         stayed = kept.stayed;
-        upper = sym (ap (λ (r : LegRun). r.lv) kept.is_xl) ∙ lies.2;
+        upper = sym (ap (λ (r : LegRun). r.lv) kept.is_run) ∙ lies.2;
         lower = lv_same (new stays m) b (sym (ap (on_after stays) is) ∙ made);
       }
 

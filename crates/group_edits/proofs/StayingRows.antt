@@ -51,7 +51,7 @@ module _ (stays : ℕ → Bool) where
     pub was : List ℕ × Lv
     pub there : slice_get rows k ≡ Some was
     pub stayed : stays (n + k) ≡ true
-    pub row_xl : row ≡ renumbered_row (on_after stays) was
+    pub row_is : row ≡ renumbered_row (on_after stays) was
     pub number : new stays (n + k) ≡ new stays n + m
 
   -- each row that stays was one before
@@ -67,7 +67,7 @@ module _ (stays : ℕ → Bool) where
       was = x;
       there = refl;
       stayed = ap stays (let e : n + 0 ≡ n = omega arith in e) ∙ first;
-      row_xl = sym (same_Some (renumbered_row (on_after stays) x) row (sym (ap (λ (l : List (List ℕ × Lv)). slice_get l 0) (rows_staying stays n x rows first)) ∙ at));
+      row_is = sym (same_Some (renumbered_row (on_after stays) x) row (sym (ap (λ (l : List (List ℕ × Lv)). slice_get l 0) (rows_staying stays n x rows first)) ∙ at));
       number = ap (new stays) (let e : n + 0 ≡ n = omega arith in e) ∙ (let e : new stays n ≡ new stays n + 0 = omega arith in e);
     }
     by true first (suc p) at later =
@@ -79,7 +79,7 @@ module _ (stays : ℕ → Bool) where
           was = was.was;
           there = was.there;
           stayed = ap stays place ∙ was.stayed;
-          row_xl = was.row_xl;
+          row_is = was.row_is;
           number = ap (new stays) place ∙ was.number ∙ (let e : new stays (n + 1) + p ≡ new stays n + suc p = omega (arith, step) in e);
         }
     by false first p at later =
@@ -91,7 +91,7 @@ module _ (stays : ℕ → Bool) where
           was = was.was;
           there = was.there;
           stayed = ap stays place ∙ was.stayed;
-          row_xl = was.row_xl;
+          row_is = was.row_is;
           number = ap (new stays) place ∙ was.number ∙ (let e : new stays (n + 1) + p ≡ new stays n + p = omega (arith, step) in e);
         }
 

@@ -327,7 +327,7 @@ module _ (group : Group) (stays : ℕ → Bool) (closed : (n m : ℕ) → stays 
         let laid : LaidOn group stays a b = lies_from group stays a b lies in
         let was : WasLv group stays b is.0 volume = lv_from group stays b is.0 volume is.1 in
         let same : laid.m ≡ was.n = new_apart stays laid.m was.n (closed laid.n laid.m laid.stayed laid.lies) was.stayed (laid.lower ∙ sym was.number) in
-        ap (λ (lv : Lv). lv.status.visible) was.lv_xl ∙ (accepted Depth).hidden laid.n was.n was.was (subst (LiesOn group laid.n) same laid.lies) (is.0, was.there);
+        ap (λ (lv : Lv). lv.status.visible) was.lv_is ∙ (accepted Depth).hidden laid.n was.n was.was (subst (LiesOn group laid.n) same laid.lies) (is.0, was.there);
     ends = λ a way down. ends_by a way down;
     few = λ a way down. few_by a way down;
   } where
@@ -354,7 +354,7 @@ module _ (group : Group) (stays : ℕ → Bool) (closed : (n m : ℕ) → stays 
   is_pvmove_from : (m : ℕ) → IsPvmove rest m → (n : ℕ) × IsPvmove group n × (stays n ≡ true) × (new stays n ≡ m)
   is_pvmove_from m is =
       let was : WasLv group stays m is.1.0 is.0 = lv_from group stays m is.1.0 is.0 is.1.1 in
-      (was.n, (was.was, (is.1.0, was.there), sym (ap (λ (lv : Lv). lv.status.pvmove) was.lv_xl) ∙ is.2), was.stayed, was.number)
+      (was.n, (was.was, (is.1.0, was.there), sym (ap (λ (lv : Lv). lv.status.pvmove) was.lv_is) ∙ is.2), was.stayed, was.number)
 
   pvmove_kept : ((n m : ℕ) → LiesOn group n m → IsPvmove group m → stays n ≡ true) → Keeps rest Pvmove
   pvmove_kept upper = record {
@@ -364,9 +364,9 @@ module _ (group : Group) (stays : ℕ → Bool) (closed : (n m : ℕ) → stays 
         sym first.3 ∙ ap (new stays) ((accepted Pvmove).one first.0 second.0 first.1 second.1) ∙ second.3;
     whole = λ m name lv is has.
         let was : WasLv group stays m name lv = lv_from group stays m name lv is in
-        let pvmove : was.was.status.pvmove ≡ true = sym (ap (λ (v : Lv). v.status.pvmove) was.lv_xl) ∙ has in
+        let pvmove : was.was.status.pvmove ≡ true = sym (ap (λ (v : Lv). v.status.pvmove) was.lv_is) ∙ has in
         let move : IsMove group was.n name was.was = (accepted Pvmove).whole was.n name was.was was.there pvmove in
-        subst (λ (v : Lv). IsMove rest m name v) (sym was.lv_xl) (record {
+        subst (λ (v : Lv). IsMove rest m name v) (sym was.lv_is) (record {
           hidden = move.hidden;
           locked = move.locked;
           named = move.named;
@@ -381,7 +381,7 @@ module _ (group : Group) (stays : ℕ → Bool) (closed : (n m : ℕ) → stays 
   locked_kept : Keeps rest Locked
   locked_kept m lv is has =
       let was : WasLv group stays m is.0 lv = lv_from group stays m is.0 lv is.1 in
-      let moving : IsMoving group was.n = (accepted Locked) was.n was.was (is.0, was.there) (sym (ap (λ (v : Lv). v.status.locked) was.lv_xl) ∙ has) in
+      let moving : IsMoving group was.n = (accepted Locked) was.n was.was (is.0, was.there) (sym (ap (λ (v : Lv). v.status.locked) was.lv_is) ∙ has) in
       let there = way_there was.n was.stayed moving.0 moving.1 in
       let all : Each (λ n. stays n ≡ true) (was.n ∷ moving.0) = (was.stayed, there.1) in
       let last_stays : stays moving.2.0 ≡ true = All-contains (λ n. stays n ≡ true) (was.n ∷ moving.0) moving.2.0 (All-from_recursion (λ n. stays n ≡ true) (was.n ∷ moving.0) all) moving.2.1 in

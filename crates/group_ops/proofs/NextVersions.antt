@@ -64,7 +64,7 @@ pub record CommitsNext (state : GroupState) (change : Change) (now : ℕ) : Type
   pub there : state.group ≡ Some old
   pub next : Group
   pub zero : List Span
-  pub change_xl : change ≡ zeroing_change state zero next
+  pub change_is : change ≡ zeroing_change state zero next
   pub same_id : next.id ≡ old.id
   pub next_seqno : next.seqno ≡ old.seqno + 1
   pub same_pvs : next.pvs ≡ old.pvs
@@ -146,7 +146,7 @@ rename_next state vg new now named (Some group) there none =
       there = there;
       next = renamed_group group new;
       zero = [];
-      change_xl = refl;
+      change_is = refl;
       same_id = refl;
       next_seqno = refl;
       same_pvs = refl;
@@ -173,7 +173,7 @@ remove_next state path now (Some group) there none =
       there = there;
       next = without_volume group seen.0.0;
       zero = [];
-      change_xl = ap (λ (o : Option (ℕ × Lv)). option_map_or (λ (v : ℕ × Lv). version_change state (without_volume group v.0)) o (no_change state)) seen.1;
+      change_is = ap (λ (o : Option (ℕ × Lv)). option_map_or (λ (v : ℕ × Lv). version_change state (without_volume group v.0)) o (no_change state)) seen.1;
       same_id = refl;
       next_seqno = refl;
       same_pvs = refl;
@@ -196,7 +196,7 @@ reduce_next state path amount now planned (Some group) there none =
       there = there;
       next = reduced_group path.lv amount group seen.0.1;
       zero = [];
-      change_xl = ap (λ (o : Option (ℕ × Lv)). option_map_or (λ (v : ℕ × Lv). version_change state (reduced_group path.lv amount group v.1)) o (no_change state)) seen.1;
+      change_is = ap (λ (o : Option (ℕ × Lv)). option_map_or (λ (v : ℕ × Lv). version_change state (reduced_group path.lv amount group v.1)) o (no_change state)) seen.1;
       same_id = refl;
       next_seqno = refl;
       same_pvs = refl;
@@ -217,7 +217,7 @@ create_next state id new now given made = record {
   there = made.there;
   next = created_group id new now given made.old;
   zero = zeroed_at state.disk_of made.old given;
-  change_xl = made.change_xl;
+  change_is = made.change_is;
   same_id = refl;
   next_seqno = refl;
   same_pvs = refl;
@@ -247,7 +247,7 @@ extend_next state path growth pvs now given planned (Some group) there takes non
       there = there;
       next = longer_volume path.lv given group;
       zero = [];
-      change_xl = refl;
+      change_is = refl;
       same_id = refl;
       next_seqno = refl;
       same_pvs = refl;
@@ -271,7 +271,7 @@ rename_lv_next state vg old new now valid (Some group) there none =
       there = there;
       next = renamed_volume old new group;
       zero = [];
-      change_xl = refl;
+      change_is = refl;
       same_id = refl;
       next_seqno = refl;
       same_pvs = refl;

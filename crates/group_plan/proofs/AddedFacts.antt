@@ -23,11 +23,11 @@ use Rattle.group_plan.proofs.DataPlaces.{data_ends, data_starts}
 use Rattle.group_plan.proofs.Disks.{HasHeader}
 use Rattle.group_plan.specs.Added.{IsAdded, added_at, added_named, added_of, added_on, pv_in}
 use Rattle.group_plan.specs.State.{IsState}
-use Rattle.group_plan.specs.declared.added.Added.{Added}
+use Rattle.group_plan.specs.declared.added.AddedPv.{AddedPv}
 use Rattle.group_plan.specs.declared.state.GroupState.{GroupState}
 
 -- it is on one of the disks, as it was found there, and its name and id can be printed
-pub record IsFoundOn (state : GroupState) (added : Added) : Type 0 where
+pub record IsFoundOn (state : GroupState) (added : AddedPv) : Type 0 where
   pub is : IsAdded added
   pub has : HasHeader state.disks added.disk added.header
   pub sectors : added.sectors ≡ has.disk.sectors
@@ -81,7 +81,7 @@ named_disk (first ∷ names) name number is all =
 
 -- ---- one of them
 
-abbrev added_with : List ℕ → ℕ → ℕ → ℕ × PvHeader → Added
+abbrev added_with : List ℕ → ℕ → ℕ → ℕ × PvHeader → AddedPv
 added_with name number sectors pv = record { disk = number; name = name; sectors = sectors; label = pv.0; header = pv.1 }
 
 found_with : (state : GroupState) → IsState state → (name : List ℕ) (number : ℕ) (disk : Disk) (label : ℕ) (header : PvHeader) → is_disk_name name ≡ true → slice_get state.disks number ≡ Some disk
@@ -104,7 +104,7 @@ found_with state is name number disk label header named there stands =
       content = disk_name-content name named;
     }
 
-found_on : (state : GroupState) → IsState state → (name : List ℕ) (added : Added) → added_named state name ≡ Some added → IsFoundOn state added
+found_on : (state : GroupState) → IsState state → (name : List ℕ) (added : AddedPv) → added_named state name ≡ Some added → IsFoundOn state added
 unfolding added_named
 found_on state is name added found =
     let numbered = and_then_some (added_at state name) (number_named state.names name) added found in

@@ -23,7 +23,7 @@ use Rattle.group_edits.proofs.PushedRules.{IsBase, base_pushed, ids_of-pushed}
 use Rattle.group_plan.proofs.FreeNames.{free, names_length, pv_name-named}
 use Rattle.group_plan.specs.Added.{IsAdded, data_end, data_start, pv_of}
 use Rattle.group_plan.specs.NewGroup.{free_number, names_in, pv_name, with_added}
-use Rattle.group_plan.specs.declared.added.Added.{Added}
+use Rattle.group_plan.specs.declared.added.AddedPv.{AddedPv}
 
 -- a group that keeps the rules, but for the number of its physical volumes, and can be printed
 pub record IsGood (group : Group) : Type 0 where
@@ -31,25 +31,25 @@ pub record IsGood (group : Group) : Type 0 where
   pub printable : IsPrintable group
 
 -- an extent fits in it, and its name and id can be printed
-pub record Fits (extent_size : ℕ) (added : Added) : Type 0 where
+pub record Fits (extent_size : ℕ) (added : AddedPv) : Type 0 where
   pub is : IsAdded added
   pub fits : data_start added + extent_size ≤ data_end added
   pub id : IsId added.header.id
   pub content : IsContent added.name
 
 -- no id of the group is its
-abbrev pub IsFresh : Group → Added → Type 0
+abbrev pub IsFresh : Group → AddedPv → Type 0
 IsFresh group added = All (λ id. id ≢ added.header.id) (ids_of group)
 
-abbrev pub IdApart : Added → Added → Type 0
+abbrev pub IdApart : AddedPv → AddedPv → Type 0
 IdApart a b = a.header.id ≢ b.header.id
 
 -- no two of them have one
-abbrev pub AreApart : List Added → Type 0
+abbrev pub AreApart : List AddedPv → Type 0
 AreApart [] = Unit {0}
 AreApart (added ∷ more) = Each (IdApart added) more × AreApart more
 
-abbrev new_row : Group → Added → List ℕ × Pv
+abbrev new_row : Group → AddedPv → List ℕ × Pv
 new_row group added = (pv_name (free_number (names_in group.pvs group.lvs)), pv_of group.extent_size added)
 
 -- ---- one
@@ -57,7 +57,7 @@ new_row group added = (pv_name (free_number (names_in group.pvs group.lvs)), pv_
 whole_extents : (room extent_size : ℕ) → 1 ≤ extent_size → (room / extent_size * extent_size ≤ room) × (room / extent_size ≤ room)
 whole_extents room extent_size some = (div-mul-le_self room extent_size, div-le_self room extent_size)
 
-small : (extent_size : ℕ) (added : Added) → 1 ≤ extent_size → Fits extent_size added → PvIsSmall (pv_of extent_size added)
+small : (extent_size : ℕ) (added : AddedPv) → 1 ≤ extent_size → Fits extent_size added → PvIsSmall (pv_of extent_size added)
 small extent_size added some fits =
     let whole : ((data_end added - data_start added) / extent_size * extent_size ≤ data_end added - data_start added) × ((data_end added - data_start added) / extent_size ≤ data_end added - data_start added) =
     whole_extents (data_end added - data_start added) extent_size some
@@ -67,7 +67,7 @@ small extent_size added some fits =
     let ends : data_end added ≤ added.sectors = fits.is.ends in
     (omega (arith, most), omega (arith, most, starts), omega (arith, most, ends, whole.1))
 
-fits_device : (extent_size : ℕ) (added : Added) → 1 ≤ extent_size → Fits extent_size added → FitsDevice extent_size (pv_of extent_size added)
+fits_device : (extent_size : ℕ) (added : AddedPv) → 1 ≤ extent_size → Fits extent_size added → FitsDevice extent_size (pv_of extent_size added)
 fits_device extent_size added some fits =
     let whole : ((data_end added - data_start added) / extent_size * extent_size ≤ data_end added - data_start added) × ((data_end added - data_start added) / extent_size ≤ data_end added - data_start added) =
     whole_extents (data_end added - data_start added) extent_size some
@@ -78,7 +78,7 @@ fits_device extent_size added some fits =
     let within : data_start added + (data_end added - data_start added) / extent_size * extent_size ≤ added.sectors = omega (arith, whole.0, ends, room) in
     (omega (arith, within, most), λ known. within)
 
-printable_pv : (extent_size : ℕ) (added : Added) → 1 ≤ extent_size → Fits extent_size added → IsPv (pv_of extent_size added)
+printable_pv : (extent_size : ℕ) (added : AddedPv) → 1 ≤ extent_size → Fits extent_size added → IsPv (pv_of extent_size added)
 printable_pv extent_size added some fits =
     let numbers : PvIsSmall (pv_of extent_size added) = small extent_size added some fits in
     record {
@@ -93,7 +93,7 @@ both_false : (a b : Bool) → (a || b) ≡ false → (a ≡ false) × (b ≡ fal
 both_false true b none = absurd cc
 both_false false b none = (refl, none)
 
-good_pushed : (group : Group) (added : Added) → 1 ≤ group.extent_size → length group.pvs + length group.lvs < 2 ^ 33 → IsGood group → Fits group.extent_size added → IsFresh group added → IsGood (pushed group (new_row group added))
+good_pushed : (group : Group) (added : AddedPv) → 1 ≤ group.extent_size → length group.pvs + length group.lvs < 2 ^ 33 → IsGood group → Fits group.extent_size added → IsFresh group added → IsGood (pushed group (new_row group added))
 good_pushed group added some few good fits fresh =
     let names : List (List ℕ) = names_in group.pvs group.lvs in
     let own = free names (omega (arith, names_length group.pvs group.lvs, few)) in
@@ -106,27 +106,27 @@ good_pushed group added some few good fits fresh =
           printable_pushed group (new_row group added) good.printable (printable_pv group.extent_size added some fits) (pv_name-named (free_number names) (omega (arith, own.0, names_length group.pvs group.lvs, few))) free_both.0 free_both.1;
     }
 
-fresh_pushed : (group : Group) (added other : Added) → IsFresh group other → IdApart added other → IsFresh (pushed group (new_row group added)) other
+fresh_pushed : (group : Group) (added other : AddedPv) → IsFresh group other → IdApart added other → IsFresh (pushed group (new_row group added)) other
 fresh_pushed group added other fresh apart =
     subst (All (λ id. id ≢ other.header.id)) (sym (ids_of-pushed group (new_row group added)))
     (All-from_recursion (λ id. id ≢ other.header.id) (group.id ∷ (map (λ (pv : List ℕ × Pv). pv.1.id) group.pvs ++ added.header.id ∷ map (λ (lv : List ℕ × Lv). lv.1.id) group.lvs))
     (each_inserted (λ id. id ≢ other.header.id) (group.id ∷ map (λ (pv : List ℕ × Pv). pv.1.id) group.pvs) (map (λ (lv : List ℕ × Lv). lv.1.id) group.lvs) added.header.id
     (recursion_from_All (λ id. id ≢ other.header.id) (ids_of group) fresh) apart))
 
-all_fresh_pushed : (group : Group) (added : Added) (more : List Added) → Each (IsFresh group) more → Each (IdApart added) more → Each (IsFresh (pushed group (new_row group added))) more
+all_fresh_pushed : (group : Group) (added : AddedPv) (more : List AddedPv) → Each (IsFresh group) more → Each (IdApart added) more → Each (IsFresh (pushed group (new_row group added))) more
 all_fresh_pushed group added [] fresh apart = tt
 all_fresh_pushed group added (other ∷ more) fresh apart = (fresh_pushed group added other fresh.0 apart.0, all_fresh_pushed group added more fresh.1 apart.1)
 
 -- ---- all of them
 
-pub good_added : (group : Group) (all : List Added) → 1 ≤ group.extent_size → length group.pvs + length group.lvs + length all < 2 ^ 33 → IsGood group → Each (Fits group.extent_size) all → Each (IsFresh group) all → AreApart all
+pub good_added : (group : Group) (all : List AddedPv) → 1 ≤ group.extent_size → length group.pvs + length group.lvs + length all < 2 ^ 33 → IsGood group → Each (Fits group.extent_size) all → Each (IsFresh group) all → AreApart all
     → IsGood (record group { pvs = with_added group.lvs group.extent_size group.pvs all })
 good_added group [] some few good fits fresh apart = good
 good_added group (added ∷ more) some few good fits fresh apart =
     good_added (pushed group (new_row group added)) more some (omega (arith, few, length-append group.pvs (new_row group added ∷ [])))
     (good_pushed group added some (omega (arith, few)) good fits.0 fresh.0) fits.1 (all_fresh_pushed group added more fresh.1 apart.0) apart.1
 
-pub count_added : (lvs : List (List ℕ × Lv)) (extent_size : ℕ) (pvs : List (List ℕ × Pv)) (all : List Added) → length (with_added lvs extent_size pvs all) ≡ length pvs + length all
+pub count_added : (lvs : List (List ℕ × Lv)) (extent_size : ℕ) (pvs : List (List ℕ × Pv)) (all : List AddedPv) → length (with_added lvs extent_size pvs all) ≡ length pvs + length all
 count_added lvs extent_size pvs [] = omega arith
 count_added lvs extent_size pvs (added ∷ more) =
     count_added lvs extent_size (pvs ++ (pv_name (free_number (names_in pvs lvs)), pv_of extent_size added) ∷ []) more

@@ -9,13 +9,13 @@ use Rattle.std.proofs.lemmas.Map.Steps.{length-le_from_distinct_below}
 use Rattle.group_plan.proofs.Passed.{DiskApart, DisksApart, all_unused}
 use Rattle.group_plan.specs.Added.{IsAdded, disks_added}
 use Rattle.group_plan.specs.Judging.{used_row}
-use Rattle.group_plan.specs.declared.added.Added.{Added}
+use Rattle.group_plan.specs.declared.added.AddedPv.{AddedPv}
 
-none_equal : (added : Added) (more : List Added) → Each (DiskApart added) more → Each (λ n. eqb added.disk n ≡ false) (disks_added more)
+none_equal : (added : AddedPv) (more : List AddedPv) → Each (DiskApart added) more → Each (λ n. eqb added.disk n ≡ false) (disks_added more)
 none_equal added [] apart = tt
 none_equal added (other ∷ more) apart = (ne_eqb added.disk other.disk (λ same. apart.0 (sym same)), none_equal added more apart.1)
 
-distinct : (all : List Added) → DisksApart all → IsDistinct eqb (disks_added all)
+distinct : (all : List AddedPv) → DisksApart all → IsDistinct eqb (disks_added all)
 unfolding IsDistinct
 distinct [] apart = tt
 distinct (added ∷ more) apart = (none_equal added more apart.0, distinct more apart.1)
@@ -24,14 +24,14 @@ below_by : (q n : ℕ) (b rest : Bool) → eqb q n ≡ b → (b || rest) ≡ tru
 below_by q n true rest is any below later = subst (λ (m : ℕ). m < 64) (sym (eqb-true q n is)) below
 below_by q n false rest is any below later = later any
 
-below : (all : List Added) (q : ℕ) → Each IsAdded all → list_any (eqb q) (disks_added all) ≡ true → q < 64
+below : (all : List AddedPv) (q : ℕ) → Each IsAdded all → list_any (eqb q) (disks_added all) ≡ true → q < 64
 below [] q are any = absurd (true≢false (sym any))
 below (added ∷ more) q are any = below_by q added.disk (eqb q added.disk) (list_any (eqb q) (disks_added more)) refl any are.0.disk_below (below more q are.1)
 
 -- where none is used, they are at most 64
-pub few_added : (listed : List ℕ) (all : List Added) → All IsAdded all → used_row listed all ≡ None → length all ≤ 64
+pub few_added : (listed : List ℕ) (all : List AddedPv) → All IsAdded all → used_row listed all ≡ None → length all ≤ 64
 few_added listed all are none =
     let few : length (disks_added all) ≤ 64 =
     length-le_from_distinct_below (disks_added all) 64 (distinct all (all_unused listed all none).1) (λ q any. below all q (recursion_from_All IsAdded all are) any)
     in
-    omega (arith, few, length-map all (λ (added : Added). added.disk))
+    omega (arith, few, length-map all (λ (added : AddedPv). added.disk))

@@ -14,7 +14,7 @@ use Rattle.scan_rules.specs.Decision.{same_bytes}
 use Rattle.scan_rules.proofs.Scanning.{same_bytes_to}
 use Rattle.group_plan.specs.Added.{data_end, data_start}
 use Rattle.group_plan.specs.Judging.{first_used, is_small, many_row, small_row, used_row, set_of, with_all}
-use Rattle.group_plan.specs.declared.added.Added.{Added}
+use Rattle.group_plan.specs.declared.added.AddedPv.{AddedPv}
 
 -- ---- rows
 
@@ -56,29 +56,29 @@ absent taken (n ∷ numbers) q none =
     differs : (n q : ℕ) → (q == n) ≡ false → n ≢ q
     differs n q other same = true≢false (sym (eq-eqb q n (sym same)) ∙ other)
 
-abbrev pub DiskApart : Added → Added → Type 0
+abbrev pub DiskApart : AddedPv → AddedPv → Type 0
 DiskApart a b = b.disk ≢ a.disk
 
-abbrev pub DisksApart : List Added → Type 0
+abbrev pub DisksApart : List AddedPv → Type 0
 DisksApart [] = Unit {0}
 DisksApart (added ∷ more) = Each (DiskApart added) more × DisksApart more
 
-abbrev pub IsUnused : set.FinSet nat_cmp → Added → Type 0
+abbrev pub IsUnused : set.FinSet nat_cmp → AddedPv → Type 0
 IsUnused taken added = set.contains taken added.disk ≡ false
 
-unused_later : (taken : set.FinSet nat_cmp) (added : Added) (more : List Added) → Each (IsUnused (set.insert taken added.disk)) more → Each (IsUnused taken) more × Each (DiskApart added) more
+unused_later : (taken : set.FinSet nat_cmp) (added : AddedPv) (more : List AddedPv) → Each (IsUnused (set.insert taken added.disk)) more → Each (IsUnused taken) more × Each (DiskApart added) more
 unused_later taken added [] all = (tt, tt)
 unused_later taken added (other ∷ more) all =
     let here : (set.contains taken other.disk ≡ false) × Each (λ n. n ≢ other.disk) (added.disk ∷ []) = absent taken (added.disk ∷ []) other.disk all.0 in
     let later = unused_later taken added more all.1 in
     ((here.0, later.0), ((λ same. here.1.0 (sym same)), later.1))
 
-used_by : (taken : set.FinSet nat_cmp) (added : Added) (b : Bool) (more : List Added) → set.contains taken added.disk ≡ b → cond b (Some added) (first_used (set.insert taken added.disk) more) ≡ None
+used_by : (taken : set.FinSet nat_cmp) (added : AddedPv) (b : Bool) (more : List AddedPv) → set.contains taken added.disk ≡ b → cond b (Some added) (first_used (set.insert taken added.disk) more) ≡ None
     → (set.contains taken added.disk ≡ false) × (first_used (set.insert taken added.disk) more ≡ None)
 used_by taken added true more is none = absurd cc
 used_by taken added false more is none = (is, none)
 
-pub unused : (taken : set.FinSet nat_cmp) (all : List Added) → first_used taken all ≡ None → Each (IsUnused taken) all × DisksApart all
+pub unused : (taken : set.FinSet nat_cmp) (all : List AddedPv) → first_used taken all ≡ None → Each (IsUnused taken) all × DisksApart all
 unused taken [] none = (tt, tt)
 unused taken (added ∷ more) none =
     let here = used_by taken added (set.contains taken added.disk) more refl none in
@@ -88,12 +88,12 @@ unused taken (added ∷ more) none =
 
 -- ---- sizes and counts
 
-fits_by : (extent_size : ℕ) (all : List Added) → Each (λ added. is_small extent_size added ≡ false) all → Each (λ added. data_start added + extent_size ≤ data_end added) all
+fits_by : (extent_size : ℕ) (all : List AddedPv) → Each (λ added. is_small extent_size added ≡ false) all → Each (λ added. data_start added + extent_size ≤ data_end added) all
 fits_by extent_size [] none = tt
 fits_by extent_size (added ∷ more) none =
     (ltb-false (data_end added) (data_start added + extent_size) none.0, fits_by extent_size more none.1)
 
-pub all_fit : (extent_size : ℕ) (all : List Added) → small_row extent_size all ≡ None → Each (λ added. data_start added + extent_size ≤ data_end added) all
+pub all_fit : (extent_size : ℕ) (all : List AddedPv) → small_row extent_size all ≡ None → Each (λ added. data_start added + extent_size ≤ data_end added) all
 unfolding small_row
 all_fit extent_size all none =
     fits_by extent_size all (recursion_from_All (λ added. is_small extent_size added ≡ false) all (All-from_find (is_small extent_size) all (no_map _ (find (is_small extent_size) all) none)))
@@ -110,7 +110,7 @@ pub few_enough : (most limit count : ℕ) → many_row most limit count ≡ None
 unfolding many_row
 few_enough most limit count none = many_by most limit count (ltb most count) (eqb limit 0) (ltb limit count) _ _ refl refl refl none
 
-pub all_unused : (listed : List ℕ) (all : List Added) → used_row listed all ≡ None → Each (IsUnused (set_of listed)) all × DisksApart all
+pub all_unused : (listed : List ℕ) (all : List AddedPv) → used_row listed all ≡ None → Each (IsUnused (set_of listed)) all × DisksApart all
 unfolding used_row
 all_unused listed all none = unused (set_of listed) all (no_map _ (first_used (set_of listed) all) none)
 

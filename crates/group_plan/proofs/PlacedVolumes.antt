@@ -25,7 +25,7 @@ use Rattle.group_plan.proofs.Disks.{ids_apart}
 use Rattle.group_plan.specs.Added.{added_of, data_end, data_start, pv_of}
 use Rattle.group_plan.specs.NewGroup.{extended, free_number, names_in, pv_name, with_added}
 use Rattle.group_plan.specs.State.{IsState}
-use Rattle.group_plan.specs.declared.added.Added.{Added}
+use Rattle.group_plan.specs.declared.added.AddedPv.{AddedPv}
 use Rattle.group_plan.specs.declared.state.GroupState.{GroupState}
 
 -- ---- on its own disk
@@ -71,7 +71,7 @@ placed_by start end reading found true some parts =
     ∙ and_false (ltb start end)
 
 module _ (state : GroupState) (is : IsState state) (extent_size : ℕ) where
-  own_placed : (added : Added) (reading : Reading) → IsFoundOn state added → reading.sectors ≡ added.sectors
+  own_placed : (added : AddedPv) (reading : Reading) → IsFoundOn state added → reading.sectors ≡ added.sectors
       → is_misplaced (data_start added) (data_start added + (data_end added - data_start added) / extent_size * extent_size) reading (pv_shape added.header) ≡ false
   own_placed added reading found same =
       let start : ℕ = data_start added in
@@ -95,7 +95,7 @@ module _ (state : GroupState) (is : IsState state) (extent_size : ℕ) where
   -- ---- on any disk
 
   -- one whose header has its id is its own
-  own_disk : (number : ℕ) (disk : Disk) (header : PvHeader) (added : Added) → slice_get state.disks number ≡ Some disk → header_on disk.contents ≡ Some header → IsFoundOn state added → added.header.id ≡ header.id
+  own_disk : (number : ℕ) (disk : Disk) (header : PvHeader) (added : AddedPv) → slice_get state.disks number ≡ Some disk → header_on disk.contents ≡ Some header → IsFoundOn state added → added.header.id ≡ header.id
       → (added.header ≡ header) × (disk.sectors ≡ added.sectors)
   own_disk number disk header added there has found same =
       elim (cases_order number added.disk) [
@@ -108,7 +108,7 @@ module _ (state : GroupState) (is : IsState state) (extent_size : ℕ) where
         ]
       ]
 
-  one_by : (number : ℕ) (disk : Disk) (header : PvHeader) (name : List ℕ) (added : Added) (b : Bool) → same_bytes added.header.id header.id ≡ b → slice_get state.disks number ≡ Some disk → header_on disk.contents ≡ Some header → IsFoundOn state added
+  one_by : (number : ℕ) (disk : Disk) (header : PvHeader) (name : List ℕ) (added : AddedPv) (b : Bool) → same_bytes added.header.id header.id ≡ b → slice_get state.disks number ≡ Some disk → header_on disk.contents ≡ Some header → IsFoundOn state added
       → is_this_misplaced extent_size (disk_shape disk) (pv_shape header) (name, pv_of extent_size added) ≡ false
   one_by number disk header name added false other there has found =
       ap (λ (b : Bool). b && is_misplaced (data_start added) (data_start added + (data_end added - data_start added) / extent_size * extent_size) (disk_shape disk) (pv_shape header)) other
@@ -119,16 +119,16 @@ module _ (state : GroupState) (is : IsState state) (extent_size : ℕ) where
       (own_placed added (disk_shape disk) found own.1))
       ∙ and_false (same_bytes added.header.id header.id)
 
-  each_one : (number : ℕ) (disk : Disk) (header : PvHeader) → slice_get state.disks number ≡ Some disk → header_on disk.contents ≡ Some header → (all : List Added) → Each (IsFoundOn state) all
-      → Each (λ (added : Added). (name : List ℕ) → is_this_misplaced extent_size (disk_shape disk) (pv_shape header) (name, pv_of extent_size added) ≡ false) all
+  each_one : (number : ℕ) (disk : Disk) (header : PvHeader) → slice_get state.disks number ≡ Some disk → header_on disk.contents ≡ Some header → (all : List AddedPv) → Each (IsFoundOn state) all
+      → Each (λ (added : AddedPv). (name : List ℕ) → is_this_misplaced extent_size (disk_shape disk) (pv_shape header) (name, pv_of extent_size added) ≡ false) all
   each_one number disk header there has [] found = tt
   each_one number disk header there has (added ∷ more) found =
       ((λ name. one_by number disk header name added (same_bytes added.header.id header.id) refl there has found.0), each_one number disk header there has more found.1)
 
 -- ---- the group
 
-none_added : (test : List ℕ × Pv → Bool) (lvs : List (List ℕ × Lv)) (extent_size : ℕ) (pvs : List (List ℕ × Pv)) (all : List Added) → list_any test pvs ≡ false
-    → Each (λ (added : Added). (name : List ℕ) → test (name, pv_of extent_size added) ≡ false) all → list_any test (with_added lvs extent_size pvs all) ≡ false
+none_added : (test : List ℕ × Pv → Bool) (lvs : List (List ℕ × Lv)) (extent_size : ℕ) (pvs : List (List ℕ × Pv)) (all : List AddedPv) → list_any test pvs ≡ false
+    → Each (λ (added : AddedPv). (name : List ℕ) → test (name, pv_of extent_size added) ≡ false) all → list_any test (with_added lvs extent_size pvs all) ≡ false
 none_added test lvs extent_size pvs [] none each = none
 none_added test lvs extent_size pvs (added ∷ more) none each =
     let name : List ℕ = pv_name (free_number (names_in pvs lvs)) in
@@ -145,7 +145,7 @@ IsPlacedOn group reading = has_misplaced group reading ≡ false
 abbrev pub misplaced_with : Group → Reading → Option PvHeader → Bool
 misplaced_with group reading header = unwrap_or (option_map (λ (found : PvOf). list_any (is_this_misplaced group.extent_size reading found) group.pvs) (option_map pv_shape header)) false
 
-module _ (state : GroupState) (is : IsState state) (base : Group) (all : List Added) (found : Each (IsFoundOn state) all) where
+module _ (state : GroupState) (is : IsState state) (base : Group) (all : List AddedPv) (found : Each (IsFoundOn state) all) where
   placed_with : (number : ℕ) (disk : Disk) (header : Option PvHeader) → slice_get state.disks number ≡ Some disk → header_on disk.contents ≡ header → misplaced_with base (disk_shape disk) header ≡ false
       → misplaced_with (extended base all) (disk_shape disk) header ≡ false
   unfolding extended
@@ -185,7 +185,7 @@ none_misplaced group number (reading ∷ more) placed =
 -- where none of a group is, none is where physical volumes are added
 pub added_placed : (state : GroupState) → IsState state → (base : Group) (names : List (List ℕ)) → first_misplaced base (shapes state.disks) ≡ None → first_misplaced (extended base (added_of state names)) (shapes state.disks) ≡ None
 added_placed state is base names placed =
-    let all : List Added = added_of state names in
+    let all : List AddedPv = added_of state names in
     none_misplaced (extended base all) 0 (shapes state.disks)
     (placed_from state is base all (recursion_from_All (IsFoundOn state) all (all_found state is names)) 0 state.disks
     (λ k disk at. subst (λ (n : ℕ). slice_get state.disks n ≡ Some disk) (omega arith) at) (each_placed base 0 (shapes state.disks) placed))

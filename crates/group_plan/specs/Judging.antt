@@ -15,7 +15,7 @@ use Rattle.meta_print.specs.Layout.{tree_of}
 use Rattle.vg_found.specs.Disks.{has_header_id}
 use Rattle.vg_found.specs.declared.disk.Disk.{Disk}
 use Rattle.group_plan.specs.Added.{added_named, data_end, data_start}
-use Rattle.group_plan.specs.declared.added.Added.{Added}
+use Rattle.group_plan.specs.declared.added.AddedPv.{AddedPv}
 use Rattle.group_plan.specs.declared.refusal.PlanRefusal.{PlanRefusal}
 use Rattle.group_plan.specs.declared.refusal.PlanRefusal.TheVariants.{NoMemory, Refused}
 use Rattle.group_plan.specs.declared.state.GroupState.{GroupState}
@@ -58,13 +58,13 @@ unfoldable pub unknown_row : GroupState → List (List ℕ) → Option OpRefusal
 unknown_row state names = option_map (λ name. UnknownPv name) (find (is_unknown state) names)
 
 -- the first that is on one of these disks, or on one with an earlier one
-abbrev pub first_used : set.FinSet nat_cmp → List Added → Option Added
+abbrev pub first_used : set.FinSet nat_cmp → List AddedPv → Option AddedPv
 first_used taken [] = None
 first_used taken (added ∷ more) = if set.contains taken added.disk then Some added else first_used (set.insert taken added.disk) more
 
 -- it is used, where these disks are listed
-unfoldable pub used_row : List ℕ → List Added → Option OpRefusal
-used_row listed all = option_map (λ (added : Added). PvUsed added.name) (first_used (set_of listed) all)
+unfoldable pub used_row : List ℕ → List AddedPv → Option OpRefusal
+used_row listed all = option_map (λ (added : AddedPv). PvUsed added.name) (first_used (set_of listed) all)
 
 -- ---- areas and sizes
 
@@ -77,16 +77,16 @@ unfoldable pub area_row : List (Area × Option Locn) → List ℕ → Option OpR
 area_row areas disks = refused_if (not (list_any (lies_on (set_of disks)) areas)) NoArea
 
 -- no extent fits between its data's start and its data's end
-abbrev pub is_small : ℕ → Added → Bool
+abbrev pub is_small : ℕ → AddedPv → Bool
 is_small extent_size added = nat_lt (data_end added) (data_start added + extent_size)
 
 -- how many sectors its disk needs for one extent
-abbrev pub need_of : ℕ → Added → ℕ
+abbrev pub need_of : ℕ → AddedPv → ℕ
 need_of extent_size added = data_start added + extent_size + (added.sectors - data_end added)
 
 -- the first of which that holds
-unfoldable pub small_row : ℕ → List Added → Option OpRefusal
-small_row extent_size all = option_map (λ (added : Added). TooSmall added.sectors (need_of extent_size added)) (find (is_small extent_size) all)
+unfoldable pub small_row : ℕ → List AddedPv → Option OpRefusal
+small_row extent_size all = option_map (λ (added : AddedPv). TooSmall added.sectors (need_of extent_size added)) (find (is_small extent_size) all)
 
 -- so many volumes are more than any group may have, or than its own limit, where that isn't 0
 unfoldable pub many_row : ℕ → ℕ → ℕ → Option OpRefusal

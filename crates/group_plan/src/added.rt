@@ -18,7 +18,7 @@ use vg_found::Disk;
 
 /// A physical volume that a line adds to a group.
 #[derive(Debug, Drop)]
-pub struct Added {
+pub struct AddedPv {
     /// The number of its disk.
     pub disk: u32,
     /// The name of its disk.
@@ -31,7 +31,7 @@ pub struct Added {
     pub header: PvHeader,
 }
 
-impl Added {
+impl AddedPv {
     // The sector where its data begin.
     fn data_start(&self) -> u64
         ensures { result ≡ data_start self.now }
@@ -92,7 +92,7 @@ pub fn find_all_added(
     alloc: Global,
     state: &GroupState,
     names: &[Text],
-) -> Result<Vec<Added>, PlanRefusal>
+) -> Result<Vec<AddedPv>, PlanRefusal>
     requires { IsState state.now }
     ensures { MatchResult result
         (λ all. (unknown_row state.now names.now ≡ None) × (all.items ≡ added_of state.now names.now))
@@ -118,11 +118,7 @@ pub fn find_all_added(
 /// # Errors
 ///
 /// Else `UnknownPv` for the first that isn't; `NoMemory` where memory is wanting.
-pub fn judge_known(
-    alloc: Global,
-    state: &GroupState,
-    names: &[Text],
-) -> Result<(), PlanRefusal>
+pub fn judge_known(alloc: Global, state: &GroupState, names: &[Text]) -> Result<(), PlanRefusal>
     requires { IsState state.now }
     ensures { Judges result (unknown_row state.now names.now) }
 {
@@ -136,11 +132,7 @@ pub fn judge_known(
 ///
 /// Else `UnknownPv`; `NoMemory` where memory is wanting.
 #[tactic(auto, unfolding(crate::specs::Judging::unknown_row))]
-pub fn judge_one_known(
-    alloc: Global,
-    state: &GroupState,
-    name: &Text,
-) -> Result<(), PlanRefusal>
+pub fn judge_one_known(alloc: Global, state: &GroupState, name: &Text) -> Result<(), PlanRefusal>
     requires { IsState state.now }
     ensures { Judges result (unknown_row state.now (name.now ∷ [])) }
 {
@@ -159,7 +151,7 @@ fn find_added(
     state: &GroupState,
     name: &Text,
     number: Option<u32>,
-) -> Result<Option<Added>, AllocError>
+) -> Result<Option<AddedPv>, AllocError>
     requires state { IsState state.now }
     requires named { number ≡ number_named state.now.names name.now }
     requires within { IfSome number (λ number. number < length state.now.names) }
@@ -177,11 +169,11 @@ fn added_on(
     name: &Text,
     number: u32,
     disk: &Disk,
-) -> Result<Option<Added>, AllocError>
+) -> Result<Option<AddedPv>, AllocError>
     ensures { IfOk result (λ found. found ≡ added_on name.now number disk.now) }
 {
     match &disk.contents {
-        Some(PvFound::Whole { label, header, .. }) => Ok(Some(Added {
+        Some(PvFound::Whole { label, header, .. }) => Ok(Some(AddedPv {
             disk: number,
             name: copied_text(alloc, name)?,
             sectors: disk.sectors,

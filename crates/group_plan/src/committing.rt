@@ -8,8 +8,8 @@ ghost use Rattle.group_plan.specs.Committing.{length_row, length_row_on, named_r
 ghost use Rattle.group_plan.specs.Plans.{Plans};
 
 use crate::copied::{copied_disks, copied_text};
+use crate::joined_group::text_size;
 use crate::judging::judge_text;
-use crate::new_group::text_size;
 use crate::{Change, GroupState, Labels, PlanRefusal, Spans};
 use line_answers::OpRefusal;
 use meta_model::Group;

@@ -7,7 +7,7 @@ ghost use Rattle.group_plan.specs.Judging.{Judges, area_row, large_row, many_row
 
 use crate::copied::copied_text;
 use crate::ids::same_id;
-use crate::{Added, PlanRefusal};
+use crate::{AddedPv, PlanRefusal};
 use disk_contents::PvFound;
 use line_answers::OpRefusal;
 use lvm_id::LvmId;
@@ -38,7 +38,7 @@ pub fn set_of(numbers: &[u32]) -> PvSet
 ///
 /// The first that is, as `PvUsed`; `NoMemory` where memory is wanting.
 #[tactic(auto, unfolding(crate::specs::Judging::used_row))]
-pub fn judge_used(alloc: Global, listed: &[u32], all: &[Added]) -> Result<(), PlanRefusal>
+pub fn judge_used(alloc: Global, listed: &[u32], all: &[AddedPv]) -> Result<(), PlanRefusal>
     requires listed { All (λ number. number < 64) listed.now }
     requires added { All IsAdded all.now }
     ensures { Judges result (used_row listed.now all.now) }
@@ -79,7 +79,7 @@ pub fn judge_areas(areas: &[(Area, Option<Locn>)], disks: &[u32]) -> Result<(), 
 ///
 /// The first in which none does, as `TooSmall`.
 #[tactic(auto, unfolding(crate::specs::Judging::small_row))]
-pub fn judge_sizes(extent_size: u64, all: &[Added]) -> Result<(), PlanRefusal>
+pub fn judge_sizes(extent_size: u64, all: &[AddedPv]) -> Result<(), PlanRefusal>
     requires size { extent_size ≤ 2 ^ 31 }
     requires added { All IsAdded all.now }
     ensures { Judges result (small_row extent_size all.now) }

@@ -11,23 +11,28 @@ mod committing;
 mod copied;
 mod disks_by_name;
 mod ids;
+mod joined_group;
 mod judging;
 mod members;
 mod naming;
-mod new_group;
 mod pvs_by_disk;
 mod refusal;
 mod state;
 mod stripes;
 
-pub use added::{Added, copied_header, find_all_added, judge_known, judge_one_known};
+pub use added::{AddedPv, copied_header, find_all_added, judge_known, judge_one_known};
 pub use backup::{Backup, read_backup};
-pub use committing::{LAST_SEQNO, commit_version, commit_version_on, commit_zeroed, is_named, judge_name, judge_named, judge_resizeable, judge_seqno, judge_write, unknown_group};
+pub use committing::{
+    LAST_SEQNO, commit_version, commit_version_on, commit_zeroed, is_named, judge_name,
+    judge_named, judge_resizeable, judge_seqno, judge_write, unknown_group,
+};
 pub use copied::{copied_bytes, copied_disks, copied_text, group_name, volume_name};
 pub use ids::{has_id, same_id};
-pub use judging::{MOST_PVS, judge_areas, judge_count, judge_sizes, judge_used, set_of, stands_on_disk};
+pub use joined_group::{commit, disks_with};
+pub use judging::{
+    MOST_PVS, judge_areas, judge_count, judge_sizes, judge_used, set_of, stands_on_disk,
+};
 pub use members::{judge_members, pv_named, pvs_named};
-pub use new_group::{commit, disks_with};
 pub use refusal::PlanRefusal;
 pub use state::{Change, GroupState, Labels, NewLabel, Spans};
 pub use stripes::{judge_stripe, judge_stripes};

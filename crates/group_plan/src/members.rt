@@ -19,11 +19,7 @@ use std::alloc::{AllocError, Global};
 ///
 /// Else `NotInGroup` for the first name where it lists none; `NoMemory` where memory is wanting.
 #[tactic(auto, unfolding(crate::specs::Members::outside_row))]
-pub fn judge_members(
-    alloc: Global,
-    state: &GroupState,
-    names: &[Text],
-) -> Result<(), PlanRefusal>
+pub fn judge_members(alloc: Global, state: &GroupState, names: &[Text]) -> Result<(), PlanRefusal>
     requires state { IsState state.now }
     requires few { length state.now.disk_of ≤ 64 }
     ensures { Judges result (specs.outside_row state.now names.now) }
@@ -45,11 +41,7 @@ pub fn judge_members(
 ///
 /// Where memory is wanting.
 #[tactic(auto, unfolding(crate::specs::Members::pvs_named))]
-pub fn pvs_named(
-    alloc: Global,
-    state: &GroupState,
-    names: &[Text],
-) -> Result<PvSet, AllocError>
+pub fn pvs_named(alloc: Global, state: &GroupState, names: &[Text]) -> Result<PvSet, AllocError>
     requires state { IsState state.now }
     requires few { length state.now.disk_of ≤ 64 }
     ensures { IfOk result (λ all. all ≡ specs.pvs_named state.now names.now) }

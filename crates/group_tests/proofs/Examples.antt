@@ -11,7 +11,7 @@ use Rattle.pv_label.specs.declared.refusal.LabelRefusal.TheVariants.{NoLabel as 
 use Rattle.pv_header.specs.Areas.{next_start}
 use Rattle.pv_header.specs.declared.extent_list.Extent.{Extent}
 use Rattle.pv_header.specs.declared.header.PvHeader.{PvHeader}
-use Rattle.mda_header.specs.declared.entry.Entry.TheVariants.{Nothing}
+use Rattle.mda_header.specs.declared.entry.HeaderEntry.TheVariants.{Nothing}
 use Rattle.mda_header.specs.declared.refusal.MdaRefusal.TheVariants.{BadMagic}
 use Rattle.meta_model.specs.declared.pv.Pv.{Pv}
 use Rattle.disk_contents.specs.declared.contents.PvFound.TheVariants.{NoLabel, Whole}

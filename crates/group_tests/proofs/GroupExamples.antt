@@ -11,7 +11,7 @@ use Rattle.line_answers.specs.declared.op_refusal.OpRefusal.TheVariants.{BadRule
 use Rattle.pv_label.specs.declared.refusal.LabelRefusal.TheVariants.{NoLabel as NoneFound}
 use Rattle.pv_header.specs.declared.extent_list.Extent.{Extent}
 use Rattle.pv_header.specs.declared.header.PvHeader.{PvHeader}
-use Rattle.mda_header.specs.declared.entry.Entry.TheVariants.{Text}
+use Rattle.mda_header.specs.declared.entry.HeaderEntry.TheVariants.{Text}
 use Rattle.mda_header.specs.declared.refusal.MdaRefusal.TheVariants.{BadMagic}
 use Rattle.meta_model.specs.declared.group.Group.{Group}
 use Rattle.meta_model.specs.declared.lv.Lv.{Lv}

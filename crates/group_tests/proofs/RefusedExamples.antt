@@ -16,8 +16,8 @@ use Rattle.pv_header.specs.Areas.{next_start}
 use Rattle.pv_header.specs.declared.extent_list.Extent.{Extent}
 use Rattle.pv_header.specs.declared.header.PvHeader.{PvHeader}
 use Rattle.pv_header.specs.declared.refusal.PvRefusal.TheVariants.{ListUnended}
-use Rattle.mda_header.specs.declared.entry.Entry.{Entry}
-use Rattle.mda_header.specs.declared.entry.Entry.TheVariants.{Ignored, Nothing}
+use Rattle.mda_header.specs.declared.entry.HeaderEntry.{HeaderEntry}
+use Rattle.mda_header.specs.declared.entry.HeaderEntry.TheVariants.{Ignored, Nothing}
 use Rattle.mda_header.specs.declared.refusal.MdaRefusal.TheVariants.{BadMagic}
 use Rattle.mda_ring.specs.Ring.{need, room}
 use Rattle.conf_text.specs.Bytes.{kind}
@@ -38,21 +38,21 @@ abbrev extent : ℕ → ℕ → Extent
 extent offset size = record { offset = offset; size = size }
 
 -- an area with this in it
-abbrev area : Entry → AreaFound
+abbrev area : HeaderEntry → AreaFound
 area entry = record { area = extent 4096 1044480; header = Err BadMagic; entry = entry }
 
 -- a disk with the header of this id, and with this in its area
-abbrev whole : ℕ → Entry → Disk
+abbrev whole : ℕ → HeaderEntry → Disk
 whole id entry = record {
   sectors = 65536;
   contents = Some (Whole 2 (new_header (id ∷ []) 65536 1) (area entry ∷ []));
 }
 
 -- two such disks, and one of so many sectors with a label in sector 3 alone
-abbrev disks : Entry → ℕ → List Disk
+abbrev disks : HeaderEntry → ℕ → List Disk
 disks entry sectors = whole 1 entry ∷ whole 2 entry ∷ record { sectors = sectors; contents = Some (NoHeader 3 (ListUnended 1)) } ∷ []
 
-abbrev state : Entry → ℕ → GroupState
+abbrev state : HeaderEntry → ℕ → GroupState
 state entry sectors = record {
   group = None;
   disks = disks entry sectors;
@@ -106,7 +106,7 @@ row_label = refl
 -- ---- vgcreate
 
 -- of this id, of extents of so many sectors, on the disks with these names, with this in their areas
-abbrev creating : Entry → ℕ → ℕ → List (List ℕ) → Option OpRefusal
+abbrev creating : HeaderEntry → ℕ → ℕ → List (List ℕ) → Option OpRefusal
 creating entry id size names = first_refusal (vgcreate_rows (state entry 2056) (empty_group (id ∷ []) (codes "vg") size) names 0)
 
 -- c holds no physical volume: that is said before that a is named twice

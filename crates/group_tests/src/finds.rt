@@ -7,7 +7,7 @@ ghost use Rattle.vg_found.specs.Shape.{HasShape, IsDisk, IsUnread};
 
 use disk_contents::{AreaFound, AreasFound, PvFound};
 use lvm_id::{LvmId, parse_plain};
-use mda_header::{Entry, Locn, MdaRefusal};
+use mda_header::{HeaderEntry, Locn, MdaRefusal};
 use mda_ring::Areas;
 use pv_header::{Extent, Extents, PvHeader, PvRefusal};
 use sector_base::{ItemList, PvDisks, PvSet};
@@ -72,7 +72,7 @@ fn where_all_is_there_it_is_whole(rt: HostRuntime) -> Result<(), Fail> {
     Ok(())
 }
 
-fn area(offset: u64, entry: Entry) -> AreaFound {
+fn area(offset: u64, entry: HeaderEntry) -> AreaFound {
     AreaFound {
         area: Extent {
             offset,
@@ -90,8 +90,8 @@ const TEXT: Locn = Locn {
 };
 
 // A disk with an area that is ignored, and one with this entry.
-fn disk(rt: &impl Abort, alloc: Global, entry: Entry) -> Result<Disk, AllocError> {
-    let areas = vec![in alloc; area(4_096, Entry::Ignored), area(8_192, entry)]?;
+fn disk(rt: &impl Abort, alloc: Global, entry: HeaderEntry) -> Result<Disk, AllocError> {
+    let areas = vec![in alloc; area(4_096, HeaderEntry::Ignored), area(8_192, entry)]?;
     let header = PvHeader {
         id: id(rt),
         device_bytes: 0,
@@ -112,12 +112,12 @@ fn disk(rt: &impl Abort, alloc: Global, entry: Entry) -> Result<Disk, AllocError
 
 #[test]
 fn areas_are_held_but_ignored_ones(rt: HostRuntime) -> Result<(), Fail> {
-    let first = disk(&rt, rt.alloc(), Entry::Text(TEXT))?;
+    let first = disk(&rt, rt.alloc(), HeaderEntry::Text(TEXT))?;
     let second = Disk {
         sectors: 8,
         contents: None,
     };
-    let third = disk(&rt, rt.alloc(), Entry::Refused(MdaRefusal::BadMagic))?;
+    let third = disk(&rt, rt.alloc(), HeaderEntry::Refused(MdaRefusal::BadMagic))?;
     let disks = vec![in rt.alloc(); first, second, third]?;
     let held = held_areas(rt.alloc(), &disks)?;
     assert_eq!(rt; held.len(), 2);

@@ -9,7 +9,7 @@ use Rattle.meta_model.specs.declared.pv.Pv.{Pv}
 use Rattle.scan_rules.specs.Decision.{Area, AreaReading, Conflict, Copy, DuplicatePv, Found, FoundGroup, GivesNoLater, HasShape, Held, HoldsNone, NoCopy, NoGroup, PvShape, Reading, SameAreas, SameHeaders, SamePv, ScanAnswer, TwoGroups, Unsupported, decide_scan, gives, group_found, has_id, holds, is_held, is_listed, lists, same_bytes}
 use Rattle.scan_rules.specs.Found.{is_missing, missing_of}
 use Rattle.scan_rules.proofs.Scanning.{same_bytes_to, scan_finds}
-use Rattle.image_scans.proofs.Given.{AreasGive, DisksGive, GivenHas, PvGives, each_given}
+use Rattle.image_scans.proofs.AreaReadings.{AreasGive, DisksGive, GivenHas, PvGives, each_given}
 
 -- an area that isn't ignored gives what it gave, or this or nothing, where that is allowed
 abbrev pub GivesAgain : AreaReading → Bool → (AreaReading → Bool) → Option AreaReading → Option AreaReading → Type 0
@@ -182,13 +182,13 @@ pub record Finds (disks : List Reading) (group : Group) (text : List ℕ) : Type
   pub strays : List ℕ
   pub missing : List (List ℕ)
   pub is : decide_scan disks ≡ FoundGroup held stale strays missing
-  pub group_xl : held.group ≡ group
-  pub text_xl : held.text ≡ text
+  pub group_is : held.group ≡ group
+  pub text_is : held.text ≡ text
 
 finds_by : (disks : List Reading) (group : Group) (text : List ℕ) (answer : ScanAnswer) → decide_scan disks ≡ answer → group_found answer ≡ Some (group, text) → Finds disks group text
 finds_by disks group text (FoundGroup held stale strays missing) is has =
     let both : (held.group, held.text) ≡ (group, text) = same_Some (held.group, held.text) (group, text) has in
-    record { held = held; stale = stale; strays = strays; missing = missing; is = is; group_xl = ap (λ (p : Group × List ℕ). p.0) both; text_xl = ap (λ (p : Group × List ℕ). p.1) both }
+    record { held = held; stale = stale; strays = strays; missing = missing; is = is; group_is = ap (λ (p : Group × List ℕ). p.0) both; text_is = ap (λ (p : Group × List ℕ). p.1) both }
 finds_by disks group text NoGroup is has = absurd cc
 finds_by disks group text (DuplicatePv a b) is has = absurd cc
 finds_by disks group text (NoCopy rs) is has = absurd cc

@@ -3,8 +3,8 @@ use Rattle.std.proofs.Common.{◌≡◌, ◌≤◌, ◌⊎◌, ℕ, ◌+◌, ◌
 use Rattle.std.proofs.lemmas.Option.{same_Some}
 use Rattle.disk_model.specs.Steps.{Image}
 use Rattle.pv_header.specs.declared.extent_list.Extent.{Extent}
-use Rattle.mda_header.specs.declared.entry.Entry.{Entry}
-use Rattle.mda_header.specs.declared.entry.Entry.TheVariants.{Ignored, Nothing, Text, Refused as RefusedFor}
+use Rattle.mda_header.specs.declared.entry.HeaderEntry.{HeaderEntry}
+use Rattle.mda_header.specs.declared.entry.HeaderEntry.TheVariants.{Ignored, Nothing, Text, Refused as RefusedFor}
 use Rattle.mda_header.specs.declared.header.Locn.{Locn}
 use Rattle.mda_header.specs.declared.header.MdaHeader.{MdaHeader}
 use Rattle.mda_header.specs.declared.refusal.MdaRefusal.{MdaRefusal}
@@ -29,7 +29,7 @@ use Rattle.vg_commit.specs.Written.{header_after, header_before, header_of, new_
 use Rattle.change_batches.specs.Laws.{IsKeptOrNew, text_in}
 use Rattle.image_scans.proofs.Again.{GivesAgain}
 use Rattle.image_scans.proofs.FoundAreas.{entry_kept}
-use Rattle.image_scans.proofs.Given.{GivenHas}
+use Rattle.image_scans.proofs.AreaReadings.{GivenHas}
 use Rattle.image_scans.proofs.OneArea.{after_read, before_read, empty_header_read, entry_nothing, entry_text, header_of_text, stored_copy}
 
 -- an area in an image, as it is found and reads there, beside what it gave before
@@ -39,8 +39,8 @@ pub record ReadsAgain (pv : ℕ) (sector_at : ℕ → List ℕ) (extent : Extent
   pub same : found.area ≡ extent
   pub is : IsAreaFound sector_at found
   pub reads : IsAreaReading pv sector_at found area
-  pub start_xl : before.start ≡ area.start
-  pub sectors_xl : before.sectors ≡ area.sectors
+  pub start_is : before.start ≡ area.start
+  pub sectors_is : before.sectors ≡ area.sectors
   pub again : GivesAgain new may bare before.reading area.reading
 
 -- an area that isn't refused
@@ -92,7 +92,7 @@ IsKnown text pv base image may bare found =
     (((held : Area × Option Locn) → held_area pv found ≡ Some held → IsOnTheWay text base image may held) × HasHeader text pv base image found) ⊎ IsCleared pv image bare found
 
 module _ (text : List ℕ) (group : Group) (passed : List (List ℕ)) (copy : IsCopyOf text group passed) (may : Bool) (bare : AreaReading → Bool) (pv : ℕ) (base image : Image) (extent : Extent) (before : AreaOf)
-    (start_xl : before.start ≡ extent.offset / 512) (sectors_xl : before.sectors ≡ extent.size / 512) where
+    (start_is : before.start ≡ extent.offset / 512) (sectors_is : before.sectors ≡ extent.size / 512) where
   abbrev new : AreaReading
   new = Copy group text passed
 
@@ -108,16 +108,16 @@ module _ (text : List ℕ) (group : Group) (passed : List (List ℕ)) (copy : Is
   first_sector : sectors_of own image 0 ≡ sector
   first_sector = ap (image pv) (omega arith)
 
-  make : (header : Result MdaHeader MdaRefusal) (entry : Entry) (reading : Option AreaReading) → IsMdaFound sector extent header → IsEntry sector extent.offset extent.size entry → IsGiven (image pv) own entry reading
+  make : (header : Result MdaHeader MdaRefusal) (entry : HeaderEntry) (reading : Option AreaReading) → IsMdaFound sector extent header → IsEntry sector extent.offset extent.size entry → IsGiven (image pv) own entry reading
       → GivesAgain new may bare before.reading reading → Reads
   make header entry reading found names given again = record {
     found = record { area = extent; header = header; entry = entry };
     area = record { start = extent.offset / 512; sectors = extent.size / 512; reading = reading };
     same = refl;
     is = (found, names);
-    reads = record { start_xl = refl; sectors_xl = refl; given = given };
-    start_xl = start_xl;
-    sectors_xl = sectors_xl;
+    reads = record { start_is = refl; sectors_is = refl; given = given };
+    start_is = start_is;
+    sectors_is = sectors_is;
     again = again;
   }
 
@@ -156,24 +156,24 @@ module _ (text : List ℕ) (group : Group) (passed : List (List ℕ)) (copy : Is
   not_both locn is names =
       ⊎_elim
       (λ (nothing : IsEntry (sectors_of own image 0) extent.offset extent.size Nothing).
-      let e : ◌≡◌ {A = Entry} (Text locn) Nothing = one_entry sector extent.offset extent.size (Text locn) Nothing is (subst (λ (s : List ℕ). IsEntry s extent.offset extent.size Nothing) first_sector nothing) in absurd cc)
+      let e : ◌≡◌ {A = HeaderEntry} (Text locn) Nothing = one_entry sector extent.offset extent.size (Text locn) Nothing is (subst (λ (s : List ℕ). IsEntry s extent.offset extent.size Nothing) first_sector nothing) in absurd cc)
       (λ refused.
-      let e : ◌≡◌ {A = Entry} (Text locn) (RefusedFor refused.0) =
+      let e : ◌≡◌ {A = HeaderEntry} (Text locn) (RefusedFor refused.0) =
       one_entry sector extent.offset extent.size (Text locn) (RefusedFor refused.0) is (subst (λ (s : List ℕ). IsEntry s extent.offset extent.size (RefusedFor refused.0)) first_sector refused.1) in absurd cc)
       names
 
   module _ (header : Result MdaHeader MdaRefusal) where
-    abbrev found_with : Entry → AreaFound
+    abbrev found_with : HeaderEntry → AreaFound
     found_with entry = record { area = extent; header = header; entry = entry }
 
     -- as in the base
-    of_base : (entry : Entry) → sector ≡ base pv (extent.offset / 512) → IsMdaFound (base pv (extent.offset / 512)) extent header → IsEntry (base pv (extent.offset / 512)) extent.offset extent.size entry
+    of_base : (entry : HeaderEntry) → sector ≡ base pv (extent.offset / 512) → IsMdaFound (base pv (extent.offset / 512)) extent header → IsEntry (base pv (extent.offset / 512)) extent.offset extent.size entry
         → IsGiven (image pv) own entry before.reading → Reads
     of_base entry same found names given =
         make header entry before.reading (subst (λ (s : List ℕ). IsMdaFound s extent header) (sym same) found) (subst (λ (s : List ℕ). IsEntry s extent.offset extent.size entry) (sym same) names) given (again_same before.reading refl)
 
     -- no text was committed there, or the header was refused
-    of_nothing : (entry : Entry) (r : AreaReading) → held_by own entry ≡ Some (own, None) → before.reading ≡ Some r → GivesAgain new may bare before.reading (Some HoldsNone) → IsMdaFound (base pv (extent.offset / 512)) extent header
+    of_nothing : (entry : HeaderEntry) (r : AreaReading) → held_by own entry ≡ Some (own, None) → before.reading ≡ Some r → GivesAgain new may bare before.reading (Some HoldsNone) → IsMdaFound (base pv (extent.offset / 512)) extent header
         → IsEntry (base pv (extent.offset / 512)) extent.offset extent.size entry → IsGiven (image pv) own entry before.reading → IsOnTheWay text base image may (own, None) → HasHeader text pv base image (found_with entry) → Reads
     of_nothing entry r held was again found names given way has =
         ⊎_elim
@@ -200,7 +200,7 @@ module _ (text : List ℕ) (group : Group) (passed : List (List ℕ)) (copy : Is
     of_some : (locn : Locn) (given : AreaReading) → before.reading ≡ Some given → IsStored locn (stored_bytes (base pv) own locn) given → IsOnTheWay text base image may (own, Some locn) → Reads
     of_some locn given was stored way = ⊎_elim (λ old. of_text locn given was stored old) (λ made. of_new (Some locn) given made.1 was made.0) way.shows
 
-    by_entry : (entry : Entry) → IsMdaFound (base pv (extent.offset / 512)) extent header → IsEntry (base pv (extent.offset / 512)) extent.offset extent.size entry → IsGiven (base pv) own entry before.reading → IsRead bare before.reading
+    by_entry : (entry : HeaderEntry) → IsMdaFound (base pv (extent.offset / 512)) extent header → IsEntry (base pv (extent.offset / 512)) extent.offset extent.size entry → IsGiven (base pv) own entry before.reading → IsRead bare before.reading
         → ((held : Area × Option Locn) → held_by own entry ≡ Some held → IsOnTheWay text base image may held) → HasHeader text pv base image (found_with entry) → Reads
     by_entry Ignored found names given read way has =
         ⊎_elim (λ same. of_base Ignored same found names given) (λ written. absurd (let e : ◌≡◌ {A = Option (Area × Option Locn)} None (Some written.0) = written.1 in cc)) has
@@ -213,12 +213,12 @@ module _ (text : List ℕ) (group : Group) (passed : List (List ℕ)) (copy : Is
         (subst (IsRead bare) given read)
 
     -- an area that was cleared
-    by_clearing : (entry : Entry) (o : Option Locn) → held_by own entry ≡ Some (own, o) → IsGiven (base pv) own entry before.reading → CanTake (own, o) → sector ≡ header_bytes (header_of own None None) → ((r : AreaReading) → bare r ≡ true) → Reads
+    by_clearing : (entry : HeaderEntry) (o : Option Locn) → held_by own entry ≡ Some (own, o) → IsGiven (base pv) own entry before.reading → CanTake (own, o) → sector ≡ header_bytes (header_of own None None) → ((r : AreaReading) → bare r ≡ true) → Reads
     by_clearing entry o held given take here is_bare =
         let r = some_given entry o held given in
         of_none (header_of own None None) (may_hold_none r.0 r.1 (is_bare r.0)) (subst (λ (s : List ℕ). IsHeader s (header_of own None None)) (sym here) (empty_header_read own take.0)) refl refl refl refl
       where
-        some_given : (e : Entry) (x : Option Locn) → held_by own e ≡ Some (own, x) → IsGiven (base pv) own e before.reading → (r : AreaReading) × (before.reading ≡ Some r)
+        some_given : (e : HeaderEntry) (x : Option Locn) → held_by own e ≡ Some (own, x) → IsGiven (base pv) own e before.reading → (r : AreaReading) × (before.reading ≡ Some r)
         some_given Ignored x is g = absurd cc
         some_given Nothing x is g = (HoldsNone, g)
         some_given (Text locn) x is g = (g.0, g.1)
@@ -229,9 +229,9 @@ pub area_again : (text : List ℕ) (group : Group) (passed : List (List ℕ)) �
     → IsAreaFound (base pv) found → IsAreaReading pv (base pv) found before → IsRead bare before.reading → IsKnown text pv base image may bare found
     → ReadsAgain pv (image pv) found.area (Copy group text passed) may bare before
 area_again text group passed copy may bare pv base image found before is reads read (inl known) =
-    by_entry text group passed copy may bare pv base image found.area before reads.start_xl reads.sectors_xl found.header found.entry is.0 is.1 reads.given read known.0 known.1
+    by_entry text group passed copy may bare pv base image found.area before reads.start_is reads.sectors_is found.header found.entry is.0 is.1 reads.given read known.0 known.1
 area_again text group passed copy may bare pv base image found before is reads read (inr cleared) =
     let same : cleared.0.0 ≡ area_on pv found.area = entry_kept (area_on pv found.area) found.entry cleared.0 cleared.1 in
     let held : held_by (area_on pv found.area) found.entry ≡ Some (area_on pv found.area, cleared.0.1) = cleared.1 ∙ ap (λ (a : Area). Some (a, cleared.0.1)) same in
-    by_clearing text group passed copy may bare pv base image found.area before reads.start_xl reads.sectors_xl found.header found.entry cleared.0.1 held reads.given
+    by_clearing text group passed copy may bare pv base image found.area before reads.start_is reads.sectors_is found.header found.entry cleared.0.1 held reads.given
     (subst (λ (a : Area). CanTake (a, cleared.0.1)) same cleared.2) (cleared.3 ∙ ap (λ (a : Area). header_bytes (header_of a None None)) same) cleared.4

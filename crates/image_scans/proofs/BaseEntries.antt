@@ -7,8 +7,8 @@ use Rattle.std.proofs.lemmas.List.Elements.{All-append, All-nil}
 use Rattle.std.proofs.lemmas.Option.{same_Some}
 use Rattle.disk_model.specs.Steps.{Image}
 use Rattle.mda_header.specs.Header.{IsEntry}
-use Rattle.mda_header.specs.declared.entry.Entry.{Entry}
-use Rattle.mda_header.specs.declared.entry.Entry.TheVariants.{Ignored, Nothing, Text, Refused}
+use Rattle.mda_header.specs.declared.entry.HeaderEntry.{HeaderEntry}
+use Rattle.mda_header.specs.declared.entry.HeaderEntry.TheVariants.{Ignored, Nothing, Text, Refused}
 use Rattle.mda_header.specs.declared.header.Locn.{Locn}
 use Rattle.mda_ring.specs.declared.area.Area.{Area}
 use Rattle.scan_rules.specs.Decision.{Reading}
@@ -27,7 +27,7 @@ use Rattle.change_batches.specs.Laws.{ShowsEntries}
 abbrev ShowsEntry : Image → Area × Option Locn → Type 0
 ShowsEntry image area = Names area.0 area.1 (sectors_of area.0 image 0)
 
-shows_by : (image : Image) (area : Area) (entry : Entry) (held : Area × Option Locn) → IsEntry (sectors_of area image 0) area.start area.size entry → held_by area entry ≡ Some held → ShowsEntry image held
+shows_by : (image : Image) (area : Area) (entry : HeaderEntry) (held : Area × Option Locn) → IsEntry (sectors_of area image 0) area.start area.size entry → held_by area entry ≡ Some held → ShowsEntry image held
 shows_by image area Ignored held is kept = absurd cc
 shows_by image area Nothing held is kept = subst (ShowsEntry image) (same_Some (area, None) held kept) (inl is)
 shows_by image area (Text locn) held is kept = subst (ShowsEntry image) (same_Some (area, Some locn) held kept) is

@@ -12,8 +12,8 @@ use Rattle.pv_label.specs.LabelSectors.{first_four}
 use Rattle.pv_header.specs.declared.extent_list.Extent.{Extent}
 use Rattle.pv_header.specs.declared.header.PvHeader.{PvHeader}
 use Rattle.pv_header.specs.PvRefusal.{Reads, Refuses}
-use Rattle.mda_header.specs.declared.entry.Entry.{Entry}
-use Rattle.mda_header.specs.declared.entry.Entry.TheVariants.{Ignored, Nothing, Text, Refused as RefusedFor}
+use Rattle.mda_header.specs.declared.entry.HeaderEntry.{HeaderEntry}
+use Rattle.mda_header.specs.declared.entry.HeaderEntry.TheVariants.{Ignored, Nothing, Text, Refused as RefusedFor}
 use Rattle.mda_header.specs.declared.header.Locn.{Locn}
 use Rattle.mda_header.specs.Header.{IsEntry, IsInside}
 use Rattle.mda_ring.specs.declared.area.Area.{Area}
@@ -64,7 +64,7 @@ module _ (base image : Image) (pv : ℕ) where
         in
         shows.ring
 
-    given_same : (reading : Option AreaReading) (entry : Entry) → found.entry ≡ entry → IsGiven (base pv) own entry reading → IsGiven (image pv) own entry reading
+    given_same : (reading : Option AreaReading) (entry : HeaderEntry) → found.entry ≡ entry → IsGiven (base pv) own entry reading → IsGiven (image pv) own entry reading
     given_same reading Ignored named given = given
     given_same reading Nothing named given = given
     given_same reading (Text locn) named given = (given.0, given.1, subst (λ (bytes : List ℕ). IsStored locn bytes given.0) (sym (text_same locn named)) given.2)
@@ -74,7 +74,7 @@ module _ (base image : Image) (pv : ℕ) where
     area_found = (subst (λ (s : List ℕ). IsMdaFound s found.area found.header) first_same stood.0, subst (λ (s : List ℕ). IsEntry s found.area.offset found.area.size found.entry) first_same stood.1)
 
     area_read : (area : AreaOf) → IsAreaReading pv (base pv) found area → IsAreaReading pv (image pv) found area
-    area_read area reads = record { start_xl = reads.start_xl; sectors_xl = reads.sectors_xl; given = given_same area.reading found.entry refl reads.given }
+    area_read area reads = record { start_is = reads.start_is; sectors_is = reads.sectors_is; given = given_same area.reading found.entry refl reads.given }
 
   areas_found : (sectors : ℕ) (founds : List AreaFound) → Each (IsUsable pv sectors) founds → Each SameIn founds → Each (IsAreaFound (base pv)) founds → Each (IsAreaFound (image pv)) founds
   areas_found sectors [] usable same stood = tt
@@ -123,8 +123,8 @@ module _ (base image : Image) (pv : ℕ) where
   disk_kept : (disk : Disk) (reading : Reading) → IsDisk pv disk → ((sector : ℕ) → sector < 8 → image pv sector ≡ base pv sector) → Each SameIn (areas_on disk.contents) → IsDiskReading pv (base pv) disk reading
       → IsDiskReading pv (image pv) disk reading
   disk_kept disk reading is low same reads =
-      let both = contents_same disk.sectors low disk.contents reading.pv is.contents same reads.contents reads.pv_xl in
-      record { contents = both.0; sectors_xl = reads.sectors_xl; pv_xl = both.1 }
+      let both = contents_same disk.sectors low disk.contents reading.pv is.contents same reads.contents reads.pv_is in
+      record { contents = both.0; sectors_is = reads.sectors_is; pv_is = both.1 }
 
 -- ---- all disks
 
@@ -194,7 +194,7 @@ module _ (base image : Image) (disks : List Disk) (are : (pv : ℕ) (disk : Disk
 pub scan_kept : (base image : Image) (sizes : List ℕ) (found : Found) → HasShape found → ((pv sector : ℕ) → (image pv sector ≡ base pv sector) ⊎ IsPlaceOn found.disks pv sector) → IsScanOf base sizes found → IsScanOf image sizes found
 scan_kept base image sizes found shape same scan = record {
   readings = scan.readings;
-  are = record { sizes_xl = scan.are.sizes_xl; each = readings_kept base image found.disks (λ pv disk there. (shape.disks pv disk there).0) same found.unread scan.readings scan.are.each };
+  are = record { sizes_is = scan.are.sizes_is; each = readings_kept base image found.disks (λ pv disk there. (shape.disks pv disk there).0) same found.unread scan.readings scan.are.each };
   answer = scan.answer;
   areas = scan.areas;
   disk_of = scan.disk_of;

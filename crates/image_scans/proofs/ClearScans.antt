@@ -41,7 +41,7 @@ use Rattle.image_scans.proofs.CommitOnTheWay.{off_disk}
 use Rattle.image_scans.proofs.CommitScans.{IsNext}
 use Rattle.image_scans.proofs.DiskAgain.{AllAgain, DiskAgain, all_again}
 use Rattle.image_scans.proofs.Lines.{LineMakes, line_makes, makes_nothing, makes_pv, makes_version}
-use Rattle.image_scans.proofs.MadeGroup.{MakesGroup}
+use Rattle.image_scans.proofs.CommittedGroup.{MakesGroup}
 
 -- an area whose sectors are as in another image shows the same
 shows_same : (image other : Image) (area : Area) (entry : Option Locn) (bytes : List ℕ) → ((sector : ℕ) → image area.pv sector ≡ other area.pv sector) → Shows area entry bytes other → Shows area entry bytes image

@@ -50,7 +50,7 @@ use Rattle.image_scans.proofs.CommitOnTheWay.{header_read}
 use Rattle.image_scans.proofs.DiskAgain.{DiskAgain, LabelStands, PvMayBeRefused, disk_again, disk_same}
 use Rattle.image_scans.proofs.FoundAreas.{IsHeldOn, IsPlaced, all_held, entry_kept, of_held}
 use Rattle.image_scans.proofs.Front.{AnyWrites, any_append, any_if, front_or}
-use Rattle.image_scans.proofs.Given.{AreasGive, GivenHas}
+use Rattle.image_scans.proofs.AreaReadings.{AreasGive, GivenHas}
 use Rattle.image_scans.proofs.Labels.{IsSameHeader}
 use Rattle.image_scans.proofs.MetAreas.{all_placed, area_met}
 
@@ -96,14 +96,14 @@ module _ (new : AreaReading) where
   disk_bare pv sector_at may disk reading d = record {
     there = d.there;
     read = d.read;
-    sectors_xl = d.sectors_xl;
+    sectors_is = d.sectors_is;
     unread = d.unread;
     unread_there = d.unread_there;
     is = d.is;
     same_sectors = d.same_sectors;
     again = pv_bare may reading.pv d.read.pv d.again;
     ids = d.ids;
-    areas_xl = d.areas_xl;
+    areas_is = d.areas_is;
   }
 
 -- ---- what stands on a disk without a header
@@ -320,8 +320,8 @@ module _ (disks : List Disk) (areas : List (Area × Option Locn)) (scanned : Are
     with_header reading read given header has =
         let w = header_read disk.contents header has in
         let stands = subst (λ (c : Option PvFound). ContentsCanStand pv disk.sectors c) w.2 (scanned.each pv disk there).contents in
-        subst (λ (n : ℕ). DiskAgain pv (image pv) may bare (Copy group text passed) disk (record { sectors = n; pv = reading.pv })) (sym read.sectors_xl)
-        (disk_again text group passed copy may bare pv base image disk.sectors disk.contents reading.pv read.contents read.pv_xl given w.0 header w.1 w.2
+        subst (λ (n : ℕ). DiskAgain pv (image pv) may bare (Copy group text passed) disk (record { sectors = n; pv = reading.pv })) (sym read.sectors_is)
+        (disk_again text group passed copy may bare pv base image disk.sectors disk.contents reading.pv read.contents read.pv_is given w.0 header w.1 w.2
         (label_stands w.0 header w.1 w.2 stands.0)
         (recursion_from_All (IsKnown text pv base image (may header.id) (bare header.id)) w.1 (λ k d within. known w.0 header w.1 w.2 stands.0 k d within)))
 

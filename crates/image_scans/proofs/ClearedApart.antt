@@ -38,7 +38,7 @@ use Rattle.group_ops.specs.Planning.{IsPlanned, change_of, refusal_of}
 use Rattle.change_batches.proofs.DiskSets.{of_set}
 use Rattle.image_scans.proofs.Again.{all_there}
 use Rattle.image_scans.proofs.CommitCommands.{none_missing_of, old_whole}
-use Rattle.image_scans.proofs.MadeGroup.{IsListedOn, MakesGroup}
+use Rattle.image_scans.proofs.CommittedGroup.{IsListedOn, MakesGroup}
 use Rattle.image_scans.proofs.Makes.{HasDisk, disk_found, not_missing}
 use Rattle.image_scans.proofs.SettledBase.{IsSettledScan}
 
@@ -128,7 +128,7 @@ module _ (found : Found) (names : List (List ℕ)) (backup : Option Backup) (sha
       let own : pv ≡ slice_index found.disk_of left.number =
       of_set (λ (n : ℕ). n ≡ slice_index found.disk_of left.number) (slice_index found.disk_of left.number ∷ [])
       (All-cons (λ (n : ℕ). n ≡ slice_index found.disk_of left.number) (slice_index found.disk_of left.number) [] refl (All-nil (λ (n : ℕ). n ≡ slice_index found.disk_of left.number))) pv
-      (subst (λ (c : Change). set.contains c.cleared pv ≡ true) left.change_xl has)
+      (subst (λ (c : Change). set.contains c.cleared pv ≡ true) left.change_is has)
       in
       own ∙ number_is
 
@@ -137,7 +137,7 @@ module _ (found : Found) (names : List (List ℕ)) (backup : Option Backup) (sha
       let same : own_disk.disk ≡ listed.disk = same_Some own_disk.disk listed.disk (sym own_disk.there ∙ ap (slice_get found.disks) (sym at) ∙ listed.there) in
       let header : own_disk.header ≡ listed.header = same_Some own_disk.header listed.header (sym own_disk.is ∙ ap (λ (d : Disk). header_on d.contents) same ∙ listed.is) in
       let id : listed.header.id ≡ gone.0.1.id = ap (λ (h : PvHeader). h.id) (sym header) ∙ own_disk.same in
-      let next : reduced_group left.old left.number ≡ group = same_Some (reduced_group left.old left.number) group (ap (λ (c : Change). c.group) (sym left.change_xl) ∙ makes.made) in
+      let next : reduced_group left.old left.number ≡ group = same_Some (reduced_group left.old left.number) group (ap (λ (c : Change). c.group) (sym left.change_is) ∙ makes.made) in
       let any : lists (reduced_group left.old left.number) gone.0.1.id ≡ true = ap (λ (g : Group). lists g gone.0.1.id) next ∙ ap (lists group) (sym id) ∙ listed.listed in
       let differ : IdsDiffer left.old = (old_whole readings found settled left.old left.there).0 Ids in
       has_left (map (λ (lv : List ℕ × Lv). lv.1.id) left.old.lvs) left.old.pvs left.number gone.0 gone.1 (λ i j d before inside. differ (suc i) (suc j) d (omega (arith, before)) (omega (arith, inside))) any

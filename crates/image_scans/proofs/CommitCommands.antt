@@ -44,7 +44,7 @@ use Rattle.group_ops.specs.Laws.{state_in}
 use Rattle.vg_change.proofs.Sound.{version_on}
 use Rattle.image_scans.proofs.Again.{all_there}
 use Rattle.image_scans.proofs.CommitScans.{IsNext}
-use Rattle.image_scans.proofs.MadeGroup.{MakesGroup}
+use Rattle.image_scans.proofs.CommittedGroup.{MakesGroup}
 use Rattle.image_scans.proofs.Makes.{makes_group}
 use Rattle.image_scans.proofs.SettledBase.{IsSettledScan, copy_tree, settled_none, settled_some}
 
@@ -93,7 +93,7 @@ vgcreate_commits found names backup is id vg extent_size pvs now planned none =
     in
     record {
       group = extended base (added_of state pvs);
-      makes = makes_group state is base [] pvs (record { disks_xl = refl; there = tt }) whole;
+      makes = makes_group state is base [] pvs (record { disks_is = refl; there = tt }) whole;
       next = subst (λ (o : Option Group). IsNext o (extended base (added_of state pvs))) (sym parts.0) tt;
     }
 
@@ -131,7 +131,7 @@ vgextend_commits found names backup shape whole is readings settled vg pvs now g
     let good : IsWhole (extended (next_version group) (added_of state pvs)) = next_is_whole state is group pvs listed old.0 old.1 (extend_none state vg pvs now group none) in
     record {
       group = extended (next_version group) (added_of state pvs);
-      makes = makes_group state is (next_version group) found.disk_of pvs (record { disks_xl = sym listed; there = all_there (shapes found.disks) group.pvs (none_missing_of found shape whole group there) }) good;
+      makes = makes_group state is (next_version group) found.disk_of pvs (record { disks_is = sym listed; there = all_there (shapes found.disks) group.pvs (none_missing_of found shape whole group there) }) good;
       next = subst (λ (o : Option Group). IsNext o (extended (next_version group) (added_of state pvs))) (sym there) (refl, omega arith);
     }
 
@@ -145,11 +145,11 @@ with_others state change spans cleared group m = record {
   whole = m.whole;
   first = m.first;
   all = m.all;
-  labels_xl = m.labels_xl;
-  disk_of_xl = m.disk_of_xl;
+  labels_is = m.labels_is;
+  disk_of_is = m.disk_of_is;
   on = m.on;
   listed = m.listed;
-  disks_xl = m.disks_xl;
+  disks_is = m.disks_is;
 }
 
 pub next_commits : (found : Found) (names : List (List ℕ)) (backup : Option Backup) → HasShape found → FoundIsWhole found → IsState (state_in found names backup) → (readings : List Reading) → IsSettledScan readings found → (change : Change) (now : ℕ) → now < 2 ^ 48
@@ -163,9 +163,9 @@ next_commits found names backup shape whole is readings settled change now time 
     let pvs : disks_of made.next found.disks ≡ disks_of made.old found.disks = ap (λ (l : List (List ℕ × Pv)). map (λ (pv : List ℕ × Pv). disk_with found.disks pv.1.id) l) made.same_pvs in
     let present : missing_of (shapes found.disks) made.next.pvs ≡ [] = ap (missing_of (shapes found.disks)) made.same_pvs ∙ none_missing_of found shape whole made.old there in
     let makes : MakesGroup state (change_with made.next found.disk_of (added_of state [])) (extended made.next (added_of state [])) =
-    makes_group state is made.next found.disk_of [] (record { disks_xl = pvs ∙ sym listed; there = all_there (shapes found.disks) made.next.pvs present }) (made.whole is old.0 old.1 time)
+    makes_group state is made.next found.disk_of [] (record { disks_is = pvs ∙ sym listed; there = all_there (shapes found.disks) made.next.pvs present }) (made.whole is old.0 old.1 time)
     in
-    subst (Commits found state) (version_is state made.zero made.next ∙ sym made.change_xl)
+    subst (Commits found state) (version_is state made.zero made.next ∙ sym made.change_is)
     (record {
       group = extended made.next (added_of state []);
       makes = with_others state (change_with made.next found.disk_of (added_of state [])) made.zero set.empty (extended made.next (added_of state [])) makes;
@@ -190,9 +190,9 @@ leaves_commits found names backup shape whole is readings settled change now lef
     recursion_from_All IsThere next.pvs (all_without IsThere left.old.pvs left.number (All-from_recursion IsThere left.old.pvs (all_there (shapes found.disks) left.old.pvs (none_missing_of found shape whole left.old there))))
     in
     let makes : MakesGroup state (change_with next rest (added_of state [])) (extended next (added_of state [])) =
-    makes_group state is next rest [] (record { disks_xl = pvs; there = present }) (left.whole is old.0 old.1)
+    makes_group state is next rest [] (record { disks_is = pvs; there = present }) (left.whole is old.0 old.1)
     in
-    subst (Commits found state) (sym left.change_xl)
+    subst (Commits found state) (sym left.change_is)
     (record {
       group = next;
       makes = with_others state (version_change_on rest next) [] (set_of (slice_index found.disk_of left.number ∷ [])) next (subst (λ (c : Change). MakesGroup state c next) (version_on state rest next) makes);

@@ -46,7 +46,7 @@ use Rattle.image_scans.proofs.CommitScans.{IsNext, either_found, new_found, same
 use Rattle.image_scans.proofs.DiskAgain.{AllAgain, DiskAgain, all_again, none_refused}
 use Rattle.image_scans.proofs.FoundAreas.{IsHeldOn, all_held}
 use Rattle.image_scans.proofs.HeldText.{text_held}
-use Rattle.image_scans.proofs.MadeGroup.{IsListedOn, MakesGroup}
+use Rattle.image_scans.proofs.CommittedGroup.{IsListedOn, MakesGroup}
 use Rattle.image_scans.proofs.OneArea.{printed_copy}
 use Rattle.image_scans.proofs.ReadingShapes.{gives_at, readings_shaped}
 use Rattle.image_scans.proofs.SettledBase.{IsSettledScan, settled_read, settled_scan}
@@ -121,7 +121,7 @@ module _ (base : Image) (sizes : List ℕ) (found : Found) (names : List (List �
         (of_set (IsListedOn group state.disks) change.disk_of makes.listed (get_or own 0 no_area).0.pv (filter_passes (is_on (set_of change.disk_of)) state.areas 0 no_area fits.committed.some))
         shows
         in
-        new_found image sizes found p.shape p.whole p.scan.readings p.scan.are.sizes_xl headers settled group text copy next placed makes.there change.disk_of makes.disks_xl bare read held
+        new_found image sizes found p.shape p.whole p.scan.readings p.scan.are.sizes_is headers settled group text copy next placed makes.there change.disk_of makes.disks_is bare read held
 
     module _ (image : Image) (h : HasFirstBatches (batches_of state line now given) base image) where
       pub front : HasFirstBatches (batches_with (Some group)) base image
@@ -144,7 +144,7 @@ module _ (base : Image) (sizes : List ℕ) (found : Found) (names : List (List �
 
       pub on_the_way : FindsVersion sizes image none_out (version_in found) ⊎ FindsVersion sizes image none_out (Some (version_of group change))
       on_the_way =
-          either_found image sizes found p.shape p.whole p.scan.readings p.scan.are.sizes_xl headers settled group text copy next placed makes.there change.disk_of makes.disks_xl again p.scan.answer
+          either_found image sizes found p.shape p.whole p.scan.readings p.scan.are.sizes_is headers settled group text copy next placed makes.there change.disk_of makes.disks_is again p.scan.answer
 
       pub with_text : All (ShowsBy (new_reading text) image) own → FindsVersion sizes image none_out (Some (version_of group change))
       with_text shows = where_held image (λ id r. false) again (shows 0 no_area fits.committed.some)
@@ -169,7 +169,7 @@ module _ (base : Image) (sizes : List ℕ) (found : Found) (names : List (List �
 
       pub before_publishing : FindsVersion sizes image none_out (version_in found)
       before_publishing =
-          same_version image sizes found p.whole p.scan.readings p.scan.answer as_it_was.there as_it_was.read (as_it_was.sizes_xl ∙ p.scan.are.sizes_xl) as_it_was.are
+          same_version image sizes found p.whole p.scan.readings p.scan.answer as_it_was.there as_it_was.read (as_it_was.sizes_is ∙ p.scan.are.sizes_is) as_it_was.are
           (ap decide_scan (as_before new p.scan.readings as_it_was.read as_it_was.again)) as_it_was.ids
 
     pub at_the_end : FindsVersion sizes (with_batches (batches_of state line now given) base) none_out (Some (version_of group change))

@@ -36,7 +36,7 @@ use Rattle.group_plan.proofs.StateFacts.{areas_take}
 use Rattle.group_plan.specs.Added.{disks_added, label_of, pv_in}
 use Rattle.group_plan.specs.Judging.{lies_on, set_of}
 use Rattle.group_plan.specs.State.{IsState}
-use Rattle.group_plan.specs.declared.added.Added.{Added}
+use Rattle.group_plan.specs.declared.added.AddedPv.{AddedPv}
 use Rattle.group_plan.specs.declared.state.Change.{Change}
 use Rattle.group_plan.specs.declared.state.GroupState.{GroupState}
 use Rattle.group_plan.specs.declared.state.NewLabel.{NewLabel}
@@ -53,7 +53,7 @@ use Rattle.image_scans.proofs.DiskAgain.{DiskAgain, LabelStands, PvMayBeRefused,
 use Rattle.image_scans.proofs.FoundAreas.{IsHeldOn, IsPlaced, all_held, areas_placed, entry_kept, of_held}
 use Rattle.image_scans.proofs.Front.{AnyWrites, any_append, any_if, batches_or, front_or}
 use Rattle.image_scans.proofs.Labels.{IsSameHeader}
-use Rattle.image_scans.proofs.MadeGroup.{IsAddedOn, IsListedOn, MakesGroup}
+use Rattle.image_scans.proofs.CommittedGroup.{IsAddedOn, IsListedOn, MakesGroup}
 use Rattle.image_scans.proofs.MetAreas.{header_met}
 
 -- ---- lists
@@ -121,7 +121,7 @@ module _ (state : GroupState) (is_state : IsState state) (change : Change) (grou
 
   labels_on : All IsLabelOn change.labels
   labels_on =
-      subst (All IsLabelOn) (sym makes.labels_xl)
+      subst (All IsLabelOn) (sym makes.labels_is)
       (All-map IsLabelOn label_of makes.all (λ k d within.
       let on : IsAddedOn state.disks (get_or makes.all k d) = makes.on k d within in
       (on.disk, (get_or makes.all k d).header, on.there, on.found, record { id = refl; held = refl; areas = refl })))
@@ -131,7 +131,7 @@ module _ (state : GroupState) (is_state : IsState state) (change : Change) (grou
     number : ℕ
     among : number < length change.labels
     label : NewLabel
-    label_xl : get_or change.labels number some_label ≡ label
+    label_is : get_or change.labels number some_label ≡ label
     disk : label.disk ≡ pv
     at : label.sector ≡ sector
     is : value ≡ label_bytes label
@@ -165,7 +165,7 @@ module _ (state : GroupState) (is_state : IsState state) (change : Change) (grou
         number = w.0;
         among = w.1;
         label = get_or change.labels w.0 some_label;
-        label_xl = refl;
+        label_is = refl;
         disk = w.2;
         at = w.3;
         is = w.4;
@@ -187,10 +187,10 @@ module _ (state : GroupState) (is_state : IsState state) (change : Change) (grou
         (λ label.
         let w = label_where change.labels some_label pv sector (image pv sector) label in
         let others : Each (λ n. n ≢ pv) (disks_added makes.all) =
-        each_back (λ n. n ≢ pv) makes.first (disks_added makes.all) (subst (Each (λ n. n ≢ pv)) makes.disk_of_xl (absent set.empty change.disk_of pv off).1)
+        each_back (λ n. n ≢ pv) makes.first (disks_added makes.all) (subst (Each (λ n. n ≢ pv)) makes.disk_of_is (absent set.empty change.disk_of pv off).1)
         in
         let apart : All (λ (l : NewLabel). l.disk ≢ pv) change.labels =
-        subst (All (λ (l : NewLabel). l.disk ≢ pv)) (sym makes.labels_xl) (All-map (λ (l : NewLabel). l.disk ≢ pv) label_of makes.all (added_apart pv makes.all others))
+        subst (All (λ (l : NewLabel). l.disk ≢ pv)) (sym makes.labels_is) (All-map (λ (l : NewLabel). l.disk ≢ pv) label_of makes.all (added_apart pv makes.all others))
         in
         absurd (apart w.0 some_label w.1 w.2))
         (λ area.
@@ -199,9 +199,9 @@ module _ (state : GroupState) (is_state : IsState state) (change : Change) (grou
         (writes pv sector (image pv sector) by))
         (front_or batches base image pv sector h)
       where
-        added_apart : (n : ℕ) (all : List Added) → Each (λ m. m ≢ n) (disks_added all) → All (λ (added : Added). added.disk ≢ n) all
-        added_apart n [] apart = All-nil (λ (added : Added). added.disk ≢ n)
-        added_apart n (added ∷ more) apart = All-cons (λ (a : Added). a.disk ≢ n) added more apart.0 (added_apart n more apart.1)
+        added_apart : (n : ℕ) (all : List AddedPv) → Each (λ m. m ≢ n) (disks_added all) → All (λ (added : AddedPv). added.disk ≢ n) all
+        added_apart n [] apart = All-nil (λ (added : AddedPv). added.disk ≢ n)
+        added_apart n (added ∷ more) apart = All-cons (λ (a : AddedPv). a.disk ≢ n) added more apart.0 (added_apart n more apart.1)
 
     -- a disk of the group, with its header
     module _ (pv : ℕ) (disk : Disk) (there : slice_get state.disks pv ≡ Some disk) (label : ℕ) (header : PvHeader) (areas : List AreaFound) (is : disk.contents ≡ Some (Whole label header areas)) (low : label < 4) where
@@ -233,7 +233,7 @@ module _ (state : GroupState) (is_state : IsState state) (change : Change) (grou
             (λ at.
             let w : WritesLabel pv label (image pv label) = label_written pv label (image pv label) at in
             let same : header ≡ w.on.1 = (of_label label (image pv label) w).1 in
-            let has : HasLabel (with_batches batches base) w.label = subst (HasLabel (with_batches batches base)) w.label_xl (ends w.number some_label w.among) in
+            let has : HasLabel (with_batches batches base) w.label = subst (HasLabel (with_batches batches base)) w.label_is (ends w.number some_label w.among) in
             inr (
               w.label.header,
               subst (λ (old : PvHeader). IsSameHeader old w.label.header) (sym same) w.on.4,
@@ -293,8 +293,8 @@ module _ (state : GroupState) (is_state : IsState state) (change : Change) (grou
           let same : disk ≡ listed.disk = same_Some disk listed.disk (sym there ∙ listed.there) in
           let w = header_read disk.contents listed.header (ap (λ (x : Disk). header_on x.contents) same ∙ listed.is) in
           let stands = subst (λ (c : Option PvFound). ContentsCanStand pv disk.sectors c) w.2 (is_state.disks pv disk there).contents in
-          subst (λ (n : ℕ). DiskAgain pv (image pv) may (λ id r. false) new disk (record { sectors = n; pv = reading.pv })) (sym read.sectors_xl)
-          (disk_again text group passed copy may (λ id r. false) pv base image disk.sectors disk.contents reading.pv read.contents read.pv_xl given w.0 listed.header w.1 w.2
+          subst (λ (n : ℕ). DiskAgain pv (image pv) may (λ id r. false) new disk (record { sectors = n; pv = reading.pv })) (sym read.sectors_is)
+          (disk_again text group passed copy may (λ id r. false) pv base image disk.sectors disk.contents reading.pv read.contents read.pv_is given w.0 listed.header w.1 w.2
           (label_stands pv disk there w.0 listed.header w.1 w.2 stands.0)
           (recursion_from_All (IsKnown text pv base image (may listed.header.id) (λ r. false)) w.1 (known pv disk there w.0 listed.header w.1 w.2 stands.0 (may listed.header.id) (kept listed.header.id listed.listed) on)))
 

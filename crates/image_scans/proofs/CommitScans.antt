@@ -24,7 +24,7 @@ use Rattle.image_scans.specs.Versions.{FindsVersion, Version, version_in}
 use Rattle.image_scans.proofs.Again.{Finds, again_give, again_headers, finds_newest, held_or_same, none_missing, same_ids}
 use Rattle.image_scans.proofs.Decided.{IsFoundWith, found_parts}
 use Rattle.image_scans.proofs.DiskAgain.{AllAgain}
-use Rattle.image_scans.proofs.Given.{DisksGive, IsNone, disks_weaker}
+use Rattle.image_scans.proofs.AreaReadings.{DisksGive, IsNone, disks_weaker}
 use Rattle.image_scans.proofs.SettledBase.{IsNoneOr, IsSettledScan, none_later, older_given, one_copy, settled_none, settled_some}
 
 -- ---- what was found, of other disks
@@ -63,14 +63,14 @@ same_version image sizes found whole readings by there read sizes_are are same i
   found = found_on found there;
   scan = record {
     readings = read;
-    are = record { sizes_xl = sizes_are; each = are };
+    are = record { sizes_is = sizes_are; each = are };
     answer = subst (λ (answer : ScanAnswer). IsFoundBy answer (found_on found there)) (sym same) (moved (decide_scan readings) found there by);
     areas = refl;
     disk_of = own_disks found.group;
   };
   left = λ pv within. none_unread found whole pv;
   whole = whole.there;
-  version_xl = λ i. option_map (λ (group : Group). record { group = group; disk_of = disks_by_ids group found.disks there ids i }) found.group;
+  version_is = λ i. option_map (λ (group : Group). record { group = group; disk_of = disks_by_ids group found.disks there ids i }) found.group;
 }
   where
     own_disks : (o : Option Group) → IfSome o (λ group. option_map_or (λ (g : Group). disks_of g there) o [] ≡ disks_of group there)
@@ -98,7 +98,7 @@ no_later readings found group text copy next (settled_some held parts some old_c
 
 module _ (image : Image) (sizes : List ℕ) (found : Found) (shape : HasShape found) (whole : IsWhole found) (readings : List Reading) (sizes_are : map (λ (d : Disk). d.sectors) found.disks ≡ sizes) (headers : SameHeaders (shapes found.disks) readings)
     (settled : IsSettledScan readings found) (group : Group) (text : List ℕ) (copy : IsCopyOf text group []) (next : IsNext found.group group) (placed : first_misplaced group (shapes found.disks) ≡ None)
-    (there : Each (λ (pv : List ℕ × Pv). is_missing (shapes found.disks) pv ≡ false) group.pvs) (disk_of : List ℕ) (disks_xl : disks_of group found.disks ≡ disk_of)
+    (there : Each (λ (pv : List ℕ × Pv). is_missing (shapes found.disks) pv ≡ false) group.pvs) (disk_of : List ℕ) (disks_is : disks_of group found.disks ≡ disk_of)
     (bare : List ℕ → AreaReading → Bool) (again : AllAgain image found.unread 0 (lists group) bare (Copy group text []) found.disks readings) where
   new_shape : IsShaped group again.read
   new_shape =
@@ -146,14 +146,14 @@ module _ (image : Image) (sizes : List ℕ) (found : Found) (shape : HasShape fo
         found = found_anew f;
         scan = record {
           readings = again.read;
-          are = record { sizes_xl = again.sizes_xl ∙ sizes_are; each = again.are };
+          are = record { sizes_is = again.sizes_is ∙ sizes_are; each = again.are };
           answer = subst (λ (answer : ScanAnswer). IsFoundBy answer (found_anew f)) (sym f.is) (refl, refl, refl, refl, refl, refl);
           areas = refl;
           disk_of = refl;
         };
         left = λ pv within. none_unread found whole pv;
-        whole = sym parts.missing_are ∙ ap (λ (g : Group). missing_of again.read g.pvs) f.group_xl ∙ none_away;
-        version_xl = ap (λ (g : Group). Some (version g)) f.group_xl ∙ ap (λ (l : List ℕ). Some (record { group = group; disk_of = l })) (disks_by_ids group found.disks again.there again.ids ∙ disks_xl);
+        whole = sym parts.missing_are ∙ ap (λ (g : Group). missing_of again.read g.pvs) f.group_is ∙ none_away;
+        version_is = ap (λ (g : Group). Some (version g)) f.group_is ∙ ap (λ (l : List ℕ). Some (record { group = group; disk_of = l })) (disks_by_ids group found.disks again.there again.ids ∙ disks_is);
       }
 
   -- where the new text is held, the new version is found
@@ -163,11 +163,11 @@ module _ (image : Image) (sizes : List ℕ) (found : Found) (shape : HasShape fo
 -- where no area was cleared, and else the one that was found before
 pub either_found : (image : Image) (sizes : List ℕ) (found : Found) (shape : HasShape found) (whole : IsWhole found) (readings : List Reading) (sizes_are : map (λ (d : Disk). d.sectors) found.disks ≡ sizes) (headers : SameHeaders (shapes found.disks) readings)
     (settled : IsSettledScan readings found) (group : Group) (text : List ℕ) (copy : IsCopyOf text group []) (next : IsNext found.group group) (placed : first_misplaced group (shapes found.disks) ≡ None)
-    (there : Each (λ (pv : List ℕ × Pv). is_missing (shapes found.disks) pv ≡ false) group.pvs) (disk_of : List ℕ) (disks_xl : disks_of group found.disks ≡ disk_of)
+    (there : Each (λ (pv : List ℕ × Pv). is_missing (shapes found.disks) pv ≡ false) group.pvs) (disk_of : List ℕ) (disks_is : disks_of group found.disks ≡ disk_of)
     → (again : AllAgain image found.unread 0 (lists group) (λ id r. false) (Copy group text []) found.disks readings) → IsFoundBy (decide_scan readings) found
     → FindsVersion sizes image none_out (version_in found) ⊎ FindsVersion sizes image none_out (Some (record { group = group; disk_of = disk_of }))
-either_found image sizes found shape whole readings sizes_are headers settled group text copy next placed there disk_of disks_xl again by =
+either_found image sizes found shape whole readings sizes_are headers settled group text copy next placed there disk_of disks_is again by =
     ⊎_elim
-    (λ held. inr (new_found image sizes found shape whole readings sizes_are headers settled group text copy next placed there disk_of disks_xl (λ id r. false) again held))
-    (λ same. inl (same_version image sizes found whole readings by again.there again.read (again.sizes_xl ∙ sizes_are) again.are (ap decide_scan same) again.ids))
+    (λ held. inr (new_found image sizes found shape whole readings sizes_are headers settled group text copy next placed there disk_of disks_is (λ id r. false) again held))
+    (λ same. inl (same_version image sizes found whole readings by again.there again.read (again.sizes_is ∙ sizes_are) again.are (ap decide_scan same) again.ids))
     (held_or_same group text [] readings again.read again.again)

@@ -119,7 +119,7 @@ pub record IsFoundWith (disks : List Reading) (held : Held) (stale : List (ℕ �
   pub apart : first_duplicate (ids_from 0 disks) ≡ None
   pub best_is : best (copies disks) ≡ Some held
   pub placed : first_misplaced held.group disks ≡ None
-  pub is_held_xl : is_held held.group held.text disks ≡ true
+  pub is_held_is : is_held held.group held.text disks ≡ true
   pub stale_are : flat_map (stale_of held.group held.text) (enumerate_from 0 disks) ≡ stale
   pub strays_are : strays_in held.group disks ≡ strays
   pub missing_are : missing_of disks held.group.pvs ≡ missing
@@ -149,7 +149,7 @@ found_parts disks held stale strays missing is =
       apart = no_pair (first_duplicate (ids_from 0 disks)) p.apart;
       best_is = b;
       placed = well.0;
-      is_held_xl = well.1;
+      is_held_is = well.1;
       stale_are = ap stale_of_answer with;
       strays_are = ap strays_of_answer with;
       missing_are = ap missing_of_answer with;

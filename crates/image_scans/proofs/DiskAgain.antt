@@ -25,7 +25,7 @@ use Rattle.vg_scan.specs.Readings.{AreAreaReadings, AreDiskReadings, IsContents,
 use Rattle.vg_scan.specs.Texts.{IsCopyOf}
 use Rattle.image_scans.proofs.Again.{AreasAgain, DisksAgain, GivesAgain, PvAgain}
 use Rattle.image_scans.proofs.AreaAgain.{IsKnown, MayBeRefused, NotRefused, ReadsAgain, area_again}
-use Rattle.image_scans.proofs.Given.{AreasGive, PvGives, areas_weaker}
+use Rattle.image_scans.proofs.AreaReadings.{AreasGive, PvGives, areas_weaker}
 use Rattle.image_scans.proofs.Labels.{IsSameHeader, header_again, label_again, of_four}
 
 -- ---- its areas
@@ -54,7 +54,7 @@ areas_again text group passed copy may bare pv base image (found ∷ founds) (ar
       same = λ i. one.same i ∷ later.same i;
       is = (one.is, later.is);
       reads = (one.reads, later.reads);
-      again = (one.start_xl, one.sectors_xl, one.again, later.again);
+      again = (one.start_is, one.sectors_is, one.again, later.again);
     }
 
 -- ---- the disk
@@ -63,14 +63,14 @@ areas_again text group passed copy may bare pv base image (found ∷ founds) (ar
 pub record DiskAgain (pv : ℕ) (sector_at : ℕ → List ℕ) (may : List ℕ → Bool) (bare : List ℕ → AreaReading → Bool) (new : AreaReading) (disk : Disk) (reading : Reading) : Type 0 where
   pub there : Disk
   pub read : Reading
-  pub sectors_xl : there.sectors ≡ disk.sectors
+  pub sectors_is : there.sectors ≡ disk.sectors
   pub unread : there.contents ≡ None → disk.contents ≡ None
   pub unread_there : disk.contents ≡ None → there.contents ≡ None
   pub is : IsDiskReading pv sector_at there read
   pub same_sectors : reading.sectors ≡ read.sectors
   pub again : PvAgain may bare new reading.pv read.pv
   pub ids : (id : List ℕ) → has_header_id id there ≡ has_header_id id disk
-  pub areas_xl : map (λ (f : AreaFound). f.area) (areas_on there.contents) ≡ map (λ (f : AreaFound). f.area) (areas_on disk.contents)
+  pub areas_is : map (λ (f : AreaFound). f.area) (areas_on there.contents) ≡ map (λ (f : AreaFound). f.area) (areas_on disk.contents)
 
 given_same : (new : AreaReading) (may : Bool) (bare : AreaReading → Bool) (o : Option AreaReading) → GivesAgain new may bare o o
 given_same new may bare None = refl
@@ -90,14 +90,14 @@ pub disk_same : (pv : ℕ) (old new_at : ℕ → List ℕ) (may : List ℕ → B
 disk_same pv old new_at may bare new disk reading same is = record {
   there = disk;
   read = reading;
-  sectors_xl = refl;
+  sectors_is = refl;
   unread = λ none. none;
   unread_there = λ none. none;
   is = subst (λ (sector_at : ℕ → List ℕ). IsDiskReading pv sector_at disk reading) (λ i sector. sym (same sector) i) is;
   same_sectors = refl;
   again = pv_same may bare new reading.pv;
   ids = λ id. refl;
-  areas_xl = refl;
+  areas_is = refl;
 }
 
 -- its label's sector is as it was, or has a label and header with the same id and areas; and no sector before it differs
@@ -137,7 +137,7 @@ module _ (text : List ℕ) (group : Group) (passed : List (List ℕ)) (copy : Is
       own_label : IsFirstLabel (first_four (base pv)) label → IsLabel (base pv label) label
       own_label first = subst (λ (s : List ℕ). IsLabel s label) (of_four (base pv) label first.among) first.label
 
-  module _ (own : PvOf) (id_xl : own.id ≡ header.id) (reads : AreAreaReadings pv (base pv) areas own.areas) (given : AreasGive (MayBeRefused (bare own.id)) own.areas) (known : Each (IsKnown text pv base image (may own.id) (bare own.id)) areas) where
+  module _ (own : PvOf) (id_is : own.id ≡ header.id) (reads : AreAreaReadings pv (base pv) areas own.areas) (given : AreasGive (MayBeRefused (bare own.id)) own.areas) (known : Each (IsKnown text pv base image (may own.id) (bare own.id)) areas) where
     whole_again : DiskAgain pv (image pv) may bare new (record { sectors = sectors; contents = Some (Whole label header areas) }) (record { sectors = sectors; pv = Some own })
     whole_again =
         let list : AreasReadAgain pv (image pv) new (may own.id) (bare own.id) areas own.areas =
@@ -148,14 +148,14 @@ module _ (text : List ℕ) (group : Group) (passed : List (List ℕ)) (copy : Is
         record {
           there = record { sectors = sectors; contents = Some (Whole label at.0 list.found) };
           read = record { sectors = sectors; pv = Some (record { id = at.0.id; areas = list.areas }) };
-          sectors_xl = refl;
+          sectors_is = refl;
           unread = λ none. absurd cc;
           unread_there = λ none. absurd cc;
-          is = record { contents = at.2 list.found are; sectors_xl = refl; pv_xl = (refl, list.reads) };
+          is = record { contents = at.2 list.found are; sectors_is = refl; pv_is = (refl, list.reads) };
           same_sectors = refl;
-          again = (id_xl ∙ sym at.1.id, list.again);
+          again = (id_is ∙ sym at.1.id, list.again);
           ids = λ id. ap (λ (h : List ℕ). same_bytes h id) at.1.id;
-          areas_xl = list.same;
+          areas_is = list.same;
         }
 
 -- each area of a physical volume may give nothing later where it is refused, by its id
@@ -198,7 +198,7 @@ pub record IsThereAt (image : Image) (first k : ℕ) (disk : Disk) (there : List
 pub record AllAgain (image : Image) (unread : set.FinSet nat_cmp) (first : ℕ) (may : List ℕ → Bool) (bare : List ℕ → AreaReading → Bool) (new : AreaReading) (disks : List Disk) (readings : List Reading) : Type 0 where
   pub there : List Disk
   pub read : List Reading
-  pub sizes_xl : map (λ (d : Disk). d.sectors) there ≡ map (λ (d : Disk). d.sectors) disks
+  pub sizes_is : map (λ (d : Disk). d.sectors) there ≡ map (λ (d : Disk). d.sectors) disks
   pub are : AreDiskReadings image unread first there read
   pub again : DisksAgain may bare new readings read
   pub ids : (id : List ℕ) → disk_with there id ≡ disk_with disks id
@@ -212,7 +212,7 @@ EachAgain base image may bare new first disks readings =
 
 pub all_again : (base image : Image) (unread : set.FinSet nat_cmp) (first : ℕ) (may : List ℕ → Bool) (bare : List ℕ → AreaReading → Bool) (new : AreaReading) (disks : List Disk) (readings : List Reading) → AreDiskReadings base unread first disks readings
     → EachAgain base image may bare new first disks readings → AllAgain image unread first may bare new disks readings
-all_again base image unread first may bare new [] [] are each = record { there = []; read = []; sizes_xl = refl; are = tt; again = tt; ids = λ id. refl; at = λ k disk there. absurd cc }
+all_again base image unread first may bare new [] [] are each = record { there = []; read = []; sizes_is = refl; are = tt; again = tt; ids = λ id. refl; at = λ k disk there. absurd cc }
 all_again base image unread first may bare new [] (reading ∷ readings) are each = absurd are
 all_again base image unread first may bare new (disk ∷ disks) [] are each = absurd are
 all_again base image unread first may bare new (disk ∷ disks) (reading ∷ readings) are each =
@@ -226,7 +226,7 @@ all_again base image unread first may bare new (disk ∷ disks) (reading ∷ rea
     record {
       there = one.there ∷ later.there;
       read = one.read ∷ later.read;
-      sizes_xl = λ i. one.sectors_xl i ∷ later.sizes_xl i;
+      sizes_is = λ i. one.sectors_is i ∷ later.sizes_is i;
       are = (((λ none. are.0.0 (one.unread none)), (λ is. one.unread_there (are.0.1 is))), one.is, later.are);
       again = (one.same_sectors, one.again, later.again);
       ids = λ id i. cond (one.ids id i) 0 (later.ids id i + 1);
@@ -244,7 +244,7 @@ all_again base image unread first may bare new (disk ∷ disks) (reading ∷ rea
           at_reading = refl;
           is = subst (λ (n : ℕ). IsDiskReading n (image n) one.there one.read) (omega arith) one.is;
           own_ids = one.ids;
-          own_areas = one.areas_xl;
+          own_areas = one.areas_is;
         })
     here_or_later one later (suc k) d there =
         let r : IsThereAt image (first + 1) k d later.there later.read = later.at k d there in

@@ -10,8 +10,8 @@ use Rattle.std.proofs.lemmas.List.Elements.{All-nil, All-cons, All-append, All-h
 use Rattle.std.proofs.lemmas.List.Folds.{find-append}
 use Rattle.std.proofs.lemmas.List.Kept.{AllPairs-cons}
 use Rattle.std.proofs.lemmas.Option.{same_Some}
-use Rattle.mda_header.specs.declared.entry.Entry.{Entry}
-use Rattle.mda_header.specs.declared.entry.Entry.TheVariants.{Ignored, Nothing, Text, Refused}
+use Rattle.mda_header.specs.declared.entry.HeaderEntry.{HeaderEntry}
+use Rattle.mda_header.specs.declared.entry.HeaderEntry.TheVariants.{Ignored, Nothing, Text, Refused}
 use Rattle.mda_header.specs.declared.header.Locn.{Locn}
 use Rattle.mda_ring.specs.declared.area.Area.{Area}
 use Rattle.pv_header.specs.declared.extent_list.Extent.{Extent}
@@ -165,7 +165,7 @@ pub record IsHeldOn (disks : List Disk) (held : Area × Option Locn) : Type 0 wh
   pub placed : IsPlaced (areas_on disk.contents) found
   pub is : held_area held.0.pv found ≡ Some held
 
-pub entry_kept : (area : Area) (entry : Entry) (kept : Area × Option Locn) → held_by area entry ≡ Some kept → kept.0 ≡ area
+pub entry_kept : (area : Area) (entry : HeaderEntry) (kept : Area × Option Locn) → held_by area entry ≡ Some kept → kept.0 ≡ area
 entry_kept area Ignored kept is = absurd cc
 entry_kept area Nothing kept is = ap (λ (a : Area × Option Locn). a.0) (sym (same_Some (area, None) kept is))
 entry_kept area (Text locn) kept is = ap (λ (a : Area × Option Locn). a.0) (sym (same_Some (area, Some locn) kept is))

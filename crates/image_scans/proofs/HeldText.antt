@@ -7,8 +7,8 @@ use Rattle.std.proofs.lemmas.Option.{same_Some}
 use Rattle.std.proofs.lemmas.List.Elements.{All-head, All-tail}
 use Rattle.disk_model.specs.Steps.{Image}
 use Rattle.pv_header.specs.declared.header.PvHeader.{PvHeader}
-use Rattle.mda_header.specs.declared.entry.Entry.{Entry}
-use Rattle.mda_header.specs.declared.entry.Entry.TheVariants.{Text}
+use Rattle.mda_header.specs.declared.entry.HeaderEntry.{HeaderEntry}
+use Rattle.mda_header.specs.declared.entry.HeaderEntry.TheVariants.{Text}
 use Rattle.mda_header.specs.declared.header.Locn.{Locn}
 use Rattle.mda_header.specs.Header.{IsEntry}
 use Rattle.mda_header.proofs.OneEntry.{one_entry}
@@ -34,8 +34,8 @@ use Rattle.group_plan.proofs.Disks.{has_own}
 use Rattle.image_scans.proofs.AreaAgain.{NotRefused}
 use Rattle.image_scans.proofs.DiskAgain.{IsThereAt}
 use Rattle.image_scans.proofs.FoundAreas.{IsHeldOn, entry_kept}
-use Rattle.image_scans.proofs.Given.{AreasGive, DisksGive, GivenHas, PvGives}
-use Rattle.image_scans.proofs.MadeGroup.{IsListedOn}
+use Rattle.image_scans.proofs.AreaReadings.{AreasGive, DisksGive, GivenHas, PvGives}
+use Rattle.image_scans.proofs.CommittedGroup.{IsListedOn}
 use Rattle.image_scans.proofs.ReadingShapes.{gives_at}
 
 -- ---- a disk that holds a text
@@ -77,8 +77,8 @@ record ReadsAt (pv : ℕ) (sector_at : ℕ → List ℕ) (contents : Option PvFo
   header : PvHeader
   own : PvOf
   is : read ≡ Some own
-  header_xl : header_on contents ≡ Some header
-  id_xl : own.id ≡ header.id
+  header_is : header_on contents ≡ Some header
+  id_is : own.id ≡ header.id
   area : AreaOf
   at : slice_get own.areas n ≡ Some area
   stands : IsAreaFound sector_at found
@@ -104,7 +104,7 @@ reads_at pv sectors sector_at (Some (NoHeader label refusal)) read is reads n fo
 reads_at pv sectors sector_at (Some (Whole label header areas)) None is reads n found there = absurd reads
 reads_at pv sectors sector_at (Some (Whole label header areas)) (Some own) is reads n found there =
     let one = one_reads pv sector_at areas own.areas reads.1 n found there in
-    record { header = header; own = own; is = refl; header_xl = refl; id_xl = reads.0; area = one.0; at = one.1; stands = one_stands sector_at areas is.2.each n found there; reads = one.2 }
+    record { header = header; own = own; is = refl; header_is = refl; id_is = reads.0; area = one.0; at = one.1; stands = one_stands sector_at areas is.2.each n found there; reads = one.2 }
 
 -- an area with the same place, by its number
 same_at : (founds others : List AreaFound) → map (λ (f : AreaFound). f.area) founds ≡ map (λ (f : AreaFound). f.area) others → (n : ℕ) (found : AreaFound) → slice_get others n ≡ Some found
@@ -124,12 +124,12 @@ same_at (first ∷ founds) (other ∷ others) same (suc n) found there = same_at
 
 gives_stored : (locn : Locn) (bytes text : List ℕ) (given : AreaReading) → IsStored locn bytes given → bytes ≡ stored text → NotRefused given → gives text given ≡ true
 gives_stored locn bytes text HoldsNone is shown read = absurd is
-gives_stored locn bytes text (Copy group others passed) is shown read = same_bytes_to others text (is.0.text_xl ∙ ap without_zero shown ∙ without_zero-zero text)
+gives_stored locn bytes text (Copy group others passed) is shown read = same_bytes_to others text (is.0.text_is ∙ ap without_zero shown ∙ without_zero-zero text)
 gives_stored locn bytes text (Refused why) is shown read = absurd read
 
-one_given : (sector_at : ℕ → List ℕ) (area : Area) (entry : Entry) (locn : Locn) (reading : Option AreaReading) → entry ≡ Text locn → IsGiven sector_at area entry reading
+one_given : (sector_at : ℕ → List ℕ) (area : Area) (entry : HeaderEntry) (locn : Locn) (reading : Option AreaReading) → entry ≡ Text locn → IsGiven sector_at area entry reading
     → (given : AreaReading) × (reading ≡ Some given) × IsStored locn (stored_bytes sector_at area locn) given
-one_given sector_at area entry locn reading same is = subst (λ (e : Entry). IsGiven sector_at area e reading) same is
+one_given sector_at area entry locn reading same is = subst (λ (e : HeaderEntry). IsGiven sector_at area e reading) same is
 
 read_at : (P : AreaReading → Type 0) (areas : List AreaOf) → AreasGive P areas → (n : ℕ) (area : AreaOf) → slice_get areas n ≡ Some area → GivenHas P area.reading
 read_at P [] all n area there = absurd cc
@@ -147,7 +147,7 @@ text_held image group text disks there read at given held on listed shows =
     let t : IsThereAt image 0 pv on.disk there read = at pv on.disk on.there in
     let reading : IsDiskReading pv (image pv) t.own t.reading = subst (λ (n : ℕ). IsDiskReading n (image n) t.own t.reading) (omega arith) t.is in
     let own = same_at (areas_on t.own.contents) (areas_on on.disk.contents) t.own_areas on.number on.found on.at in
-    let r : ReadsAt pv (image pv) t.own.contents t.reading.pv on.number own.0 = reads_at pv t.own.sectors (image pv) t.own.contents t.reading.pv reading.contents reading.pv_xl on.number own.0 own.1 in
+    let r : ReadsAt pv (image pv) t.own.contents t.reading.pv on.number own.0 = reads_at pv t.own.sectors (image pv) t.own.contents t.reading.pv reading.contents reading.pv_is on.number own.0 own.1 in
     let area : held.0 ≡ area_on pv own.0.area = entry_kept (area_on pv on.found.area) on.found.entry held on.is ∙ ap (area_on pv) (sym own.2) in
     let locn : Locn = new_entry text held in
     let first : sectors_of (area_on pv own.0.area) image 0 ≡ image pv (own.0.area.offset / 512) = ap (image pv) (omega arith) in
@@ -163,5 +163,5 @@ text_held image group text disks there read at given held on listed shows =
     let has : has_header_id listed.header.id t.own ≡ true =
     t.own_ids listed.header.id ∙ ap (has_header_id listed.header.id) (sym same_disk) ∙ has_own listed.header.id (header_on listed.disk.contents) listed.header listed.is refl
     in
-    let id : r.own.id ≡ listed.header.id = r.id_xl ∙ own_header listed.header.id (header_on t.own.contents) r.header r.header_xl has in
+    let id : r.own.id ≡ listed.header.id = r.id_is ∙ own_header listed.header.id (header_on t.own.contents) r.header r.header_is has in
     held_at group text read pv t.reading r.own on.number r.area g.0 t.at_reading r.is (ap (λ (i : List ℕ). lists group i) id ∙ listed.listed) r.at g.1 (gives_stored locn (stored_bytes (image pv) (area_on pv own.0.area) locn) text g.0 g.2 bytes not_refused)

@@ -1,5 +1,5 @@
 pub mod Decided
-pub mod Given
+pub mod AreaReadings
 pub mod Again
 pub mod Front
 pub mod CommitWrites
@@ -10,7 +10,7 @@ pub mod Labels
 pub mod DiskAgain
 pub mod SettledBase
 pub mod BaseEntries
-pub mod MadeGroup
+pub mod CommittedGroup
 pub mod CommitOnTheWay
 pub mod Makes
 pub mod ReadingShapes

@@ -27,7 +27,7 @@ use Rattle.image_scans.proofs.NewPvEnd.{with_new_disk}
 
 -- the image that was scanned
 pub base_scans : (base : Image) (sizes : List ℕ) (found : Found) → IsScanOf base sizes found → IsWhole found → FindsVersion sizes base none_out (version_in found)
-base_scans base sizes found scan whole = record { found = found; scan = scan; left = λ pv within. none_unread found whole pv; whole = whole.there; version_xl = refl }
+base_scans base sizes found scan whole = record { found = found; scan = scan; left = λ pv within. none_unread found whole pv; whole = whole.there; version_is = refl }
 
 module _ (base : Image) (sizes : List ℕ) (found : Found) (names : List (List ℕ)) (backup : Option Backup) (line : Line) (now : ℕ) (given : List Part) (p : CanCarryOut base sizes found names backup line now given) where
   abbrev state : GroupState

@@ -51,7 +51,7 @@ pub record MakesPv (state : GroupState) (change : Change) : Type 0 where
   pub there : slice_get state.disks number ≡ Some disk
   pub id : List ℕ
   pub copies : ℕ
-  pub labels_xl : change.labels ≡ new_label id copies number disk ∷ []
+  pub labels_is : change.labels ≡ new_label id copies number disk ∷ []
   pub unlisted : is_listed state number ≡ false
   pub enough : fewest_sectors ≤ disk.sectors
   pub not_in_group : group_has id state.group ≡ false
@@ -81,7 +81,7 @@ on_disk found state id name copies number (Some disk) there none change group la
       there = there;
       id = id;
       copies = copies;
-      labels_xl = labels;
+      labels_is = labels;
       unlisted = test_fails (is_listed state number) (PvUsed name) rows.0;
       enough = ltb-false disk.sectors fewest_sectors (test_fails (nat_lt disk.sectors fewest_sectors) (TooSmall disk.sectors fewest_sectors) rows.1.0);
       not_in_group = ids.0;

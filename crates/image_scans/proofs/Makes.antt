@@ -24,9 +24,9 @@ use Rattle.group_plan.proofs.Disks.{disk_with_own}
 use Rattle.group_plan.specs.Added.{added_at, added_named, added_of, added_on, disks_added, pv_in, pv_of}
 use Rattle.group_plan.specs.NewGroup.{change_with, extended, free_number, names_in, pv_name, with_added}
 use Rattle.group_plan.specs.State.{IsState}
-use Rattle.group_plan.specs.declared.added.Added.{Added}
+use Rattle.group_plan.specs.declared.added.AddedPv.{AddedPv}
 use Rattle.group_plan.specs.declared.state.GroupState.{GroupState}
-use Rattle.image_scans.proofs.MadeGroup.{IsAddedOn, IsListedOn, MakesGroup}
+use Rattle.image_scans.proofs.CommittedGroup.{IsAddedOn, IsListedOn, MakesGroup}
 
 -- ---- the physical volumes that were found
 
@@ -38,10 +38,10 @@ map_some : {X Y : Type 0} (f : X → Y) (o : Option X) (y : Y) → option_map f 
 map_some f None y is = absurd cc
 map_some f (Some x) y is = (x, refl, same_Some (f x) y is)
 
-abbrev added_with : List ℕ → ℕ → ℕ → ℕ × PvHeader → Added
+abbrev added_with : List ℕ → ℕ → ℕ → ℕ × PvHeader → AddedPv
 added_with name number sectors pv = record { disk = number; name = name; sectors = sectors; label = pv.0; header = pv.1 }
 
-added_is : (state : GroupState) (name : List ℕ) (added : Added) → added_named state name ≡ Some added → IsAddedOn state.disks added
+added_is : (state : GroupState) (name : List ℕ) (added : AddedPv) → added_named state name ≡ Some added → IsAddedOn state.disks added
 unfolding added_named
 added_is state name added found =
     let numbered = and_then_some (added_at state name) (number_named state.names name) added found in
@@ -138,14 +138,14 @@ shape_at (first ∷ disks) (suc k) disk header there is = or_right (has_id heade
 -- ---- the physical volumes with more
 
 module _ (lvs : List (List ℕ × Lv)) (extent_size : ℕ) where
-  abbrev row : List (List ℕ × Pv) → Added → List ℕ × Pv
+  abbrev row : List (List ℕ × Pv) → AddedPv → List ℕ × Pv
   row pvs added = (pv_name (free_number (names_in pvs lvs)), pv_of extent_size added)
 
-  any_added : (p : List ℕ × Pv → Bool) (pvs : List (List ℕ × Pv)) (all : List Added) → list_any p pvs ≡ true → list_any p (with_added lvs extent_size pvs all) ≡ true
+  any_added : (p : List ℕ × Pv → Bool) (pvs : List (List ℕ × Pv)) (all : List AddedPv) → list_any p pvs ≡ true → list_any p (with_added lvs extent_size pvs all) ≡ true
   any_added p pvs [] any = any
   any_added p pvs (added ∷ more) any = any_added p (pvs ++ row pvs added ∷ []) more (any_front p pvs (row pvs added ∷ []) any)
 
-  all_listed : (pvs : List (List ℕ × Pv)) (all : List Added) → Each (λ (added : Added). list_any (λ (pv : List ℕ × Pv). same_bytes pv.1.id added.header.id) (with_added lvs extent_size pvs all) ≡ true) all
+  all_listed : (pvs : List (List ℕ × Pv)) (all : List AddedPv) → Each (λ (added : AddedPv). list_any (λ (pv : List ℕ × Pv). same_bytes pv.1.id added.header.id) (with_added lvs extent_size pvs all) ≡ true) all
   all_listed pvs [] = tt
   all_listed pvs (added ∷ more) = (
     any_added (λ (pv : List ℕ × Pv). same_bytes pv.1.id added.header.id) (pvs ++ row pvs added ∷ []) more
@@ -153,11 +153,11 @@ module _ (lvs : List (List ℕ × Lv)) (extent_size : ℕ) where
     all_listed (pvs ++ row pvs added ∷ []) more,
   )
 
-  each_with : (P : List ℕ × Pv → Type 0) (pvs : List (List ℕ × Pv)) (all : List Added) → Each P pvs → Each (λ (added : Added). (name : List ℕ) → P (name, pv_of extent_size added)) all → Each P (with_added lvs extent_size pvs all)
+  each_with : (P : List ℕ × Pv → Type 0) (pvs : List (List ℕ × Pv)) (all : List AddedPv) → Each P pvs → Each (λ (added : AddedPv). (name : List ℕ) → P (name, pv_of extent_size added)) all → Each P (with_added lvs extent_size pvs all)
   each_with P pvs [] first later = first
   each_with P pvs (added ∷ more) first later = each_with P (pvs ++ row pvs added ∷ []) more (each_last P pvs (row pvs added) first (later.0 (pv_name (free_number (names_in pvs lvs))))) later.1
 
-  disks_with : (disks : List Disk) (pvs : List (List ℕ × Pv)) (all : List Added) → Each (λ (added : Added). disk_with disks added.header.id ≡ added.disk) all
+  disks_with : (disks : List Disk) (pvs : List (List ℕ × Pv)) (all : List AddedPv) → Each (λ (added : AddedPv). disk_with disks added.header.id ≡ added.disk) all
       → map (λ (pv : List ℕ × Pv). disk_with disks pv.1.id) (with_added lvs extent_size pvs all) ≡ map (λ (pv : List ℕ × Pv). disk_with disks pv.1.id) pvs ++ disks_added all
   disks_with disks pvs [] own = sym (append_nil (map (λ (pv : List ℕ × Pv). disk_with disks pv.1.id) pvs))
     where
@@ -174,7 +174,7 @@ module _ (lvs : List (List ℕ × Lv)) (extent_size : ℕ) where
 
 -- what is known of the group that is extended
 pub record IsBaseOf (state : GroupState) (base : Group) (listed : List ℕ) : Type 0 where
-  pub disks_xl : disks_of base state.disks ≡ listed
+  pub disks_is : disks_of base state.disks ≡ listed
   pub there : Each (λ (pv : List ℕ × Pv). is_missing (shapes state.disks) pv ≡ false) base.pvs
 
 pub not_missing : (state : GroupState) (pv : List ℕ × Pv) (missing any : Bool) → pv.1.missing ≡ missing → list_any (has_id pv.1.id) (shapes state.disks) ≡ any → is_missing (shapes state.disks) pv ≡ false → any ≡ true
@@ -187,10 +187,10 @@ pub makes_group : (state : GroupState) → IsState state → (base : Group) (lis
     → MakesGroup state (change_with base listed (added_of state names)) (extended base (added_of state names))
 unfolding extended
 makes_group state is base listed names known whole =
-    let all : List Added = added_of state names in
+    let all : List AddedPv = added_of state names in
     let on : All (IsAddedOn state.disks) all = all_on state names in
-    let own : Each (λ (added : Added). disk_with state.disks added.header.id ≡ added.disk) all =
-    recursion_from_All (λ (added : Added). disk_with state.disks added.header.id ≡ added.disk) all
+    let own : Each (λ (added : AddedPv). disk_with state.disks added.header.id ≡ added.disk) all =
+    recursion_from_All (λ (added : AddedPv). disk_with state.disks added.header.id ≡ added.disk) all
     (λ k d within.
     let o : IsAddedOn state.disks (get_or all k d) = on k d within in
     disk_with_own 0 state.disks is.differ (get_or all k d).disk o.disk (get_or all k d).header o.there (header_of o.disk.contents (get_or all k d).label (get_or all k d).header o.found))
@@ -200,14 +200,14 @@ makes_group state is base listed names known whole =
       whole = whole;
       first = listed;
       all = all;
-      labels_xl = refl;
-      disk_of_xl = refl;
+      labels_is = refl;
+      disk_of_is = refl;
       on = on;
       listed =
           All-append (IsListedOn (extended base all) state.disks) listed (disks_added all)
-          (subst (All (IsListedOn (extended base all) state.disks)) known.disks_xl
+          (subst (All (IsListedOn (extended base all) state.disks)) known.disks_is
           (All-map (IsListedOn (extended base all) state.disks) (λ (pv : List ℕ × Pv). disk_with state.disks pv.1.id) base.pvs (λ k d within. listed_one all k d within)))
-          (All-map (IsListedOn (extended base all) state.disks) (λ (added : Added). added.disk) all
+          (All-map (IsListedOn (extended base all) state.disks) (λ (added : AddedPv). added.disk) all
           (λ k d within.
           let o : IsAddedOn state.disks (get_or all k d) = on k d within in
           record {
@@ -216,18 +216,18 @@ makes_group state is base listed names known whole =
             header = (get_or all k d).header;
             is = header_of o.disk.contents (get_or all k d).label (get_or all k d).header o.found;
             listed =
-                All-from_recursion (λ (added : Added). list_any (λ (pv : List ℕ × Pv). same_bytes pv.1.id added.header.id) (with_added base.lvs base.extent_size base.pvs all) ≡ true) all (all_listed base.lvs base.extent_size base.pvs all) k d within;
+                All-from_recursion (λ (added : AddedPv). list_any (λ (pv : List ℕ × Pv). same_bytes pv.1.id added.header.id) (with_added base.lvs base.extent_size base.pvs all) ≡ true) all (all_listed base.lvs base.extent_size base.pvs all) k d within;
           }));
-      disks_xl = disks_with base.lvs base.extent_size state.disks base.pvs all own ∙ ap (λ l. l ++ disks_added all) known.disks_xl;
+      disks_is = disks_with base.lvs base.extent_size state.disks base.pvs all own ∙ ap (λ l. l ++ disks_added all) known.disks_is;
       there =
           each_with base.lvs base.extent_size (λ (pv : List ℕ × Pv). is_missing (shapes state.disks) pv ≡ false) base.pvs all known.there
-          (recursion_from_All (λ (added : Added). (name : List ℕ) → is_missing (shapes state.disks) (name, pv_of base.extent_size added) ≡ false) all
+          (recursion_from_All (λ (added : AddedPv). (name : List ℕ) → is_missing (shapes state.disks) (name, pv_of base.extent_size added) ≡ false) all
           (λ k d within name.
           let o : IsAddedOn state.disks (get_or all k d) = on k d within in
           ap not (shape_at state.disks (get_or all k d).disk o.disk (get_or all k d).header o.there (header_of o.disk.contents (get_or all k d).label (get_or all k d).header o.found))));
     }
   where
-    listed_one : (all : List Added) (k : ℕ) (d : List ℕ × Pv) → k < length base.pvs → IsListedOn (record base { pvs = with_added base.lvs base.extent_size base.pvs all }) state.disks (disk_with state.disks (get_or base.pvs k d).1.id)
+    listed_one : (all : List AddedPv) (k : ℕ) (d : List ℕ × Pv) → k < length base.pvs → IsListedOn (record base { pvs = with_added base.lvs base.extent_size base.pvs all }) state.disks (disk_with state.disks (get_or base.pvs k d).1.id)
     listed_one all k d within =
         let pv : List ℕ × Pv = get_or base.pvs k d in
         let present : is_missing (shapes state.disks) pv ≡ false = All-from_recursion (λ (p : List ℕ × Pv). is_missing (shapes state.disks) p ≡ false) base.pvs known.there k d within in

@@ -145,8 +145,8 @@ module _ (group : Group) (disks : List Disk) (accepted : IsAccepted group) (plac
       record {
         lies = record {
           at = record { pv = run.pv; sector = start + (sector - start) };
-          disk_xl = t.0;
-          sector_xl = same;
+          disk_is = t.0;
+          sector_is = same;
           extents = record { pv = e.pv; is_pv = e.is_pv; from = e.from; to = e.to };
         };
         free = λ lv other place is on_disk at_sector.

@@ -39,7 +39,7 @@ use Rattle.vg_change.proofs.LineLabels.{new_labels_are, new_near}
 use Rattle.image_scans.specs.Laws.{CanCarryOut, is_labelled}
 use Rattle.image_scans.specs.Versions.{FindsVersion, version_in}
 use Rattle.image_scans.proofs.CommitLine.{headers, settled}
-use Rattle.image_scans.proofs.Given.{IsNone, IsSettled, pv_weaker}
+use Rattle.image_scans.proofs.AreaReadings.{IsNone, IsSettled, pv_weaker}
 use Rattle.image_scans.proofs.Lines.{MakesPv}
 use Rattle.image_scans.proofs.OneDisk.{AllButOne, IsNewAt, all_but_one}
 use Rattle.image_scans.proofs.Quiet.{IsNewId, IsQuiet, one_apart, one_quiet}
@@ -90,7 +90,7 @@ module _ (base : Image) (sizes : List ℕ) (found : Found) (names : List (List �
 
   apart_from : (pv : ℕ) → pv ≢ m.number → All (λ (label : NewLabel). label.disk ≢ pv) change.labels
   apart_from pv other =
-      subst (All (λ (label : NewLabel). label.disk ≢ pv)) (sym m.labels_xl)
+      subst (All (λ (label : NewLabel). label.disk ≢ pv)) (sym m.labels_is)
       (All-cons (λ (label : NewLabel). label.disk ≢ pv) (new_label m.id m.copies m.number m.disk) [] (λ is. other (sym is)) (All-nil (λ (label : NewLabel). label.disk ≢ pv)))
 
   others_kept : (image : Image) → HasFirstBatches (batches_of state line now given) base image → (pv : ℕ) → pv ≢ m.number → (sector : ℕ) → image pv sector ≡ base pv sector
@@ -138,7 +138,7 @@ module _ (base : Image) (sizes : List ℕ) (found : Found) (names : List (List �
       by (settled_none nothing none given) = subst (λ (o : Option Group). IsQuiet o reading) (sym none) (gives_at IsNone p.scan.readings m.number reading given there)
       by (settled_some held parts some copy given all) =
           let off : is_listed held.group reading ≡ false =
-          unlisted_pv held.group some (header_on m.disk.contents) refl reading.pv (pv_shaped m.number m.disk.sectors (base m.number) m.disk.contents reading.pv read.contents read.pv_xl)
+          unlisted_pv held.group some (header_on m.disk.contents) refl reading.pv (pv_shaped m.number m.disk.sectors (base m.number) m.disk.contents reading.pv read.contents read.pv_is)
           in
           subst (λ (o : Option Group). IsQuiet o reading) (sym some) (
             pv_weaker (IsSettled held.group held.text reading) IsNone (λ r is. nothing_is r (is.1 off)) reading.pv (gives_on (IsSettled held.group held.text) p.scan.readings m.number reading all there),
@@ -190,7 +190,7 @@ module _ (base : Image) (sizes : List ℕ) (found : Found) (names : List (List �
       subst (λ (n : ℕ). IsNewAt n (image n) unread Differs m.disk.sectors own reading) (sym plain) (new reading there (subst (λ (n : ℕ). IsDiskReading n (base n) m.disk reading) plain is)))
       in
       let base_apart : first_duplicate (ids_from 0 p.scan.readings) ≡ None = ap first_duplicate (sym (ids_same 0 (shapes found.disks) p.scan.readings (headers base sizes found names backup line now given p))) ∙ p.shape.differ in
-      quiet_version image sizes found p.whole.there p.scan.readings p.scan.answer unread left_out left r.there r.read (r.sizes_xl ∙ p.scan.are.sizes_xl) r.are
+      quiet_version image sizes found p.whole.there p.scan.readings p.scan.answer unread left_out left r.there r.read (r.sizes_is ∙ p.scan.are.sizes_is) r.are
       (one_quiet found.group m.number Differs (λ a b rel. (rel.0, rel.1)) p.scan.readings r.read r.at)
       (one_apart m.number 0 Differs p.scan.readings (λ a b rel. rel.2) p.scan.readings r.read (λ id none. none) r.at base_apart)
       (same_disks image unread own others r)
@@ -214,7 +214,7 @@ module _ (base : Image) (sizes : List ℕ) (found : Found) (names : List (List �
   out_set = set.from_list (m.number ∷ [])
 
   out_is : (pv : ℕ) → set.contains out_set pv ≡ is_labelled change.labels pv
-  out_is pv = set.contains-from_list_nat (m.number ∷ []) pv ∙ ap (λ (l : List NewLabel). is_labelled l pv) (sym m.labels_xl)
+  out_is pv = set.contains-from_list_nat (m.number ∷ []) pv ∙ ap (λ (l : List NewLabel). is_labelled l pv) (sym m.labels_is)
 
   others_in : (pv : ℕ) → pv ≢ m.number → set.contains out_set pv ≡ set.contains found.unread pv
   others_in pv other =
@@ -233,6 +233,6 @@ module _ (base : Image) (sizes : List ℕ) (found : Found) (names : List (List �
         read = record { sectors = sectors; pv = None };
         own_sectors = refl;
         own_unread = ((λ none. in_set), (λ is. refl));
-        is = record { contents = tt; sectors_xl = refl; pv_xl = refl };
+        is = record { contents = tt; sectors_is = refl; pv_is = refl };
         rel = (quiet_before reading there read, no_pv_quiet found.group sectors, tt);
       })

@@ -14,7 +14,7 @@ use Rattle.pv_label.specs.LabelSectors.{first_four}
 use Rattle.pv_header.specs.declared.extent_list.Extent.{Extent}
 use Rattle.pv_header.specs.declared.header.PvHeader.{PvHeader}
 use Rattle.pv_header.specs.Areas.{CanLie, end_of, first_overlap, is_outside, next_start, shares_byte}
-use Rattle.mda_header.specs.declared.entry.Entry.TheVariants.{Nothing}
+use Rattle.mda_header.specs.declared.entry.HeaderEntry.TheVariants.{Nothing}
 use Rattle.mda_header.specs.Header.{IsHeader}
 use Rattle.meta_model.specs.declared.group.Group.{Group}
 use Rattle.extent_alloc.specs.declared.part.Part.{Part}
@@ -49,7 +49,7 @@ use Rattle.image_scans.specs.Versions.{FindsVersion, version_in}
 use Rattle.image_scans.proofs.Again.{same_ids}
 use Rattle.image_scans.proofs.CommitLine.{all_written, can, headers, shown}
 use Rattle.image_scans.proofs.CommitScans.{none_unread}
-use Rattle.image_scans.proofs.Given.{AreasGive, IsNone}
+use Rattle.image_scans.proofs.AreaReadings.{AreasGive, IsNone}
 use Rattle.image_scans.proofs.Labels.{of_four}
 use Rattle.image_scans.proofs.Lines.{MakesPv}
 use Rattle.image_scans.proofs.NewPv.{OtherIds, each_other, quiet_before, with_disk}
@@ -78,7 +78,7 @@ module _ (pv : ℕ) (at : ℕ → List ℕ) where
 
   each_read : (areas : List Extent) → AreAreaReadings pv at (map found_empty areas) (map read_empty areas)
   each_read [] = tt
-  each_read (area ∷ areas) = (record { start_xl = refl; sectors_xl = refl; given = refl }, each_read areas)
+  each_read (area ∷ areas) = (record { start_is = refl; sectors_is = refl; given = refl }, each_read areas)
 
 each_none : (areas : List Extent) → AreasGive IsNone (map read_empty areas)
 each_none [] = tt
@@ -165,7 +165,7 @@ module _ (base : Image) (sizes : List ℕ) (found : Found) (names : List (List �
   only = label ∷ []
 
   has_label : HasLabel image label
-  has_label = All-head (HasLabel image) label [] (subst (All (HasLabel image)) m.labels_xl (p.keeps.found base (shown base sizes found names backup line now given p)).labels)
+  has_label = All-head (HasLabel image) label [] (subst (All (HasLabel image)) m.labels_is (p.keeps.found base (shown base sizes found names backup line now given p)).labels)
 
   abbrev AreEmpty : NewLabel → Type 0
   AreEmpty l = All (λ (area : Extent). IsHeader (sectors_of (record { pv = l.disk; start = area.offset; size = area.size }) image 0) (empty_area area)) l.header.areas
@@ -173,7 +173,7 @@ module _ (base : Image) (sizes : List ℕ) (found : Found) (names : List (List �
   areas_empty : Each (IsEmpty m.number (image m.number)) label.header.areas
   areas_empty =
       let all : All AreEmpty change.labels = subst (λ (g : Option Group). HoldsAfter g now change state.areas image) m.none (p.keeps.found base (shown base sizes found names backup line now given p)).areas in
-      let own : AreEmpty label = All-head AreEmpty label [] (subst (All AreEmpty) m.labels_xl all) in
+      let own : AreEmpty label = All-head AreEmpty label [] (subst (All AreEmpty) m.labels_is all) in
       recursion_from_All (IsEmpty m.number (image m.number)) label.header.areas
       (λ k d within.
       let area : Extent = get_or label.header.areas k d in
@@ -181,7 +181,7 @@ module _ (base : Image) (sizes : List ℕ) (found : Found) (names : List (List �
       subst (λ (s : List ℕ). IsHeader s (empty_area area)) plain (own k d within))
 
   low : label.sector < 4
-  low = (All-head (λ (l : NewLabel). l.sector < 4) label [] (subst (All (λ (l : NewLabel). l.sector < 4)) m.labels_xl (λ k d within. ((can base sizes found names backup line now given p).labels k d within).sector_below)))
+  low = (All-head (λ (l : NewLabel). l.sector < 4) label [] (subst (All (λ (l : NewLabel). l.sector < 4)) m.labels_is (λ k d within. ((can base sizes found names backup line now given p).labels k d within).sector_below)))
 
   before_kept : (k : ℕ) → k < label.sector → image m.number k ≡ base m.number k
   before_kept k less =
@@ -190,7 +190,7 @@ module _ (base : Image) (sizes : List ℕ) (found : Found) (names : List (List �
       (all_written (batches_of state line now given) base)
       in
       let at_sector : All (λ (l : NewLabel). l.sector ≡ label.sector) change.labels =
-      subst (All (λ (l : NewLabel). l.sector ≡ label.sector)) (sym m.labels_xl) (All-cons (λ (l : NewLabel). l.sector ≡ label.sector) label [] refl (All-nil (λ (l : NewLabel). l.sector ≡ label.sector)))
+      subst (All (λ (l : NewLabel). l.sector ≡ label.sector)) (sym m.labels_is) (All-cons (λ (l : NewLabel). l.sector ≡ label.sector) label [] refl (All-nil (λ (l : NewLabel). l.sector ≡ label.sector)))
       in
       front_kept (batch_if (flat_map area_puts change.labels) ++ batch_if (map label_put change.labels) ++ []) base image m.number k
       (All-append (KeepsSector m.number k) (batch_if (flat_map area_puts change.labels) ++ batch_if (map label_put change.labels)) []
@@ -238,7 +238,7 @@ module _ (base : Image) (sizes : List ℕ) (found : Found) (names : List (List �
         read = read;
         own_sectors = refl;
         own_unread = ((λ none. absurd cc), (λ unread. absurd (true≢false (sym unread ∙ none_unread found p.whole m.number))));
-        is = record { contents = stands reading before; sectors_xl = refl; pv_xl = (refl, each_read m.number (image m.number) label.header.areas) };
+        is = record { contents = stands reading before; sectors_is = refl; pv_is = (refl, each_read m.number (image m.number) label.header.areas) };
         rel = (
           quiet_before base sizes found names backup line now given p m reading there before,
           new.0,

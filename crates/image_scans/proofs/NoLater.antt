@@ -11,7 +11,7 @@ use Rattle.scan_rules.specs.Decision.{Area, AreaReading, Conflict, Copy, Found, 
 use Rattle.scan_rules.proofs.Scanning.{same_bytes_tells}
 use Rattle.vg_scan.specs.Texts.{IsCopyOf}
 use Rattle.image_scans.proofs.Decided.{IsFoundWith, Passes, found_parts, passes}
-use Rattle.image_scans.proofs.Given.{AreasGive, CopyHas, DisksGive, GivenHas, PvGives, best_copy_has, disks_both, disks_weaker}
+use Rattle.image_scans.proofs.AreaReadings.{AreasGive, CopyHas, DisksGive, GivenHas, PvGives, best_copy_has, disks_both, disks_weaker}
 use Rattle.image_scans.proofs.SettledBase.{IsItsCopy, one_copy}
 
 -- ---- lists

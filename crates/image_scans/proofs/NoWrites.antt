@@ -199,7 +199,7 @@ module _ (base : Image) (sizes : List ℕ) (found : Found) (names : List (List �
     by_line (makes_pv m) =
         subst (λ (g : Option Group). All (KeepsSector number at.sector) (batches_with g)) (sym m.none)
         (none_outside m.none
-        (subst (All (λ (label : NewLabel). label.disk ≢ number)) (sym m.labels_xl)
+        (subst (All (λ (label : NewLabel). label.disk ≢ number)) (sym m.labels_is)
         (All-cons (λ (label : NewLabel). label.disk ≢ number) (new_label m.id m.copies m.number m.disk) [] (other_disk m) (All-nil (λ (label : NewLabel). label.disk ≢ number)))))
     by_line (makes_nothing none labels) =
         subst (λ (g : Option Group). All (KeepsSector number at.sector) (batches_with g)) (sym none)

@@ -2,7 +2,7 @@
 use Rattle.std.proofs.Common.{◌≡◌, ◌≤◌, ◌<◌, ◌⊎◌, ℕ, ◌+◌, ◌-◌, ◌^◌, true, false, List, [], length, Option, Some, None, inl, inr, ⊎_elim, refl, sym, ap, subst, ◌∙◌, arith}
 use Rattle.std.proofs.lemmas.Bool.{cases_lt}
 use Rattle.sector_base.specs.Checksum.{checksum, lvm_crc_start}
-use Rattle.mda_header.specs.declared.entry.Entry.TheVariants.{Nothing, Text}
+use Rattle.mda_header.specs.declared.entry.HeaderEntry.TheVariants.{Nothing, Text}
 use Rattle.mda_header.specs.declared.header.Locn.{Locn}
 use Rattle.mda_header.specs.declared.header.MdaHeader.{MdaHeader}
 use Rattle.mda_header.specs.Header.{IsCommitted, IsEntry, IsHeader, IsInside, IsPrecommitted, locn_at}
@@ -60,8 +60,8 @@ header_of_text sector start size locn is =
       record { start = start; size = size; committed = Some (locn_at sector 40); precommitted = precommitted; ignored = false },
       record {
         sound = is.0.of_area.sound;
-        start = is.0.of_area.start_xl;
-        size = is.0.of_area.size_xl;
+        start = is.0.of_area.start_is;
+        size = is.0.of_area.size_is;
         committed = (refl, is.0.inside);
         precommitted = pre;
         ignored = ((λ yes. absurd (let e : false ≡ true = yes in cc)), (λ bit. absurd (is.1 bit)));
@@ -81,7 +81,7 @@ entry_nothing sector start size header is none seen = (
 pub entry_text : (sector : List ℕ) (header : MdaHeader) (locn : Locn) → IsHeader sector header → header.committed ≡ Some locn → header.ignored ≡ false → IsEntry sector header.start header.size (Text locn)
 entry_text sector header locn is named seen =
     let committed : (locn ≡ locn_at sector 40) × IsInside header.size locn = subst (IsCommitted sector header.size) named is.committed in (
-      record { of_area = record { sound = is.sound; start_xl = is.start; size_xl = is.size }; inside = subst (IsInside header.size) committed.0 committed.1 },
+      record { of_area = record { sound = is.sound; start_is = is.start; size_is = is.size }; inside = subst (IsInside header.size) committed.0 committed.1 },
       (λ bit. absurd (let e : true ≡ false = sym (is.ignored.1 bit) ∙ seen in cc)),
       committed.0,
     )
@@ -118,9 +118,9 @@ empty_header_read area good =
 pub printed_copy : (group : Group) (now : ℕ) → now < 2 ^ 64 → HasTree group → IsAccepted group → IsCopyOf (printed (tree_of group now)) group []
 printed_copy group now time tree accepted =
     let read : IsReadAs (tree_of group now) group = tree_again group now time tree in
-    record { tree = tree_of group now; is_text = read.is_text; stands = read.stands; accepted = accepted; passed_xl = sym read.known }
+    record { tree = tree_of group now; is_text = read.is_text; stands = read.stands; accepted = accepted; passed_is = sym read.known }
 
 -- bytes that are a text as it is stored
 pub stored_copy : (text : List ℕ) (group : Group) (passed : List (List ℕ)) (a : Area × Option Locn) (bytes : List ℕ) → IsCopyOf text group passed → bytes ≡ stored text → IsStored (new_entry text a) bytes (Copy group text passed)
 stored_copy text group passed a bytes copy is =
-    (record { agrees = ap (checksum lvm_crc_start) is; text_xl = sym (ap without_zero is ∙ without_zero-zero text) }, copy)
+    (record { agrees = ap (checksum lvm_crc_start) is; text_is = sym (ap without_zero is ∙ without_zero-zero text) }, copy)

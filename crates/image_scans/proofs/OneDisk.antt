@@ -23,7 +23,7 @@ pub record IsNewAt (pv : ℕ) (sector_at : ℕ → List ℕ) (unread : set.FinSe
 pub record AllButOne (image : Image) (unread : set.FinSet nat_cmp) (first k : ℕ) (R : Reading → Reading → Type 0) (disk own : Disk) (disks : List Disk) (readings : List Reading) : Type 0 where
   pub there : List Disk
   pub read : List Reading
-  pub sizes_xl : map (λ (d : Disk). d.sectors) there ≡ map (λ (d : Disk). d.sectors) disks
+  pub sizes_is : map (λ (d : Disk). d.sectors) there ≡ map (λ (d : Disk). d.sectors) disks
   pub are : AreDiskReadings image unread first there read
   pub at : AtOne k R readings read
   pub ids : (id : List ℕ) → has_header_id id own ≡ has_header_id id disk → disk_with there id ≡ disk_with disks id
@@ -60,7 +60,7 @@ module _ (base image : Image) (unread others : set.FinSet nat_cmp) where
       record {
         there = own ∷ disks;
         read = n.read ∷ readings;
-        sizes_xl = λ i. (n.own_sectors ∙ ap (λ (x : Disk). x.sectors) (sym is_disk)) i ∷ map (λ (x : Disk). x.sectors) disks;
+        sizes_is = λ i. (n.own_sectors ∙ ap (λ (x : Disk). x.sectors) (sym is_disk)) i ∷ map (λ (x : Disk). x.sectors) disks;
         are = (
           subst (λ (m : ℕ). IsUnread others m own) plain n.own_unread,
           subst (λ (m : ℕ). IsDiskReading m (image m) own n.read) plain n.is,
@@ -79,7 +79,7 @@ module _ (base image : Image) (unread others : set.FinSet nat_cmp) where
       record {
         there = d ∷ later.there;
         read = reading ∷ later.read;
-        sizes_xl = λ i. d.sectors ∷ later.sizes_xl i;
+        sizes_is = λ i. d.sectors ∷ later.sizes_is i;
         are = (one.0, one.1, later.are);
         at = (refl, later.at);
         ids = λ id is. ap (λ (n : ℕ). cond (has_header_id id d) 0 (n + 1)) (later.ids id is);

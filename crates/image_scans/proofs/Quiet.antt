@@ -9,7 +9,7 @@ use Rattle.scan_rules.specs.Decision.{AreaReading, Found, Reading, first_duplica
 use Rattle.scan_rules.specs.Found.{is_missing, is_this_misplaced, misplaced_from, missing_of}
 use Rattle.scan_rules.proofs.Scanning.{same_bytes_tells, same_bytes_to}
 use Rattle.image_scans.proofs.Again.{all_there, none_missing}
-use Rattle.image_scans.proofs.Given.{DisksGive, IsNone, PvGives, pv_weaker}
+use Rattle.image_scans.proofs.AreaReadings.{DisksGive, IsNone, PvGives, pv_weaker}
 
 -- nothing is held there, and the group that was found doesn't list it
 abbrev pub IsQuiet : Option Group → Reading → Type 0

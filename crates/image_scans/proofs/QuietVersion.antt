@@ -17,7 +17,7 @@ use Rattle.vg_scan.specs.Scans.{IsFoundBy}
 use Rattle.image_scans.specs.Versions.{FindsVersion, Version, version_in}
 use Rattle.image_scans.proofs.Again.{Finds, finds_newest}
 use Rattle.image_scans.proofs.Decided.{HasNothing, IsFoundWith, found_parts, nothing_found}
-use Rattle.image_scans.proofs.Given.{DisksGive, IsNone, copies_none, disks_weaker, refusals_none}
+use Rattle.image_scans.proofs.AreaReadings.{DisksGive, IsNone, copies_none, disks_weaker, refusals_none}
 use Rattle.image_scans.proofs.Quiet.{ButQuiet, quiet_give, quiet_held, quiet_missing, quiet_placed}
 use Rattle.image_scans.proofs.SettledBase.{IsNoneOr, IsSettledScan, settled_none, settled_some}
 
@@ -53,14 +53,14 @@ module _ (image : Image) (sizes : List ℕ) (found : Found) (none_missing : foun
         found = record found { disks = there; areas = held_areas 0 there; unread = unread };
         scan = record {
           readings = read;
-          are = record { sizes_xl = sizes_are; each = are };
+          are = record { sizes_is = sizes_are; each = are };
           answer = subst (λ (a : ScanAnswer). IsFoundBy a (record found { disks = there; areas = held_areas 0 there; unread = unread })) (sym answer) (moved_to (decide_scan readings) by);
           areas = refl;
           disk_of = subst (λ (o : Option Group). IfSome o (λ group. found.disk_of ≡ disks_of group there)) (sym none) tt;
         };
         left = left;
         whole = none_missing;
-        version_xl = ap (λ (o : Option Group). option_map (λ (g : Group). record { group = g; disk_of = disks_of g there }) o) none ∙ sym (ap (λ (o : Option Group). option_map (λ (g : Group). record { group = g; disk_of = disks_of g found.disks }) o) none);
+        version_is = ap (λ (o : Option Group). option_map (λ (g : Group). record { group = g; disk_of = disks_of g there }) o) none ∙ sym (ap (λ (o : Option Group). option_map (λ (g : Group). record { group = g; disk_of = disks_of g found.disks }) o) none);
       }
     where
       moved_to : (answer : ScanAnswer) → IsFoundBy answer found → IsFoundBy answer (record found { disks = there; areas = held_areas 0 there; unread = unread })
@@ -101,15 +101,15 @@ module _ (image : Image) (sizes : List ℕ) (found : Found) (none_missing : foun
           found = found_anew f;
           scan = record {
             readings = read;
-            are = record { sizes_xl = sizes_are; each = are };
+            are = record { sizes_is = sizes_are; each = are };
             answer = subst (λ (a : ScanAnswer). IsFoundBy a (found_anew f)) (sym f.is) (refl, refl, refl, refl, refl, refl);
             areas = refl;
             disk_of = refl;
           };
           left = left;
-          whole = sym parts.missing_are ∙ ap (λ (g : Group). missing_of read g.pvs) f.group_xl ∙ quiet_missing group readings read but all_there;
-          version_xl =
-              ap (λ (g : Group). Some (version g)) f.group_xl ∙ ap (λ (l : List ℕ). Some (record { group = group; disk_of = l })) disks
+          whole = sym parts.missing_are ∙ ap (λ (g : Group). missing_of read g.pvs) f.group_is ∙ quiet_missing group readings read but all_there;
+          version_is =
+              ap (λ (g : Group). Some (version g)) f.group_is ∙ ap (λ (l : List ℕ). Some (record { group = group; disk_of = l })) disks
               ∙ sym (ap (λ (o : Option Group). option_map (λ (g : Group). record { group = g; disk_of = disks_of g found.disks }) o) is_group);
         }
 
@@ -122,4 +122,4 @@ module _ (image : Image) (sizes : List ℕ) (found : Found) (none_missing : foun
       (disks_weaker (λ disk. IsNoneOr held.group held.text) (λ disk. GivesNoLater held.group held.text) (λ disk. same_given held.group held.text) readings given)
       in
       of_finds held.group held.text some (parts.missing_are ∙ none_missing)
-      (finds_newest held.group held.text read shape no_later (quiet_held held.group held.text readings read (but held.group held.text some) parts.is_held_xl))
+      (finds_newest held.group held.text read shape no_later (quiet_held held.group held.text readings read (but held.group held.text some) parts.is_held_is))

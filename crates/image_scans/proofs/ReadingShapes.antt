@@ -13,13 +13,13 @@ use Rattle.scan_rules.specs.Decision.{Area as AreaOf, AreaReading, Found as PvOf
 use Rattle.vg_found.specs.declared.disk.Disk.{Disk}
 use Rattle.vg_found.specs.Disks.{area_shape, header_on, pv_shape, shapes}
 use Rattle.vg_scan.specs.Readings.{AreAreaReadings, AreDiskReadings, IsContents, IsPvReading}
-use Rattle.image_scans.proofs.Given.{DisksGive, PvGives}
+use Rattle.image_scans.proofs.AreaReadings.{DisksGive, PvGives}
 
 areas_shaped : (pv : ℕ) (sector_at : ℕ → List ℕ) (founds : List AreaFound) (areas : List AreaOf) → AreAreaReadings pv sector_at founds areas → SameAreas (map area_shape (map (λ (found : AreaFound). found.area) founds)) areas
 areas_shaped pv sector_at [] [] are = tt
 areas_shaped pv sector_at [] (area ∷ areas) are = absurd are
 areas_shaped pv sector_at (found ∷ founds) [] are = absurd are
-areas_shaped pv sector_at (found ∷ founds) (area ∷ areas) are = (sym are.0.start_xl, sym are.0.sectors_xl, areas_shaped pv sector_at founds areas are.1)
+areas_shaped pv sector_at (found ∷ founds) (area ∷ areas) are = (sym are.0.start_is, sym are.0.sectors_is, areas_shaped pv sector_at founds areas are.1)
 
 pub pv_shaped : (pv sectors : ℕ) (sector_at : ℕ → List ℕ) (contents : Option PvFound) (read : Option PvOf) → IsContents sector_at sectors contents → IsPvReading pv sector_at contents read → SamePv (option_map pv_shape (header_on contents)) read
 pv_shaped pv sectors sector_at None read is reads = subst (SamePv None) (sym reads) tt
@@ -34,7 +34,7 @@ readings_shaped image unread first [] [] are = tt
 readings_shaped image unread first [] (reading ∷ readings) are = absurd are
 readings_shaped image unread first (disk ∷ disks) [] are = absurd are
 readings_shaped image unread first (disk ∷ disks) (reading ∷ readings) are =
-    (sym are.1.sectors_xl, pv_shaped first disk.sectors (image first) disk.contents reading.pv are.1.contents are.1.pv_xl, readings_shaped image unread (first + 1) disks readings are.2)
+    (sym are.1.sectors_is, pv_shaped first disk.sectors (image first) disk.contents reading.pv are.1.contents are.1.pv_is, readings_shaped image unread (first + 1) disks readings are.2)
 
 -- one of them
 pub gives_at : (P : AreaReading → Type 0) (readings : List Reading) (k : ℕ) (reading : Reading) → DisksGive (λ disk. P) readings → slice_get readings k ≡ Some reading → PvGives P reading.pv

@@ -12,8 +12,8 @@ use Rattle.pv_header.specs.declared.extent_list.Extent.{Extent}
 use Rattle.pv_header.specs.declared.header.PvHeader.{PvHeader}
 use Rattle.mda_header.proofs.OneEntry.{one_entry}
 use Rattle.mda_header.specs.Header.{IsEntry}
-use Rattle.mda_header.specs.declared.entry.Entry.{Entry}
-use Rattle.mda_header.specs.declared.entry.Entry.TheVariants.{Ignored, Nothing, Text, Refused as RefusedFor}
+use Rattle.mda_header.specs.declared.entry.HeaderEntry.{HeaderEntry}
+use Rattle.mda_header.specs.declared.entry.HeaderEntry.TheVariants.{Ignored, Nothing, Text, Refused as RefusedFor}
 use Rattle.mda_header.specs.declared.header.Locn.{Locn}
 use Rattle.mda_ring.specs.declared.area.Area.{Area}
 use Rattle.meta_model.specs.declared.group.Group.{Group}
@@ -39,7 +39,7 @@ use Rattle.image_scans.proofs.Again.{AreasAgain, DisksAgain, GivesAgain, PvAgain
 use Rattle.image_scans.proofs.ClearedAgain.{any_bare}
 use Rattle.image_scans.proofs.FoundAreas.{entry_kept, of_held}
 use Rattle.image_scans.proofs.OneArea.{entry_nothing}
-use Rattle.image_scans.proofs.Given.{AreasGive, GivenHas, IsNone, PvGives}
+use Rattle.image_scans.proofs.AreaReadings.{AreasGive, GivenHas, IsNone, PvGives}
 
 -- ---- an area whose header is empty now
 
@@ -56,17 +56,17 @@ module _ (new : AreaReading) (pv : ℕ) (base_at image_at : ℕ → List ℕ) wh
       of_entry names =
           let there : IsEntry (image_at (g.area.offset / 512)) g.area.offset g.area.size Nothing = subst (λ (e : Extent). IsEntry (image_at (e.offset / 512)) e.offset e.size Nothing) (sym same) names in
           let entry : g.entry ≡ Nothing = one_entry (image_at (g.area.offset / 512)) g.area.offset g.area.size g.entry Nothing found.1 there in
-          let given : b.reading ≡ Some HoldsNone = subst (λ (e : Entry). IsGiven image_at (area_on pv g.area) e b.reading) entry reads'.given in
+          let given : b.reading ≡ Some HoldsNone = subst (λ (e : HeaderEntry). IsGiven image_at (area_on pv g.area) e b.reading) entry reads'.given in
           subst (GivenHas IsNone) (sym given) refl
 
-      by : (e : Entry) → f.entry ≡ e → GivenHas IsNone b.reading
+      by : (e : HeaderEntry) → f.entry ≡ e → GivenHas IsNone b.reading
       by Ignored is =
-          let none : a.reading ≡ None = subst (λ (e : Entry). IsGiven base_at (area_on pv f.area) e a.reading) is reads.given in
+          let none : a.reading ≡ None = subst (λ (e : HeaderEntry). IsGiven base_at (area_on pv f.area) e a.reading) is reads.given in
           let none' : b.reading ≡ None = subst (λ (o : Option AreaReading). GivesAgain new false (λ r. true) o b.reading) none again in
           subst (GivenHas IsNone) (sym none') tt
-      by Nothing is = of_entry (empty (area_on pv f.area, None) (ap (λ (e : Entry). held_area pv (record { area = f.area; header = f.header; entry = e })) is))
-      by (Text locn) is = of_entry (empty (area_on pv f.area, Some locn) (ap (λ (e : Entry). held_area pv (record { area = f.area; header = f.header; entry = e })) is))
-      by (RefusedFor refusal) is = of_entry (empty (area_on pv f.area, None) (ap (λ (e : Entry). held_area pv (record { area = f.area; header = f.header; entry = e })) is))
+      by Nothing is = of_entry (empty (area_on pv f.area, None) (ap (λ (e : HeaderEntry). held_area pv (record { area = f.area; header = f.header; entry = e })) is))
+      by (Text locn) is = of_entry (empty (area_on pv f.area, Some locn) (ap (λ (e : HeaderEntry). held_area pv (record { area = f.area; header = f.header; entry = e })) is))
+      by (RefusedFor refusal) is = of_entry (empty (area_on pv f.area, None) (ap (λ (e : HeaderEntry). held_area pv (record { area = f.area; header = f.header; entry = e })) is))
 
   head_same : (g f : AreaFound) (gs fs : List AreaFound) → map (λ (x : AreaFound). x.area) (g ∷ gs) ≡ map (λ (x : AreaFound). x.area) (f ∷ fs) → g.area ≡ f.area
   head_same g f gs fs is = cc

@@ -49,7 +49,7 @@ use Rattle.image_scans.proofs.ClearedAgain.{any_bare, any_pv, disk_cleared}
 use Rattle.image_scans.proofs.CommitScans.{disks_by_ids, none_unread}
 use Rattle.image_scans.proofs.Decided.{IsFoundWith, found_parts, nothing_found}
 use Rattle.image_scans.proofs.DiskAgain.{AllAgain, IsThereAt, PvMayBeRefused, all_again}
-use Rattle.image_scans.proofs.Given.{AreasGive, DisksGive, GivenHas, IsNone, IsSettled, PvGives, copies_none, disks_weaker, refusals_none}
+use Rattle.image_scans.proofs.AreaReadings.{AreasGive, DisksGive, GivenHas, IsNone, IsSettled, PvGives, copies_none, disks_weaker, refusals_none}
 use Rattle.image_scans.proofs.ReadingShapes.{readings_shaped}
 use Rattle.image_scans.proofs.SettledBase.{IsNoneOr, IsSettledScan, settled_none, settled_some}
 use Rattle.image_scans.proofs.RemovalEnds.{disk_among, disk_emptied, disk_read, listed_header, none_held, pv_emptied, read_before}
@@ -191,15 +191,15 @@ module _ (base : Image) (sizes : List ℕ) (found : Found) (shape : HasShape fou
             found = anew;
             scan = record {
               readings = again.read;
-              are = record { sizes_xl = again.sizes_xl ∙ scan.are.sizes_xl; each = again.are };
+              are = record { sizes_is = again.sizes_is ∙ scan.are.sizes_is; each = again.are };
               answer = subst (λ (answer : ScanAnswer). IsFoundBy answer anew) (sym f.is) (refl, refl, refl, refl, refl, refl);
               areas = refl;
               disk_of = refl;
             };
             left = λ pv within. none_unread found whole pv;
-            whole = sym own.missing_are ∙ ap (λ (g : Group). missing_of again.read g.pvs) f.group_xl ∙ sym (missing_same scan.readings again.read held.group.pvs same_headers) ∙ parts.missing_are ∙ whole.there;
-            version_xl =
-                ap (λ (g : Group). Some (version g)) f.group_xl ∙ ap (λ (l : List ℕ). Some (record { group = held.group; disk_of = l })) (disks_by_ids held.group found.disks again.there again.ids)
+            whole = sym own.missing_are ∙ ap (λ (g : Group). missing_of again.read g.pvs) f.group_is ∙ sym (missing_same scan.readings again.read held.group.pvs same_headers) ∙ parts.missing_are ∙ whole.there;
+            version_is =
+                ap (λ (g : Group). Some (version g)) f.group_is ∙ ap (λ (l : List ℕ). Some (record { group = held.group; disk_of = l })) (disks_by_ids held.group found.disks again.there again.ids)
                 ∙ sym (ap (λ (o : Option Group). option_map (λ (g : Group). record { group = g; disk_of = disks_of g found.disks }) o) some);
           }
 
@@ -212,14 +212,14 @@ module _ (base : Image) (sizes : List ℕ) (found : Found) (shape : HasShape fou
             found = nothing_in again.there;
             scan = record {
               readings = again.read;
-              are = record { sizes_xl = again.sizes_xl ∙ scan.are.sizes_xl; each = again.are };
+              are = record { sizes_is = again.sizes_is ∙ scan.are.sizes_is; each = again.are };
               answer = subst (λ (answer : ScanAnswer). IsFoundBy answer (nothing_in again.there)) (sym nothing) (refl, refl, refl, refl, refl, refl);
               areas = refl;
               disk_of = tt;
             };
             left = λ pv within. none_unread found whole pv;
             whole = refl;
-            version_xl = refl;
+            version_is = refl;
           }
 
       pub either_left : FindsVersion sizes image none_out (version_in found) ⊎ FindsVersion sizes image none_out None
@@ -283,10 +283,10 @@ module _ (base image : Image) (sizes : List ℕ) (found : Found) (names : List (
           let d = disk_read base found.unread 0 found.disks p.scan.readings p.scan.are.each k r.0 r.1 in
           let t : IsThereAt last 0 k d.0 reads.there reads.read = reads.at k d.0 d.1 in
           let same : b ≡ t.reading = same_Some b t.reading (sym there ∙ t.at_reading) in
-          let h = listed_header held.group new (0 + k) (base (0 + k)) d.0.contents r.0.pv b.pv d.2.pv_xl r.2 listed in
+          let h = listed_header held.group new (0 + k) (base (0 + k)) d.0.contents r.0.pv b.pv d.2.pv_is r.2 listed in
           let at : disk_with found.disks h.0.id ≡ k = disk_with_own 0 found.disks p.shape.differ k d.0 h.0 d.1 h.1 in
           let among : set.contains cleared_set (0 + k) ≡ true = ap (λ (s : set.FinSet nat_cmp). set.contains s (0 + k)) cleared_are ∙ disk_among held.group found.disks found.disk_of listed_are (0 + k) h.0 (at ∙ (let e : k ≡ 0 + k = omega arith in e)) h.2 in
           subst (λ (o : Reading). PvGives IsNone o.pv) (sym same)
-          (pv_emptied new (0 + k) (base (0 + k)) (last (0 + k)) t.own.sectors d.0.contents t.own.contents r.0.pv t.reading.pv d.2.pv_xl t.is.pv_xl t.is.contents t.own_areas
+          (pv_emptied new (0 + k) (base (0 + k)) (last (0 + k)) t.own.sectors d.0.contents t.own.contents r.0.pv t.reading.pv d.2.pv_is t.is.pv_is t.is.contents t.own_areas
           (subst (λ (o : Reading). PvAgain (λ id. false) any_bare new r.0.pv o.pv) same r.2)
           (disk_emptied found.areas cleared_set last (p.keeps.clears.done base).headers found.disks p.shape.areas k d.0 d.1 among))))

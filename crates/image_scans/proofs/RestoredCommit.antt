@@ -21,7 +21,7 @@ use Rattle.vg_plans.proofs.Restoring.{Restores}
 use Rattle.vg_change.proofs.Sound.{version_on}
 use Rattle.image_scans.proofs.CommitCommands.{Commits, old_whole}
 use Rattle.image_scans.proofs.CommitScans.{IsNext}
-use Rattle.image_scans.proofs.MadeGroup.{MakesGroup}
+use Rattle.image_scans.proofs.CommittedGroup.{MakesGroup}
 use Rattle.image_scans.proofs.Makes.{has_same, makes_group}
 use Rattle.image_scans.proofs.SettledBase.{IsSettledScan}
 
@@ -59,10 +59,10 @@ restores_commits found state is same readings settled change now made accepted t
     let old = old_whole readings found settled made.old there in
     let makes : MakesGroup state (change_with next disks (added_of state [])) (extended next (added_of state [])) =
     makes_group state is next disks []
-    (record { disks_xl = same_disks state.disks made.said.pvs; there = all_present state.disks made.said.pvs (recursion_from_All (λ n. n < length state.disks) disks (made.listed is)) })
+    (record { disks_is = same_disks state.disks made.said.pvs; there = all_present state.disks made.said.pvs (recursion_from_All (λ n. n < length state.disks) disks (made.listed is)) })
     (made.whole old.0 accepted tree)
     in
-    subst (Commits found state) (sym made.change_xl)
+    subst (Commits found state) (sym made.change_is)
     (record {
       group = next;
       makes = subst (λ (c : Change). MakesGroup state c next) (version_on state disks next) makes;

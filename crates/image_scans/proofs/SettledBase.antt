@@ -7,8 +7,8 @@ use Rattle.std.specs.Ordering.{nat_cmp}
 use Rattle.std.proofs.lemmas.Bool.{eq-eqb, true≢false}
 use Rattle.conf_text.proofs.Causes.{one_tree}
 use Rattle.disk_model.specs.Steps.{Image}
-use Rattle.mda_header.specs.declared.entry.Entry.{Entry}
-use Rattle.mda_header.specs.declared.entry.Entry.TheVariants.{Ignored, Nothing, Text, Refused as RefusedFor}
+use Rattle.mda_header.specs.declared.entry.HeaderEntry.{HeaderEntry}
+use Rattle.mda_header.specs.declared.entry.HeaderEntry.TheVariants.{Ignored, Nothing, Text, Refused as RefusedFor}
 use Rattle.mda_header.specs.declared.header.Locn.{Locn}
 use Rattle.mda_ring.specs.declared.area.Area.{Area}
 use Rattle.meta_model.specs.Standing.{HasTree, group_of}
@@ -27,7 +27,7 @@ use Rattle.vg_scan.specs.Scans.{IsFoundBy}
 use Rattle.vg_scan.specs.Texts.{IsCopyOf, IsStored, stored_bytes}
 use Rattle.image_scans.proofs.AreaAgain.{NotRefused}
 use Rattle.image_scans.proofs.Decided.{HasNothing, IsFoundWith, found_parts, none_parts}
-use Rattle.image_scans.proofs.Given.{AreasGive, CopyHas, DisksGive, GivenHas, IsNone, IsSettled, PvGives, best_copy_has, disks_both, disks_weaker, nothing_given, settled}
+use Rattle.image_scans.proofs.AreaReadings.{AreasGive, CopyHas, DisksGive, GivenHas, IsNone, IsSettled, PvGives, best_copy_has, disks_both, disks_weaker, nothing_given, settled}
 
 -- ---- each copy is that of its text
 
@@ -39,7 +39,7 @@ copy_stored locn bytes HoldsNone is = tt
 copy_stored locn bytes (Copy group text passed) is = is.1
 copy_stored locn bytes (Refused why) is = tt
 
-copy_given : (sector_at : ℕ → List ℕ) (area : Area) (entry : Entry) (reading : Option AreaReading) → IsGiven sector_at area entry reading → GivenHas (CopyHas IsItsCopy) reading
+copy_given : (sector_at : ℕ → List ℕ) (area : Area) (entry : HeaderEntry) (reading : Option AreaReading) → IsGiven sector_at area entry reading → GivenHas (CopyHas IsItsCopy) reading
 copy_given sector_at area Ignored reading is = subst (GivenHas (CopyHas IsItsCopy)) (sym is) tt
 copy_given sector_at area Nothing reading is = subst (GivenHas (CopyHas IsItsCopy)) (sym is) tt
 copy_given sector_at area (Text locn) reading is = subst (GivenHas (CopyHas IsItsCopy)) (sym is.1) (copy_stored locn (stored_bytes sector_at area locn) is.0 is.2)
@@ -62,7 +62,7 @@ pub copies_are : (image : Image) (unread : set.FinSet nat_cmp) (first : ℕ) (di
 copies_are image unread first [] [] are = tt
 copies_are image unread first [] (reading ∷ readings) are = absurd are
 copies_are image unread first (disk ∷ disks) [] are = absurd are
-copies_are image unread first (disk ∷ disks) (reading ∷ readings) are = (copy_pv first (image first) disk.contents reading.pv are.1.pv_xl, copies_are image unread (first + 1) disks readings are.2)
+copies_are image unread first (disk ∷ disks) (reading ∷ readings) are = (copy_pv first (image first) disk.contents reading.pv are.1.pv_is, copies_are image unread (first + 1) disks readings are.2)
 
 -- a text is a copy of one group
 pub one_copy : (text : List ℕ) (a b : Group) (p q : List (List ℕ)) → IsCopyOf text a p → IsCopyOf text b q → a ≡ b

@@ -140,8 +140,8 @@ module _ (found : Found) (names : List (List ℕ)) (backup : Option Backup) (lin
       let place : IsPlaceOn found.disks (slice_index (disks_of l.0 found.disks) lies.at.pv) lies.at.sector =
       extent_beside l.0 found.disks (found_placed found on.shape l.0 l.1) (found_there found on.shape on.whole l.0 l.1) lies.at lies.extents
       in
-      subst (IsPlaceOn found.disks disk) lies.sector_xl
-      (subst (λ (n : ℕ). IsPlaceOn found.disks n lies.at.sector) (ap (λ (l' : List ℕ). slice_index l' lies.at.pv) (sym (found_listed found on.shape l.0 l.1)) ∙ lies.disk_xl) place)
+      subst (IsPlaceOn found.disks disk) lies.sector_is
+      (subst (λ (n : ℕ). IsPlaceOn found.disks n lies.at.sector) (ap (λ (l' : List ℕ). slice_index l' lies.at.pv) (sym (found_listed found on.shape l.0 l.1)) ∙ lies.disk_is) place)
 
   -- ---- an image on their way
 
@@ -208,8 +208,8 @@ module _ (base : Image) (sizes : List ℕ) (found : Found) (names : List (List �
     outside disk sector is =
         let l = zeroes_lie disk sector is in
         let lies : LiesInExtents l.0 found.disk_of disk sector = l.2.lies in
-        subst (λ (n : ℕ). All (KeepsSector n sector) (batches_of (state_in found names backup) line now given)) lies.disk_xl
-        (subst (λ (n : ℕ). All (KeepsSector (slice_index found.disk_of lies.at.pv) n) (batches_of (state_in found names backup) line now given)) lies.sector_xl
+        subst (λ (n : ℕ). All (KeepsSector n sector) (batches_of (state_in found names backup) line now given)) lies.disk_is
+        (subst (λ (n : ℕ). All (KeepsSector (slice_index found.disk_of lies.at.pv) n) (batches_of (state_in found names backup) line now given)) lies.sector_is
         (extent_outside base sizes found names backup line now given p l.0 l.1 lies.at lies.extents))
 
     pub zeroes_kept : (disk sector : ℕ) → in_spans (change_of (state_in found names backup) line now given).zero disk sector ≡ true → image disk sector ≡ zeros

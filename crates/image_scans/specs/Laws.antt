@@ -151,8 +151,8 @@ pub record IsInExtents (group : Group) (at : At) : Type 0 where
 -- the sector of the disk does
 pub record LiesInExtents (group : Group) (disk_of : List ℕ) (disk sector : ℕ) : Type 0 where
   pub at : At
-  pub disk_xl : slice_index disk_of at.pv ≡ disk
-  pub sector_xl : at.sector ≡ sector
+  pub disk_is : slice_index disk_of at.pv ≡ disk
+  pub sector_is : at.sector ≡ sector
   pub extents : IsInExtents group at
 
 -- and is no primary place of a volume

@@ -23,4 +23,4 @@ pub record FindsVersion (sizes : List ℕ) (image : Image) (left_out : ℕ → B
   pub scan : IsScanOf image sizes found
   pub left : (pv : ℕ) → pv < length sizes → set.contains found.unread pv ≡ left_out pv
   pub whole : found.missing ≡ []
-  pub version_xl : version_in found ≡ version
+  pub version_is : version_in found ≡ version

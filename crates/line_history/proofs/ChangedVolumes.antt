@@ -44,7 +44,7 @@ use Rattle.group_plan.specs.Added.{added_of, disks_added, pv_of}
 use Rattle.group_plan.specs.Committing.{named_rows, no_change, version_change}
 use Rattle.group_plan.specs.Judging.{first_refusal}
 use Rattle.group_plan.specs.NewGroup.{extended, free_number, names_in, pv_name, with_added}
-use Rattle.group_plan.specs.declared.added.Added.{Added}
+use Rattle.group_plan.specs.declared.added.AddedPv.{AddedPv}
 use Rattle.group_plan.specs.declared.state.Change.{Change}
 use Rattle.group_plan.specs.declared.state.GroupState.{GroupState}
 use Rattle.group_plan.specs.declared.backup.Backup.{Backup}
@@ -91,7 +91,7 @@ index_front f (y ∷ xs) more zero x there = refl
 index_front f (y ∷ xs) more (suc k) x there = index_front f xs more k x there
 
 -- the physical volumes of a group keep their numbers where others are added
-added_kept : (lvs : List (List ℕ × Lv)) (extent_size : ℕ) (pvs : List (List ℕ × Pv)) (all : List Added) (k : ℕ) (pv : List ℕ × Pv) → slice_get pvs k ≡ Some pv → slice_get (with_added lvs extent_size pvs all) k ≡ Some pv
+added_kept : (lvs : List (List ℕ × Lv)) (extent_size : ℕ) (pvs : List (List ℕ × Pv)) (all : List AddedPv) (k : ℕ) (pv : List ℕ × Pv) → slice_get pvs k ≡ Some pv → slice_get (with_added lvs extent_size pvs all) k ≡ Some pv
 added_kept lvs extent_size pvs [] k pv is = is
 added_kept lvs extent_size pvs (added ∷ more) k pv is =
     let row : List ℕ × Pv = (pv_name (free_number (names_in pvs lvs)), pv_of extent_size added) in
@@ -169,7 +169,7 @@ module _ (found : Found) (names : List (List ℕ)) (backup : Option Backup) wher
         → ChangesVolumes (Vgextend vg pvs) (version_in found) (Some (version_of (extended (next_version old) (added_of state pvs)) (extend_by state (Some old) pvs)))
     unfolding extended
     next_keeps vg pvs old there =
-        let all : List Added = added_of state pvs in
+        let all : List AddedPv = added_of state pvs in
         let more : List (List ℕ × Pv) = with_added old.lvs old.extent_size old.pvs all in
         let after : Version = record { group = with_pvs old (old.seqno + 1) more; disk_of = found.disk_of ++ disks_added all } in
         let disks : KeepsDisks (was old) after =
@@ -204,7 +204,7 @@ module _ (found : Found) (names : List (List ℕ)) (backup : Option Backup) wher
 
     left_by : (vg pv : List ℕ) (change : Change) (now : ℕ) → LeavesNext state change now → (group : Group) → change.group ≡ Some group → ChangesVolumes (Vgreduce vg pv) (version_in found) (Some (version_of group change))
     left_by vg pv change now left =
-        subst (λ (c : Change). (group : Group) → c.group ≡ Some group → ChangesVolumes (Vgreduce vg pv) (version_in found) (Some (version_of group c))) (sym left.change_xl)
+        subst (λ (c : Change). (group : Group) → c.group ≡ Some group → ChangesVolumes (Vgreduce vg pv) (version_in found) (Some (version_of group c))) (sym left.change_is)
         (λ group is.
         subst (λ (g : Group). ChangesVolumes (Vgreduce vg pv) (version_in found) (Some (record { group = g; disk_of = remove found.disk_of left.number }))) (same_Some (without_pv left.old left.number) group is)
         (leave_changes vg pv left.old left.number left.there left.may.unused))
@@ -270,7 +270,7 @@ module _ (found : Found) (names : List (List ℕ)) (backup : Option Backup) wher
     restored_by vg text change now gives_back made =
         let sound = sound_tree text made.said (subst (λ (b : Option Backup). IsBackupOf (Vgcfgrestore vg text) b) made.gives gives_back) in
         let whole = made.whole (accepted made.old made.there) sound.0 sound.1 in
-        subst (λ (c : Change). (group : Group) → c.group ≡ Some group → ChangesVolumes (Vgcfgrestore vg text) (version_in found) (Some (version_of group c))) (sym made.change_xl)
+        subst (λ (c : Change). (group : Group) → c.group ≡ Some group → ChangesVolumes (Vgcfgrestore vg text) (version_in found) (Some (version_of group c))) (sym made.change_is)
         (λ group is.
         subst (λ (g : Group). ChangesVolumes (Vgcfgrestore vg text) (version_in found) (Some (record { group = g; disk_of = disks_of made.said found.disks }))) (same_Some (restored_group made.old made.said) group is)
         (subst (λ (before : Option Version). ChangesVolumes (Vgcfgrestore vg text) before (Some (record { group = restored_group made.old made.said; disk_of = disks_of made.said found.disks })))
@@ -314,7 +314,7 @@ module _ (found : Found) (names : List (List ℕ)) (backup : Option Backup) wher
     by_command number id (Lvcreate new) now given planned gives_back takes passes group is =
         let own : List ℕ = unwrap_or id [] in
         let made : Creates state own new now given = creates state own new now given (drawn_is id planned.0) planned.1 found.group refl takes passes in
-        subst (λ (change : Change). (g : Group) → change.group ≡ Some g → ChangesVolumes (Lvcreate new) (version_in found) (Some (version_of g change))) (sym made.change_xl)
+        subst (λ (change : Change). (g : Group) → change.group ≡ Some g → ChangesVolumes (Lvcreate new) (version_in found) (Some (version_of g change))) (sym made.change_is)
         (of_version (Lvcreate new) (created_group own new now given made.old) (created_by own new now given made)) group is
     by_command number id (Lvextend path growth pvs) now given planned gives_back takes passes group is =
         where_found (Lvextend path growth pvs) (λ g. version_change state (longer_volume path.lv given g)) found.group refl

@@ -4,7 +4,7 @@ use Rattle.command_table.specs.declared.command.Command.{Command}
 use Rattle.command_table.specs.declared.command.Command.TheVariants.{Vgreduce, Vgremove}
 use Rattle.disk_model.specs.CrashValues.{IsImage}
 use Rattle.disk_model.specs.Moments.{at_moment}
-use Rattle.disk_model.specs.Steps.{Image, Told}
+use Rattle.disk_model.specs.Steps.{Image, Record}
 use Rattle.meta_model.specs.declared.group.Group.{Group}
 use Rattle.group_ops.proofs.NextVersions.{zeroes}
 use Rattle.group_ops.proofs.NoClears.{clears}
@@ -32,7 +32,7 @@ clear_cases (Vgreduce vg pv) before after changes = inr (changes.0, refl)
 clear_cases (Vgremove vg) before after changes = absurd (let e : ◌≡◌ {A = Option Version} (Some after) None = changes.1 in cc)
 clear_cases command before after changes = inl refl
 
-module _ (scans : RepairedScans) (g : Given) (well : Bool) (start ended : Told) (c : ClearsLine g well start ended) (group : Group) (made : (change scans g Done start c.made c.line refl).group ≡ Some group) where
+module _ (scans : RepairedScans) (g : Given) (well : Bool) (start ended : Record) (c : ClearsLine g well start ended) (group : Group) (made : (change scans g Done start c.made c.line refl).group ≡ Some group) where
   abbrev version : Option Version
   version = next scans g Done start c.made c.line refl refl group made
 

@@ -9,7 +9,7 @@ use Rattle.disk_model.proofs.SectorImages.{leaves_by_images}
 use Rattle.disk_model.specs.Durability.{IsBase}
 use Rattle.disk_model.specs.Moments.{EveryImageSince, at_moment}
 use Rattle.disk_model.specs.Record.{IsRecord}
-use Rattle.disk_model.specs.Steps.{Image, Step, Told}
+use Rattle.disk_model.specs.Steps.{Image, Step, Record}
 use Rattle.meta_model.specs.declared.group.Group.{Group}
 use Rattle.volume_view.specs.Places.{primary}
 use Rattle.volume_view.specs.View.{at_place}
@@ -39,7 +39,7 @@ use Rattle.line_history.proofs.Untouched.{places_kept, places_untouched}
 use Rattle.line_history.specs.LineRun.{ClearsLine, Given, RunsLine, Writing, Done, batches_in, clears_in}
 
 -- of batches that were all written less may be said
-less_said : (old new : Told) (batches : List (List Put)) (well : Bool) → WritesInTurn old batches well new → WritesInTurn old batches false new
+less_said : (old new : Record) (batches : List (List Put)) (well : Bool) → WritesInTurn old batches well new → WritesInTurn old batches false new
 less_said old new batches well w = record {
   since = w.since;
   steps = w.steps;
@@ -57,7 +57,7 @@ none_behind : (first more : List (List Put)) → first ++ more ≡ [] → more �
 none_behind [] more is = is
 none_behind (batch ∷ first) more is = cc
 
-module _ (scans : RepairedScans) (g : Given) (well : Bool) (start ended : Told) (c : ClearsLine g well start ended) where
+module _ (scans : RepairedScans) (g : Given) (well : Bool) (start ended : Record) (c : ClearsLine g well start ended) where
   -- the image with all batches of the line
   abbrev pub made_image : Image
   made_image = with_batches (batches_in g) (zeroed_base g)

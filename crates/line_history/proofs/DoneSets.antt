@@ -9,7 +9,7 @@ use Rattle.command_table.specs.declared.command.Command.TheVariants.{Vgremove}
 use Rattle.disk_model.specs.Moments.{at_moment}
 use Rattle.disk_model.specs.CrashValues.{IsImage}
 use Rattle.disk_model.specs.Durability.{IsBase}
-use Rattle.disk_model.specs.Steps.{Image, Told}
+use Rattle.disk_model.specs.Steps.{Image, Record}
 use Rattle.meta_model.specs.declared.group.Group.{Group}
 use Rattle.disk_batch.specs.InTurn.{HasFirstBatches, Put, with_batches}
 use Rattle.vg_scan.specs.Scans.{IsScanOf}
@@ -37,12 +37,12 @@ use Rattle.line_history.specs.Histories.{commits_in}
 use Rattle.line_history.specs.LineRun.{ClearsLine, Done, Given, batches_in, clears_in}
 
 -- what is told at the last moment is all
-last_told : (told : Told) → at_moment (length told.steps) told ≡ told
+last_told : (told : Record) → at_moment (length told.steps) told ≡ told
 last_told told =
     let e : length told.steps - length told.steps ≡ 0 = omega arith in
     ap (λ (k : ℕ). record { opened = told.opened; steps = drop k told.steps }) e
 
-module _ (scans : RepairedScans) (finds_each : EachSetFinds) (removed_each : EachSetRemoved) (one : ScansAreOne) (g : Given) (start ended : Told) (c : ClearsLine g true start ended) where
+module _ (scans : RepairedScans) (finds_each : EachSetFinds) (removed_each : EachSetRemoved) (one : ScansAreOne) (g : Given) (start ended : Record) (c : ClearsLine g true start ended) where
   abbrev state : GroupState
   state = state_in (repaired_of g.found) g.names g.backup
 
@@ -98,7 +98,7 @@ module _ (scans : RepairedScans) (finds_each : EachSetFinds) (removed_each : Eac
 
 -- ---- while disks are cleared, or where that failed
 
-module _ (scans : RepairedScans) (finds_members : EachMemberFinds) (one : ScansAreOne) (g : Given) (well : Bool) (start ended : Told) (c : ClearsLine g well start ended) where
+module _ (scans : RepairedScans) (finds_members : EachMemberFinds) (one : ScansAreOne) (g : Given) (well : Bool) (start ended : Record) (c : ClearsLine g well start ended) where
   abbrev now_change : Change
   now_change = change_of (state_in (repaired_of g.found) g.names g.backup) g.line g.clock g.given
 
@@ -111,7 +111,7 @@ module _ (scans : RepairedScans) (finds_members : EachMemberFinds) (one : ScansA
       of_group : (group : Group) → now_change.group ≡ Some group → MembersAgree g.sizes ended
       of_group group is image shown version finds some other scan members there =
           let way : HasFirstBatches (clears_in g) (with_batches (batches_in g) (zeroed_base g)) image =
-          clearing scans g well start ended c (length ended.steps) (more scans g well start ended c) (omega arith) image (subst (λ (told : Told). IsImage told image) (sym (last_told ended)) shown)
+          clearing scans g well start ended c (length ended.steps) (more scans g well start ended c) (omega arith) image (subst (λ (told : Record). IsImage told image) (sym (last_told ended)) shown)
           in
           let next : Version = version_of group now_change in
           let found : FindsVersion g.sizes image none_out (Some next) =

@@ -46,7 +46,7 @@ use Rattle.image_scans.proofs.CommitLine.{all_written, can, copy, disk_reads, en
 use Rattle.image_scans.proofs.CommitOnTheWay.{off_disk}
 use Rattle.image_scans.proofs.DiskAgain.{DiskAgain}
 use Rattle.image_scans.proofs.FoundAreas.{entry_kept, of_held}
-use Rattle.image_scans.proofs.Given.{IsNone, PvGives, pv_weaker}
+use Rattle.image_scans.proofs.AreaReadings.{IsNone, PvGives, pv_weaker}
 use Rattle.image_scans.proofs.Lines.{LineMakes, line_makes, makes_nothing, makes_pv, makes_version}
 use Rattle.image_scans.specs.Laws.{CanCarryOut}
 use Rattle.repair_scans.proofs.RepairEnd.{OneReading}
@@ -132,7 +132,7 @@ module _ (base : Image) (sizes : List ℕ) (found : Found) (names : List (List �
 
         gives : PvGives (GivesOnly group) again.read.pv
         gives =
-            pv_only text group copy_is k base committed (lists group) (λ id r. false) new disk.contents again.there.contents again.there.sectors reading.pv again.read.pv reads.pv_xl again.again again.areas_xl again.is.contents again.is.pv_xl
+            pv_only text group copy_is k base committed (lists group) (λ id r. false) new disk.contents again.there.contents again.there.sectors reading.pv again.read.pv reads.pv_is again.again again.areas_is again.is.contents again.is.pv_is
             (recursion_from_All (IsShown text k committed) (areas_on disk.contents) shown_on)
 
         uncleared : set.contains change.cleared k ≡ false
@@ -202,7 +202,7 @@ members_find one_reading base image sizes found names backup line now given grou
 
     are_members : (k : ℕ) → k < length found.disks → set.contains some.unread k ≡ false → set.contains (set_of change.disk_of) k ≡ true
     are_members k within read =
-        let many : length found.disks ≡ length sizes = sym (length-map found.disks (λ (d : Disk). d.sectors)) ∙ ap (λ (l : List ℕ). length l) p.scan.are.sizes_xl in
+        let many : length found.disks ≡ length sizes = sym (length-map found.disks (λ (d : Disk). d.sectors)) ∙ ap (λ (l : List ℕ). length l) p.scan.are.sizes_is in
         member_there change.disk_of k (members k (omega (arith, within, many)) read)
 
     by : LineMakes found (state_in found names backup) change → other ≡ group

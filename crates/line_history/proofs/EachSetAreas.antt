@@ -10,8 +10,8 @@ use Rattle.disk_contents.specs.declared.contents.PvFound.{PvFound}
 use Rattle.disk_contents.specs.declared.contents.PvFound.TheVariants.{NoLabel, NoHeader, Whole}
 use Rattle.mda_header.proofs.OneEntry.{one_entry}
 use Rattle.mda_header.specs.Header.{IsEntry}
-use Rattle.mda_header.specs.declared.entry.Entry.{Entry}
-use Rattle.mda_header.specs.declared.entry.Entry.TheVariants.{Ignored, Nothing, Text, Refused as RefusedFor}
+use Rattle.mda_header.specs.declared.entry.HeaderEntry.{HeaderEntry}
+use Rattle.mda_header.specs.declared.entry.HeaderEntry.TheVariants.{Ignored, Nothing, Text, Refused as RefusedFor}
 use Rattle.mda_header.specs.declared.header.Locn.{Locn}
 use Rattle.mda_ring.proofs.TextBytes.{without_zero-zero}
 use Rattle.mda_ring.specs.Texts.{without_zero}
@@ -25,7 +25,7 @@ use Rattle.vg_found.specs.Disks.{areas_on, held_area, held_by}
 use Rattle.vg_scan.specs.Readings.{AreAreaReadings, IsAreaReading, IsContents, IsGiven, IsPvReading}
 use Rattle.vg_scan.specs.Texts.{IsCopyOf, IsStored, stored_bytes}
 use Rattle.image_scans.proofs.Again.{AreasAgain, GivesAgain, PvAgain}
-use Rattle.image_scans.proofs.Given.{AreasGive, CopyHas, GivenHas, PvGives}
+use Rattle.image_scans.proofs.AreaReadings.{AreasGive, CopyHas, GivenHas, PvGives}
 use Rattle.image_scans.proofs.SettledBase.{one_copy}
 
 -- a copy of this group
@@ -61,7 +61,7 @@ module _ (text : List ℕ) (group : Group) (copy : IsCopyOf text group []) where
   of_stored : (locn : Locn) (bytes : List ℕ) (given : AreaReading) → IsStored locn bytes given → bytes ≡ stored text → GivesOnly group given
   of_stored locn bytes HoldsNone is shown = tt
   of_stored locn bytes (Copy other others passed) is shown =
-      let same : others ≡ text = is.0.text_xl ∙ ap without_zero shown ∙ without_zero-zero text in
+      let same : others ≡ text = is.0.text_is ∙ ap without_zero shown ∙ without_zero-zero text in
       one_copy text other group passed [] (subst (λ (t : List ℕ). IsCopyOf t other passed) same is.1) copy
   of_stored locn bytes (Refused why) is shown = tt
 
@@ -77,7 +77,7 @@ module _ (text : List ℕ) (group : Group) (copy : IsCopyOf text group []) where
         subst (λ (s : List ℕ). IsEntry s found.area.offset found.area.size (Text locn)) first (subst (λ (a : Area). IsEntry (sectors_of a last 0) a.start a.size (Text locn)) same shows.header)
         in
         let entry : found.entry ≡ Text locn = one_entry sector found.area.offset found.area.size found.entry (Text locn) is.1 names in
-        let given : IsGiven (last pv) own (Text locn) area.reading = subst (λ (e : Entry). IsGiven (last pv) own e area.reading) entry reads.given in
+        let given : IsGiven (last pv) own (Text locn) area.reading = subst (λ (e : HeaderEntry). IsGiven (last pv) own e area.reading) entry reads.given in
         let bytes : stored_bytes (last pv) own locn ≡ stored text = ap (λ (a : Area). stored_bytes (last a.pv) a locn) (sym same) ∙ shows.ring in
         subst (GivenHas (GivesOnly group)) (sym given.1) (of_stored locn (stored_bytes (last pv) own locn) given.0 given.2 bytes)
 
@@ -89,7 +89,7 @@ module _ (text : List ℕ) (group : Group) (copy : IsCopyOf text group []) where
           of_held : (o : Option Locn) → ShowsBy (new_reading text) last (area_on pv before.area, o) → GivenHas (GivesOnly group) area.reading
           of_held o shown = of_shown found area (area_on pv before.area, o) is reads (ap (area_on pv) (sym same)) shown
 
-          by : (entry : Entry) → IsGiven (base pv) (area_on pv before.area) entry old.reading → ((held : Area × Option Locn) → held_by (area_on pv before.area) entry ≡ Some held → ShowsBy (new_reading text) last held)
+          by : (entry : HeaderEntry) → IsGiven (base pv) (area_on pv before.area) entry old.reading → ((held : Area × Option Locn) → held_by (area_on pv before.area) entry ≡ Some held → ShowsBy (new_reading text) last held)
               → GivenHas (GivesOnly group) area.reading
           by Ignored given all =
               let none : area.reading ≡ None = subst (λ (o : Option AreaReading). GivesAgain new may bare o area.reading) given again in subst (GivenHas (GivesOnly group)) (sym none) tt

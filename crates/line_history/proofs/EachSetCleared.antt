@@ -20,7 +20,7 @@ use Rattle.change_batches.specs.Laws.{ClearsImages, ShowsEntries}
 use Rattle.image_scans.proofs.ClearedAgain.{any_bare, any_pv, disk_cleared}
 use Rattle.image_scans.proofs.CommitLine.{all_written}
 use Rattle.image_scans.proofs.DiskAgain.{DiskAgain}
-use Rattle.image_scans.proofs.Given.{IsNone, pv_weaker}
+use Rattle.image_scans.proofs.AreaReadings.{IsNone, pv_weaker}
 use Rattle.image_scans.proofs.RemovalEnds.{IsEmptied, disk_emptied, pv_emptied}
 use Rattle.line_history.proofs.EachSetDisks.{OneRead, read_again}
 
@@ -48,4 +48,4 @@ module _ (disks : List Disk) (areas : List (Area × Option Locn)) (scanned : Are
   cleared_gives P none is_read =
       read_again pv (last pv) P (λ id. false) any_bare new disk reading again is_read
       (pv_weaker IsNone P (λ r is. subst P (sym is) none) again.read.pv
-      (pv_emptied new pv (base pv) (last pv) again.there.sectors disk.contents again.there.contents reading.pv again.read.pv reads.pv_xl again.is.pv_xl again.is.contents again.areas_xl again.again emptied))
+      (pv_emptied new pv (base pv) (last pv) again.there.sectors disk.contents again.there.contents reading.pv again.read.pv reads.pv_is again.is.pv_is again.is.contents again.areas_is again.again emptied))

@@ -41,7 +41,7 @@ use Rattle.group_ops.specs.Laws.{state_in}
 use Rattle.group_ops.specs.Planning.{IsBackupOf, IsPlanned, asks_of, change_of, refusal_of}
 use Rattle.change_batches.proofs.DiskSets.{of_set}
 use Rattle.image_scans.proofs.CommitLine.{settled}
-use Rattle.image_scans.proofs.Given.{IsNone, IsSettled, PvGives, pv_weaker}
+use Rattle.image_scans.proofs.AreaReadings.{IsNone, IsSettled, PvGives, pv_weaker}
 use Rattle.image_scans.proofs.ReadingShapes.{gives_at, gives_on}
 use Rattle.image_scans.proofs.RemovalEnds.{disk_among}
 use Rattle.image_scans.proofs.SettledBase.{IsSettledScan, settled_none, settled_some}
@@ -95,15 +95,15 @@ module _ (found : Found) (names : List (List ℕ)) (backup : Option Backup) (sha
       → LosesNone (change_of state (record { number = number; id = id; command = command }) now given)
   next_loses number id command now given planned next takes passes =
       let made = commits_next state number id command now given planned next takes passes in
-      with_front (change_of state (record { number = number; id = id; command = command }) now given) [] (ap (λ (c : Change). c.disk_of) made.change_xl ∙ sym (append_nil found.disk_of))
+      with_front (change_of state (record { number = number; id = id; command = command }) now given) [] (ap (λ (c : Change). c.disk_of) made.change_is ∙ sym (append_nil found.disk_of))
 
   -- where one disk leaves, it is cleared
   leaves : (change : Change) (now : ℕ) → LeavesNext state change now → LosesNone change
   leaves change now left k header at off uncleared =
       apart_unlisted k header at
       (both_apart k found.disk_of left.number
-      (absent set.empty (remove found.disk_of left.number) k (subst (λ (c : Change). set.contains (set_of c.disk_of) k ≡ false) left.change_xl off)).1
-      (absent set.empty (slice_index found.disk_of left.number ∷ []) k (subst (λ (c : Change). set.contains c.cleared k ≡ false) left.change_xl uncleared)).1.0)
+      (absent set.empty (remove found.disk_of left.number) k (subst (λ (c : Change). set.contains (set_of c.disk_of) k ≡ false) left.change_is off)).1
+      (absent set.empty (slice_index found.disk_of left.number ∷ []) k (subst (λ (c : Change). set.contains c.cleared k ≡ false) left.change_is uncleared)).1.0)
 
   -- where the group of a text takes its place, that lists the same ids
   restored : (vg : List ℕ) (now : ℕ) → first_refusal (vgcfgrestore_rows state vg now) ≡ None → Restores state (vgcfgrestore_change state) now → LosesNone (vgcfgrestore_change state)
@@ -113,7 +113,7 @@ module _ (found : Found) (names : List (List ℕ)) (backup : Option Backup) (sha
       (λ listed.
       let said : lists made.said header.id ≡ true = still_listed state vg now made passes header.id (subst (λ (g : Group). lists g header.id ≡ true) (sym own) listed) in
       true≢false
-      (sym (disk_among made.said found.disks (disks_of made.said found.disks) refl k header at said) ∙ subst (λ (c : Change). set.contains (set_of c.disk_of) k ≡ false) made.change_xl off))
+      (sym (disk_among made.said found.disks (disks_of made.said found.disks) refl k header at said) ∙ subst (λ (c : Change). set.contains (set_of c.disk_of) k ≡ false) made.change_is off))
 
   loses_by : (number : ℕ) (id : Option (List ℕ)) (command : Command) (now : ℕ) (given : List Part) → IsPlanned id command → IsBackupOf command backup → Takes (asks_of state (record { number = number; id = id; command = command })) given → refusal_of state (record { number = number; id = id; command = command }) now given ≡ None
       → (group : Group) → (change_of state (record { number = number; id = id; command = command }) now given).group ≡ Some group
@@ -155,7 +155,7 @@ module _ (base : Image) (sizes : List ℕ) (found : Found) (names : List (List �
   module _ (none : (old : Group) → found.group ≡ Some old → (header : PvHeader) → disk_with found.disks header.id ≡ k → lists old header.id ≡ false) where
     unlisted : (old : Group) → found.group ≡ Some old → is_listed old reading ≡ false
     unlisted old there =
-        unlisted_by old k reading.sectors (base k) disk.contents reading.pv reads.pv_xl (λ header has. none old there header (disk_with_own 0 found.disks p.shape.differ k disk header at_disk has))
+        unlisted_by old k reading.sectors (base k) disk.contents reading.pv reads.pv_is (λ header has. none old there header (disk_with_own 0 found.disks p.shape.differ k disk header at_disk has))
 
     by : IsSettledScan p.scan.readings found → PvGives IsNone reading.pv
     by (settled_none nothing no_group given) = gives_at IsNone p.scan.readings k reading given at_reading

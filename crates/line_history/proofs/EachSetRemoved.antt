@@ -32,7 +32,7 @@ use Rattle.change_batches.proofs.ClearedAreas.{state_scanned}
 use Rattle.vg_change.specs.LineBatches.{clears_of}
 use Rattle.image_scans.proofs.ClearedAgain.{others_same}
 use Rattle.image_scans.proofs.CommitLine.{all_written, is_state, settled, shown}
-use Rattle.image_scans.proofs.Given.{IsNone, pv_weaker}
+use Rattle.image_scans.proofs.AreaReadings.{IsNone, pv_weaker}
 use Rattle.image_scans.proofs.SettledBase.{IsSettledScan, settled_none, settled_some}
 use Rattle.image_scans.specs.Laws.{CanCarryOut}
 use Rattle.repair_scans.proofs.RepairEnd.{OneReading}

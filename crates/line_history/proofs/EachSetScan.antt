@@ -15,7 +15,7 @@ use Rattle.vg_scan.specs.Readings.{IsDiskReading}
 use Rattle.vg_scan.specs.Scans.{IsFoundBy, IsScanOf}
 use Rattle.image_scans.proofs.CommitScans.{none_unread}
 use Rattle.image_scans.proofs.Decided.{IsFoundWith, found_parts}
-use Rattle.image_scans.proofs.Given.{CopyHas, DisksGive, best_copy_has}
+use Rattle.image_scans.proofs.AreaReadings.{CopyHas, DisksGive, best_copy_has}
 use Rattle.repair_scans.proofs.RepairEnd.{OneReading}
 use Rattle.line_history.proofs.EachSetDisks.{OneRead, SetRead, set_read}
 
@@ -56,5 +56,5 @@ module _ (base : Image) (sizes : List ℕ) (found : Found) (whole : IsWhole foun
   pub set_finds : OneReading → (some : Found) (other : Group) → EachGives some.unread → IsScanOf image sizes some → some.group ≡ Some other → P other
   set_finds one_reading some other each own finds =
       let s : SetRead image some.unread 0 (GivesSuch P) found.disks = disks some.unread each in
-      let same : s.read ≡ own.readings = one_reading image sizes some.unread s.there some.disks s.read own.readings (record { sizes_xl = s.sizes_xl ∙ scan.are.sizes_xl; each = s.are }) own.are in
+      let same : s.read ≡ own.readings = one_reading image sizes some.unread s.there some.disks s.read own.readings (record { sizes_is = s.sizes_is ∙ scan.are.sizes_is; each = s.are }) own.are in
       found_such P own.readings some other (subst (DisksGive (λ disk. GivesSuch P)) same s.gives) finds (decide_scan own.readings) refl own.answer

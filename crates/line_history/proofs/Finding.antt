@@ -5,7 +5,7 @@ use Rattle.sector_base.specs.declared.places.At.{At}
 use Rattle.disk_batch.specs.InTurn.{HasFirstBatches, with_batches}
 use Rattle.disk_model.specs.CrashValues.{IsImage}
 use Rattle.disk_model.specs.Durability.{IsBase}
-use Rattle.disk_model.specs.Steps.{Image, IsSame, Told}
+use Rattle.disk_model.specs.Steps.{Image, IsSame, Record}
 use Rattle.image_scans.proofs.CommitLine.{all_written}
 use Rattle.image_scans.proofs.LineScans.{base_scans}
 use Rattle.image_scans.proofs.NoWrites.{place_kept}
@@ -30,7 +30,7 @@ pub one_image : (a b : Image) → IsSame a b → a ≡ b
 one_image a b same = fun_ext (λ pv. fun_ext (λ sector. same pv sector))
 
 -- where each sector has one possible value an image is that
-pub image_of_base : (told : Told) (base image : Image) → IsBase told base → IsImage told image → image ≡ base
+pub image_of_base : (told : Record) (base image : Image) → IsBase told base → IsImage told image → image ≡ base
 image_of_base told base image base_is is = one_image image base (λ pv sector. let left = is pv sector in (base_is pv sector).each left.0 (image pv sector) left.1)
 
 -- the places of the volumes of the group that was found have what they have in the base
@@ -46,7 +46,7 @@ repaired_base g = with_batches (repairs_in g) g.base
 abbrev pub zeroed_base : Given → Image
 zeroed_base g = with_batches (zeros_in g) (repaired_base g)
 
-module _ (scans : RepairedScans) (g : Given) (stage : Stage) (start ended : Told) (r : RunsLine g stage start ended) where
+module _ (scans : RepairedScans) (g : Given) (stage : Stage) (start ended : Record) (r : RunsLine g stage start ended) where
   pub found_before : FindsVersion g.sizes g.base none_out (version_in g.found)
   found_before = base_scans g.base g.sizes g.found r.given.scan r.given.whole
 

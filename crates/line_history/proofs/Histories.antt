@@ -13,7 +13,7 @@ use Rattle.lvm_script.specs.declared.line.Line.{Line}
 use Rattle.disk_model.proofs.StepsSince.{steps_joined}
 use Rattle.disk_model.specs.Order.{WritesNothing}
 use Rattle.disk_model.specs.Since.{writes_submitted}
-use Rattle.disk_model.specs.Steps.{Told, steps_on}
+use Rattle.disk_model.specs.Steps.{Record, steps_on}
 use Rattle.meta_model.specs.declared.group.Group.{Group}
 use Rattle.extent_alloc.specs.declared.part.Part.{Part}
 use Rattle.disk_batch.specs.InTurn.{Put, WritesInTurn}
@@ -27,7 +27,7 @@ use Rattle.vg_repair.specs.Repaired.{repaired_of}
 use Rattle.image_scans.specs.Versions.{version_in}
 use Rattle.repair_scans.specs.Laws.{RepairedScans}
 use Rattle.volume_history.proofs.SingleLines.{done_commit, done_create, failed_create, fenced_commit, made_commit, no_line, undone_line}
-use Rattle.volume_history.specs.Chronicles.{Entry, Origin, pending}
+use Rattle.volume_history.specs.Chronicles.{ChronicleEntry, Origin, pending}
 use Rattle.volume_history.specs.Laws.{Tells}
 use Rattle.volume_history.specs.Commands.{created_disk, is_created_at, is_data, is_good, is_wait, may_say, removes}
 use Rattle.volume_history.specs.Runs.{journal_of, lines_of}
@@ -90,12 +90,12 @@ keeps_group state line now given group made = by line.command refl
 creates_no_disk : (o : Origin) (line : Line) → created_disk o.names line.command ≡ None → LeavesDisk o line
 creates_no_disk o line none disk created = absurd (let e : None ≡ Some disk = sym none ∙ created in cc)
 
-module _ (scans : RepairedScans) (g : Given) (start ended : Told) where
+module _ (scans : RepairedScans) (g : Given) (start ended : Record) where
   -- no command is pending at its end: its history begins at the hand-in, or at the end of the repair
-  handed_so : (es : List Entry) → Tells (origin_of g.handed (length g.handed.steps) g.sizes g.names g.clock (version_in g.found) ended) es → is_some (pending es) ≡ false → HasHistoryOf g ended (journal_of es) (lines_of es es)
+  handed_so : (es : List ChronicleEntry) → Tells (origin_of g.handed (length g.handed.steps) g.sizes g.names g.clock (version_in g.found) ended) es → is_some (pending es) ≡ false → HasHistoryOf g ended (journal_of es) (lines_of es es)
   handed_so es = none_pending g.handed g.base g.sizes g.names g.clock ended (length g.handed.steps) (version_in g.found) es
 
-  repaired_so : (es : List Entry) → Tells (origin_of g.handed (length start.steps) g.sizes g.names g.clock (version_in g.found) ended) es → is_some (pending es) ≡ false → HasHistoryOf g ended (journal_of es) (lines_of es es)
+  repaired_so : (es : List ChronicleEntry) → Tells (origin_of g.handed (length start.steps) g.sizes g.names g.clock (version_in g.found) ended) es → is_some (pending es) ≡ false → HasHistoryOf g ended (journal_of es) (lines_of es es)
   repaired_so es = none_pending g.handed g.base g.sizes g.names g.clock ended (length start.steps) (version_in g.found) es
 
   -- ---- its line wasn't begun
@@ -217,7 +217,7 @@ created_clears names (Vgreduce vg pv) disk created = cc
 created_clears names (Vgremove vg) disk created = cc
 created_clears names command disk created = refl
 
-module _ (scans : RepairedScans) (g : Given) (start ended : Told) where
+module _ (scans : RepairedScans) (g : Given) (start ended : Record) where
   -- the history of a line that was answered so, where it took place at this moment
   abbrev TookPlace : Option ℕ → Answer → Type 0
   TookPlace took said = HasHistoryOf g ended (journal_of_line (length start.steps) took (length ended.steps)) ((g.line, Some said) ∷ [])

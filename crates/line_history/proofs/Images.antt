@@ -10,34 +10,34 @@ use Rattle.disk_model.proofs.StepsSince.{steps_joined}
 use Rattle.disk_model.specs.Durability.{IsBase}
 use Rattle.disk_model.specs.Moments.{EveryImageSince}
 use Rattle.disk_model.specs.Order.{WritesNothing}
-use Rattle.disk_model.specs.Steps.{Image, IsSame, Step, Told, steps_on}
+use Rattle.disk_model.specs.Steps.{Image, IsSame, Step, Record, steps_on}
 use Rattle.line_history.proofs.Seen.{steps_more}
 use Rattle.line_history.specs.LineRun.{Given, RunsLine, Stage, Opened, Repairing, Repaired, Zeroing, Writing, Done, batches_if, batches_in, is_done, is_repaired, is_zeroed, repair_begun, repairs_in, zeros_begun, zeros_in}
 
 -- what every image had since a moment, and has from a later record on
-pub joined : (old new : Told) (newer : List Step) → new ≡ steps_on newer old → (from : ℕ) (P : Image → Type 0) → from ≤ length old.steps → EveryImageSince from old P → EveryImageSince (length old.steps) new P
+pub joined : (old new : Record) (newer : List Step) → new ≡ steps_on newer old → (from : ℕ) (P : Image → Type 0) → from ≤ length old.steps → EveryImageSince from old P → EveryImageSince (length old.steps) new P
     → EveryImageSince from new P
 joined old new newer is from P le first second =
-    subst (λ (t : Told). EveryImageSince from t P) (sym is)
-    (since_join old.opened old.steps newer from P le first (subst (λ (t : Told). EveryImageSince (length old.steps) t P) is second))
+    subst (λ (t : Record). EveryImageSince from t P) (sym is)
+    (since_join old.opened old.steps newer from P le first (subst (λ (t : Record). EveryImageSince (length old.steps) t P) is second))
 
 -- where nothing was written each sector keeps its one value
-module _ (old new : Told) (since : List Step) (is : new ≡ steps_on since old) (nothing : WritesNothing since) (base : Image) (base_is : IsBase old base) where
+module _ (old new : Record) (since : List Step) (is : new ≡ steps_on since old) (nothing : WritesNothing since) (base : Image) (base_is : IsBase old base) where
   abbrev Stays : ℕ → ℕ → List ℕ → Type 0
   Stays pv sector value = value ≡ base pv sector
 
   pub quiet_images : EveryImageSince (length old.steps) new (λ image. IsSame image base)
-  quiet_images = subst (λ (t : Told). EveryImageSince (length old.steps) t (λ image. IsSame image base)) (sym is) (every_moment Stays old.opened old.steps base_is since (writes_nothing_brings Stays since nothing))
+  quiet_images = subst (λ (t : Record). EveryImageSince (length old.steps) t (λ image. IsSame image base)) (sym is) (every_moment Stays old.opened old.steps base_is since (writes_nothing_brings Stays since nothing))
 
   pub quiet_base : IsBase new base
-  quiet_base = subst (λ (t : Told). IsBase t base) (sym is) (only_leaves Stays old.opened old.steps base_is since (writes_nothing_brings Stays since nothing))
+  quiet_base = subst (λ (t : Record). IsBase t base) (sym is) (only_leaves Stays old.opened old.steps base_is since (writes_nothing_brings Stays since nothing))
 
 -- batches that were begun, or none
 front_if : (begun : Bool) (batches : List (List Put)) (base image : Image) → HasFirstBatches (batches_if begun batches) base image → IsSame image base ⊎ (IsTrue begun × HasFirstBatches batches base image)
 front_if true batches base image has = inr (refl, has)
 front_if false batches base image has = inl (none_front base image has)
 
-module _ (g : Given) (stage : Stage) (start ended : Told) (r : RunsLine g stage start ended) where
+module _ (g : Given) (stage : Stage) (start ended : Record) (r : RunsLine g stage start ended) where
   -- an image up to the start: the base, or one on the way of the repair
   abbrev pub IsBefore : Image → Type 0
   IsBefore image = IsSame image g.base ⊎ (IsTrue (repair_begun stage) × HasFirstBatches (repairs_in g) g.base image)
@@ -93,7 +93,7 @@ none_zeroed Writing e = cc
 none_zeroed Done e = cc
 
 -- where all was repaired
-module _ (g : Given) (stage : Stage) (start ended : Told) (r : RunsLine g stage start ended) (repaired : is_repaired stage ≡ true) where
+module _ (g : Given) (stage : Stage) (start ended : Record) (r : RunsLine g stage start ended) (repaired : is_repaired stage ≡ true) where
   abbrev repaired_image : Image
   repaired_image = with_batches (repairs_in g) g.base
 
@@ -160,7 +160,7 @@ module _ (g : Given) (stage : Stage) (start ended : Told) (r : RunsLine g stage 
   -- the run ended before all were written
   pub until_end : (P : Image → Type 0) → is_zeroed stage ≡ false → ((image : Image) → IsZeroing g stage start ended r image → P image) → EveryImageSince (length start.steps) ended P
   until_end P unzeroed before =
-      subst (λ (t : Told). EveryImageSince (length start.steps) t P) (sym (r.unzeroed unzeroed)) (since_weaken r.zeroed (length start.steps) (length start.steps) (IsZeroing g stage start ended r) P (omega arith) before during)
+      subst (λ (t : Record). EveryImageSince (length start.steps) t P) (sym (r.unzeroed unzeroed)) (since_weaken r.zeroed (length start.steps) (length start.steps) (IsZeroing g stage start ended r) P (omega arith) before during)
 
   -- the steps since the start
   pub since_start : (since : List Step) × (ended ≡ steps_on since start)

@@ -122,7 +122,7 @@ extend_kind state vg pvs now command (Some group) none = commits_group (extended
 next_kind : (state : GroupState) (number : ℕ) (id : Option (List ℕ)) (command : Command) (now : ℕ) (given : List Part) → IsPlanned id command → is_next command ≡ true
     → Takes (asks_of state (record { number = number; id = id; command = command })) given → refusal_of state (record { number = number; id = id; command = command }) now given ≡ None → Kind state.names command (change_of state (record { number = number; id = id; command = command }) now given)
 next_kind state number id command now given planned is takes none =
-    let made = commits_next state number id command now given planned is takes none in commits_group made.next (ap (λ (c : Change). c.group) made.change_xl)
+    let made = commits_next state number id command now given planned is takes none in commits_group made.next (ap (λ (c : Change). c.group) made.change_is)
 
 kind_by : (state : GroupState) → length state.names ≡ length state.disks → ((k : ℕ) (disk : Disk) → slice_get state.disks k ≡ Some disk → IsDisk k disk) → (number : ℕ) (id : Option (List ℕ)) (command : Command) (now : ℕ) (given : List Part) → IsPlanned id command → IsBackupOf command state.backup
     → Takes (asks_of state (record { number = number; id = id; command = command })) given → refusal_of state (record { number = number; id = id; command = command }) now given ≡ None → Kind state.names command (change_of state (record { number = number; id = id; command = command }) now given)
@@ -130,10 +130,10 @@ kind_by state many stand number id (Pvcreate pv copies) now given planned gives_
 kind_by state many stand number id (Vgcreate vg extent_size pvs) now given planned gives_back takes none = commits_group (extended (empty_group (unwrap_or id []) vg extent_size) (added_of state pvs)) refl
 kind_by state many stand number id (Vgextend vg pvs) now given planned gives_back takes none = extend_kind state vg pvs now (Vgextend vg pvs) state.group none
 kind_by state many stand number id (Vgreduce vg pv) now given planned gives_back takes none =
-    let left = leaves_next state vg pv now none in commits_group (without_pv left.old left.number) (ap (λ (c : Change). c.group) left.change_xl)
+    let left = leaves_next state vg pv now none in commits_group (without_pv left.old left.number) (ap (λ (c : Change). c.group) left.change_is)
 kind_by state many stand number id (Vgremove vg) now given planned gives_back takes none = removes_group vg refl refl refl refl
 kind_by state many stand number id (Vgcfgrestore vg text) now given planned gives_back takes none =
-    let made = restores state vg now (some_backup vg text state.backup gives_back) none in commits_group (restored_group made.old made.said) (ap (λ (c : Change). c.group) made.change_xl)
+    let made = restores state vg now (some_backup vg text state.backup gives_back) none in commits_group (restored_group made.old made.said) (ap (λ (c : Change). c.group) made.change_is)
 kind_by state many stand number id (Vgrename vg new) now given planned gives_back takes none = next_kind state number id (Vgrename vg new) now given planned refl takes none
 kind_by state many stand number id (Lvcreate new) now given planned gives_back takes none = next_kind state number id (Lvcreate new) now given planned refl takes none
 kind_by state many stand number id (Lvextend path growth pvs) now given planned gives_back takes none = next_kind state number id (Lvextend path growth pvs) now given planned refl takes none

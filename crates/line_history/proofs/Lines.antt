@@ -9,7 +9,7 @@ use Rattle.disk_model.proofs.StepsSince.{steps_joined}
 use Rattle.disk_model.specs.CrashValues.{IsImage}
 use Rattle.disk_model.specs.Durability.{IsBase}
 use Rattle.disk_model.specs.Moments.{EveryImageSince, at_moment}
-use Rattle.disk_model.specs.Steps.{Image, Step, Told, now_after, steps_on}
+use Rattle.disk_model.specs.Steps.{Image, Step, Record, now_after, steps_on}
 use Rattle.meta_model.specs.declared.group.Group.{Group}
 use Rattle.disk_batch.specs.InTurn.{WritesInTurn, with_batches}
 use Rattle.vg_scan.specs.Scans.{IsScanOf}
@@ -30,7 +30,7 @@ use Rattle.volume_history.proofs.MadeVersions.{changes_commit, changes_make}
 use Rattle.volume_history.proofs.Reshaped.{zeroes_stand}
 use Rattle.volume_history.proofs.ZeroedVolume.{new_zeroes_stand}
 use Rattle.volume_history.specs.Candidates.{place_at}
-use Rattle.volume_history.proofs.Past.{now_before}
+use Rattle.volume_history.proofs.EarlierMoments.{now_before}
 use Rattle.volume_history.proofs.Phases.{finds_with}
 use Rattle.volume_history.specs.Chronicles.{Origin, is_number, left_out, now_at, origin_at, wrote_disk}
 use Rattle.volume_history.specs.Changing.{ChangesVolumes}
@@ -55,7 +55,7 @@ use Rattle.line_history.specs.LineRun.{Given, RunsLine, Stage, batches_in, is_do
 made_version : (change : Change) (group : Group) → change.group ≡ Some group → version_made change ≡ Some (version_of group change)
 made_version change group is = ap (λ (o : Option Group). version_made (record change { group = o })) is
 
-module _ (scans : RepairedScans) (g : Given) (stage : Stage) (start ended : Told) (r : RunsLine g stage start ended) where
+module _ (scans : RepairedScans) (g : Given) (stage : Stage) (start ended : Record) (r : RunsLine g stage start ended) where
   abbrev version : Option Version
   version = version_in g.found
 
@@ -74,7 +74,7 @@ module _ (scans : RepairedScans) (g : Given) (stage : Stage) (start ended : Told
     at_end : (m : ℕ) → length g.handed.steps ≤ m → m ≤ length ended.steps → (image : Image) → IsImage (at_moment m ended) image → IsBefore g stage start ended r image
     at_end m ge le image is =
         let same : ended ≡ start = at_once in
-        until_start m ge (subst (λ (t : Told). m ≤ length t.steps) same le) image (subst (λ (t : Told). IsImage (at_moment m t) image) same is)
+        until_start m ge (subst (λ (t : Record). m ≤ length t.steps) same le) image (subst (λ (t : Record). IsImage (at_moment m t) image) same is)
 
     pub is_end : ended ≡ steps_on (r.repair.since ++ r.since) g.handed
     is_end = at_once ∙ steps_joined g.handed r.opened start r.since r.repair.since r.opening r.repair.steps
@@ -129,7 +129,7 @@ module _ (scans : RepairedScans) (g : Given) (stage : Stage) (start ended : Told
     pub is_still : IsStill origin_repaired
     is_still =
         still g.handed start ended (r.repair.since ++ r.since) later is_start is_later r.record_is g.base (repaired_base g) r.given.base starts_at g.sizes g.names g.clock version
-        (λ m ge le image is. finds_before scans g stage start ended r image (until_start m ge le image (subst (λ (t : Told). IsImage t image) (moment_seen start ended later is_later m le) is)))
+        (λ m ge le image is. finds_before scans g stage start ended r image (until_start m ge le image (subst (λ (t : Record). IsImage t image) (moment_seen start ended later is_later m le) is)))
         (λ m ge le. untouched_by m (λ image is. all_kept m ge le image is))
         (finds_start scans g stage start ended r repaired)
 
@@ -158,7 +158,7 @@ module _ (scans : RepairedScans) (g : Given) (stage : Stage) (start ended : Told
         none_created = (commit_kind g.names g.line.command commits_it).1
 
       -- the line makes this version at a moment of a run that goes on so, if a read gave the base with all zeros then
-      module _ (told : Told) (m : ℕ) (next : Option Version) (creates_none : created_disk g.names g.line.command ≡ None) where
+      module _ (told : Record) (m : ℕ) (next : Option Version) (creates_none : created_disk g.names g.line.command ≡ None) where
         abbrev at : Origin
         at = origin_at m (origin_of g.handed (length start.steps) g.sizes g.names g.clock version told)
 
@@ -174,7 +174,7 @@ module _ (scans : RepairedScans) (g : Given) (stage : Stage) (start ended : Told
             scan = subst (λ (i : Image). IsScanOf i g.sizes (repaired_of g.found)) (sym now_there) (scan_zeroed scans g stage start ended r repaired zeros);
             left = λ pv within. none_unread (repaired_of g.found) (r.repaired_whole repaired) pv ∙ sym (none_left pv);
             whole = (r.repaired_whole repaired).there;
-            version_xl = same_version scans g stage start ended r repaired;
+            version_is = same_version scans g stage start ended r repaired;
           };
           given = g.given;
           backup = g.backup;
@@ -205,7 +205,7 @@ module _ (scans : RepairedScans) (g : Given) (stage : Stage) (start ended : Told
       pub before_commit : (m : ℕ) → length start.steps ≤ m → m ≤ length r.zeroed.steps → (image : Image) → IsImage (at_moment m ended) image → FindsVersion g.sizes image none_out version
       before_commit m ge le image is =
           finds_zeroing scans g stage start ended r repaired image
-          (during g stage start ended r repaired m ge le image (subst (λ (t : Told). IsImage t image) (moment_seen r.zeroed ended line.since line.steps m le) is))
+          (during g stage start ended r repaired m ge le image (subst (λ (t : Record). IsImage t image) (moment_seen r.zeroed ended line.since line.steps m le) is))
 
       -- one from then on is on the way of the commit
       pub way_at : (m : ℕ) → length r.zeroed.steps ≤ m → m ≤ length ended.steps → (image : Image) → IsImage (at_moment m ended) image → FindsOnTheWay g.sizes image (repaired_of g.found) change change.group
@@ -281,7 +281,7 @@ module _ (scans : RepairedScans) (g : Given) (stage : Stage) (start ended : Told
           still = is_still;
           from = begins;
           until = ends;
-          commits_xl = commits_it zeros group made;
+          commits_is = commits_it zeros group made;
           keeps = makes_version;
           zeroed = begins_zeroed;
           before = λ m ge lt image is. before_commit m ge (omega (arith, lt)) image is;

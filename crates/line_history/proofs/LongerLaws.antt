@@ -2,7 +2,7 @@
 use Rattle.std.proofs.Common.{◌≡◌, ◌≤◌, ◌<◌, ℕ, List, [], Option, refl, ⊎_elim, sym, ap, subst, arith}
 use Rattle.std.proofs.lemmas.Bool.{cases_lt}
 use Rattle.disk_model.specs.Moments.{at_moment}
-use Rattle.disk_model.specs.Steps.{Image, Step, Told, now_after, steps_on}
+use Rattle.disk_model.specs.Steps.{Image, Step, Record, now_after, steps_on}
 use Rattle.image_scans.specs.Versions.{FindsVersion, Version}
 use Rattle.lvm_script.specs.declared.line.Line.{Line}
 use Rattle.volume_history.proofs.Phases.{finds_with}
@@ -13,7 +13,7 @@ use Rattle.volume_history.specs.Quiet.{AllUntouched}
 use Rattle.volume_history.specs.Single.{AllFind, AllFindEither, CommitLaw, DoneLaw, IsStill, MadeLaw, StaysLaw, ZeroesStand, begun_entries, end_of, none_out}
 use Rattle.line_history.proofs.Seen.{moment_seen, steps_more}
 
-module _ (o : Origin) (ended : Told) (newer : List Step) (is : ended ≡ steps_on newer o.told) where
+module _ (o : Origin) (ended : Record) (newer : List Step) (is : ended ≡ steps_on newer o.told) where
   -- the same run, as more of it was told
   abbrev pub longer : Origin
   longer = record o { told = ended }
@@ -25,13 +25,13 @@ module _ (o : Origin) (ended : Told) (newer : List Step) (is : ended ≡ steps_o
   seen m le = moment_seen o.told ended newer is m le
 
   same_origin : (m : ℕ) → m ≤ end_of o → origin_at m o ≡ origin_at m longer
-  same_origin m le = ap (λ (told : Told). record o { told = told }) (sym (seen m le))
+  same_origin m le = ap (λ (told : Record). record o { told = told }) (sym (seen m le))
 
   pub same_now : (m : ℕ) → m ≤ end_of o → now_at o m ≡ now_at longer m
-  same_now m le = ap (λ (told : Told). now_after told.opened told.steps) (sym (seen m le))
+  same_now m le = ap (λ (told : Record). now_after told.opened told.steps) (sym (seen m le))
 
   -- what holds of each moment until then, and of each one behind it, holds of all
-  until_end : (P : Told → Type 0) (from : ℕ) → ((m : ℕ) → from ≤ m → m ≤ end_of o → P (at_moment m o.told)) → ((m : ℕ) → end_of o ≤ m → m ≤ end_of longer → P (at_moment m ended)) → (m : ℕ) → from ≤ m → m ≤ end_of longer → P (at_moment m ended)
+  until_end : (P : Record → Type 0) (from : ℕ) → ((m : ℕ) → from ≤ m → m ≤ end_of o → P (at_moment m o.told)) → ((m : ℕ) → end_of o ≤ m → m ≤ end_of longer → P (at_moment m ended)) → (m : ℕ) → from ≤ m → m ≤ end_of longer → P (at_moment m ended)
   until_end P from before behind m ge le =
       ⊎_elim
       (λ (after : end_of o < m). behind m (omega (arith, after)) le)
@@ -48,7 +48,7 @@ module _ (o : Origin) (ended : Told) (newer : List Step) (is : ended ≡ steps_o
       until = let a = still.until in let b = ends_later in omega (arith, a, b);
       before = λ m ge le. subst (AllFind o.sizes none_out o.version) (sym (seen m (let a = still.until in omega (arith, a, le)))) (still.before m ge le);
       untouched =
-          until_end (λ (told : Told). AllUntouched (now_at longer o.first) (volumes_of o.version) told) o.first
+          until_end (λ (told : Record). AllUntouched (now_at longer o.first) (volumes_of o.version) told) o.first
           (λ m ge le. subst (λ (i : Image). AllUntouched i (volumes_of o.version) (at_moment m o.told)) (same_now o.first begins) (still.untouched m ge le)) untouched;
       found = subst (λ (at : Origin). FindsNow at [] o.start o.version) (same_origin o.start still.until) still.found;
     }
@@ -66,9 +66,9 @@ module _ (o : Origin) (ended : Told) (newer : List Step) (is : ended ≡ steps_o
       still = still_longer law.still untouched;
       from = law.from;
       until = let a = law.until in let b = ends_later in omega (arith, a, b);
-      commits_xl = law.commits_xl;
+      commits_is = law.commits_is;
       keeps = law.keeps;
-      zeroed = until_end (λ (told : Told). ZeroesStand (record o { told = told }) line.command version) opened law.zeroed zeroed;
+      zeroed = until_end (λ (told : Record). ZeroesStand (record o { told = told }) line.command version) opened law.zeroed zeroed;
       before = λ m ge lt. subst (AllFind o.sizes none_out o.version) (sym (seen m (let a = law.until in omega (arith, a, lt)))) (law.before m ge lt);
       makes = subst (λ (at : Origin). Makes at (begun_entries o line) opened line version) (same_origin opened law.until) law.makes;
       between = until_end (AllFindEither o.sizes o.version version) opened law.between finds;

@@ -10,11 +10,11 @@ use Rattle.disk_model.specs.CrashValues.{IsImage}
 use Rattle.disk_model.specs.Durability.{IsBase}
 use Rattle.disk_model.specs.Moments.{at_moment}
 use Rattle.disk_model.specs.Order.{WritesNothing}
-use Rattle.disk_model.specs.Steps.{Image, Step, Told, steps_on}
+use Rattle.disk_model.specs.Steps.{Image, Step, Record, steps_on}
 use Rattle.image_scans.specs.Laws.{none_out}
 use Rattle.image_scans.specs.Versions.{FindsVersion}
 use Rattle.volume_history.proofs.SingleLines.{done_line, no_line, undone_line}
-use Rattle.volume_history.specs.Chronicles.{Entry, Origin, pending}
+use Rattle.volume_history.specs.Chronicles.{ChronicleEntry, Origin, pending}
 use Rattle.volume_history.proofs.CommandKinds.{quiet_command}
 use Rattle.volume_history.specs.Commands.{commits, is_created_at, is_data, is_good, may_say}
 use Rattle.volume_history.specs.Placed.{volumes_of}
@@ -31,14 +31,14 @@ use Rattle.line_history.proofs.Stays.{all_stay}
 use Rattle.line_history.proofs.Unwritten.{newest, none_written, nothing_first, nothing_newer, nothing_older}
 use Rattle.line_history.specs.Histories.{HasRunHistory, IsFineOrBad, LooksAlone, journal_of_line, took_if}
 
-module _ (handed : Told) (sizes : List ℕ) (names : List Word) (clock : ℕ) (start ended : Told) (l : LooksAlone handed sizes start ended) where
+module _ (handed : Record) (sizes : List ℕ) (names : List Word) (clock : ℕ) (start ended : Record) (l : LooksAlone handed sizes start ended) where
   all_steps : ended ≡ steps_on (l.since ++ l.first) handed
   all_steps = steps_joined handed start ended l.first l.since l.opening l.steps
 
   base_at : (m : ℕ) → length handed.steps ≤ m → m ≤ length ended.steps → IsBase (at_moment m ended) l.base
   base_at m ge le =
       let newer : List Step = part handed ended (l.since ++ l.first) all_steps m ge le in
-      subst (λ (t : Told). IsBase t l.base) (sym (told_then handed ended (l.since ++ l.first) all_steps m ge le))
+      subst (λ (t : Record). IsBase t l.base) (sym (told_then handed ended (l.since ++ l.first) all_steps m ge le))
       (quiet_base handed (steps_on newer handed) newer refl (nothing_older (length ended.steps - m) (l.since ++ l.first) l.nothing) l.base l.base_is)
 
   more : length handed.steps ≤ length ended.steps
@@ -51,7 +51,7 @@ module _ (handed : Told) (sizes : List ℕ) (names : List Word) (clock : ℕ) (s
   more_behind = steps_more start ended l.since l.steps
 
   start_base : IsBase start l.base
-  start_base = subst (λ (t : Told). IsBase t l.base) (sym l.opening) (quiet_base handed (steps_on l.first handed) l.first refl (nothing_first l.since l.first l.nothing) l.base l.base_is)
+  start_base = subst (λ (t : Record). IsBase t l.base) (sym l.opening) (quiet_base handed (steps_on l.first handed) l.first refl (nothing_first l.since l.first l.nothing) l.base l.base_is)
 
   finds_at : (m : ℕ) → length handed.steps ≤ m → m ≤ length ended.steps → (image : Image) → IsImage (at_moment m ended) image → FindsVersion sizes image none_out l.version
   finds_at m ge le image is =
@@ -75,7 +75,7 @@ module _ (handed : Told) (sizes : List ℕ) (names : List Word) (clock : ℕ) (s
   leaves line disk created = none_written (is_created_at line.command disk) (take (length ended.steps - length start.steps) ended.steps) nothing_since
 
   -- what has no pending command at its end
-  told_so : (es : List Entry) → Tells origin_is es → is_some (pending es) ≡ false → HasRunHistory handed l.base sizes names clock ended (journal_of es) (lines_of es es)
+  told_so : (es : List ChronicleEntry) → Tells origin_is es → is_some (pending es) ≡ false → HasRunHistory handed l.base sizes names clock ended (journal_of es) (lines_of es es)
   told_so es = none_pending handed l.base sizes names clock ended (length start.steps) l.version es
 
   pub looks : HasRunHistory handed l.base sizes names clock ended [] []
@@ -83,7 +83,7 @@ module _ (handed : Told) (sizes : List ℕ) (names : List Word) (clock : ℕ) (s
 
   module _ (line : Line) (quiet : is_quiet line.command ≡ true) (none : commits line.command ≡ false) where
     plain : is_data line.command ≡ false
-    plain = (quiet_command line.command quiet).data_xl
+    plain = (quiet_command line.command quiet).data_is
 
     answered : (said : Answer) → is_good said ≡ false → may_say line.command said ≡ true → Tells origin_is (answered_entries origin_is line said)
     answered said bad says = undone_line origin_is line stays plain (leaves line) said (λ removing. nothing_since) bad says

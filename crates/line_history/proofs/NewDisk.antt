@@ -6,7 +6,7 @@ use Rattle.disk_model.specs.Durability.{IsBase}
 use Rattle.disk_model.specs.Moments.{at_moment}
 use Rattle.disk_model.specs.Order.{WritesNothing}
 use Rattle.disk_model.specs.Since.{writes_submitted}
-use Rattle.disk_model.specs.Steps.{Image, Step, Told, steps_on}
+use Rattle.disk_model.specs.Steps.{Image, Step, Record, steps_on}
 use Rattle.meta_model.specs.declared.group.Group.{Group}
 use Rattle.disk_batch.proofs.InTurn.{of_submitted, turns_both}
 use Rattle.disk_batch.specs.InTurn.{Put, WritesInTurn}
@@ -50,7 +50,7 @@ or_false : (b : Bool) → (b || false) ≡ b
 or_false true = refl
 or_false false = refl
 
-module _ (scans : RepairedScans) (g : Given) (stage : Stage) (start ended : Told) (r : RunsLine g stage start ended) (repaired : is_repaired stage ≡ true) (zeroed : is_zeroed stage ≡ true)
+module _ (scans : RepairedScans) (g : Given) (stage : Stage) (start ended : Record) (r : RunsLine g stage start ended) (repaired : is_repaired stage ≡ true) (zeroed : is_zeroed stage ≡ true)
     (disk : ℕ) (label : NewLabel) (none : (change scans g stage start ended r repaired).group ≡ None) (created : created_disk g.names g.line.command ≡ Some disk)
     (labels : (change scans g stage start ended r repaired).labels ≡ label ∷ []) (on : label.disk ≡ disk) (no_zeros : (change scans g stage start ended r repaired).zero ≡ []) (places : IsCreated g.line.command disk label) where
   -- what it may write there
@@ -117,7 +117,7 @@ module _ (scans : RepairedScans) (g : Given) (stage : Stage) (start ended : Told
         let nothing : WritesNothing steps = unwritten own steps (older_on own (length ended.steps - m) line.since since_on) is in
         let stays : IsBase (steps_on steps start) (repaired_base g) = quiet_base start (steps_on steps start) steps refl nothing (repaired_base g) (start_base g stage start ended r repaired) in
         let same : image ≡ repaired_base g =
-        image_of_base (steps_on steps start) (repaired_base g) image stays (subst (λ (t : Told). IsImage t image) (told_then start ended line.since line.steps m ge le) im) in
+        image_of_base (steps_on steps start) (repaired_base g) image stays (subst (λ (t : Record). IsImage t image) (told_then start ended line.since line.steps m ge le) im) in
         finds_with g.sizes image none_out (is_half_made (origin_repaired scans g stage start ended r repaired) g.line disk m) version (λ pv. sym (half_made false is pv ∙ and_false (disk == pv)))
         (subst (λ (i : Image). FindsVersion g.sizes i none_out version) (sym same) (finds_start scans g stage start ended r repaired))
 

@@ -106,7 +106,7 @@ module _ (found : Found) (names : List (List ℕ)) (backup : Option Backup) (now
   new_zeroed : (number : ℕ) (id : Option (List ℕ)) (new : NewVolume) → IsPlanned id (Lvcreate new) → Takes (asks_of state (record { number = number; id = id; command = Lvcreate new })) given
       → refusal_of state (record { number = number; id = id; command = Lvcreate new }) now given ≡ None → ZeroesLast (version_in found) (change_of state (record { number = number; id = id; command = Lvcreate new }) now given)
   new_zeroed number id new planned takes passes =
-      subst (ZeroesLast (version_in found)) (sym made.change_xl)
+      subst (ZeroesLast (version_in found)) (sym made.change_is)
       (λ group is volume last.
       last_zeroed made.old found.disk_of (accepted made.old made.there) drawn new now given (made.may state_is (accepted made.old made.there) time) (disks_of made.old found.disks) (λ k pv there. ap (λ (l : List ℕ). slice_index l k) listed) volume
       (ap (λ (g : Group). volumes_of (Some (record { group = g; disk_of = found.disk_of }))) (same_Some (created_group drawn new now given made.old) group is) ∙ last ∙ ap (λ (v : Option Version). volumes_of v ++ volume ∷ []) was))

@@ -6,10 +6,10 @@ use Rattle.disk_model.proofs.StepsSince.{steps_joined}
 use Rattle.disk_model.specs.Durability.{IsBase}
 use Rattle.disk_model.specs.Moments.{at_moment}
 use Rattle.disk_model.specs.Record.{IsRecord}
-use Rattle.disk_model.specs.Steps.{Image, Step, Told, now_after, steps_on}
+use Rattle.disk_model.specs.Steps.{Image, Step, Record, now_after, steps_on}
 use Rattle.image_scans.specs.Laws.{none_out}
 use Rattle.image_scans.specs.Versions.{FindsVersion, Version}
-use Rattle.volume_history.proofs.Past.{now_before}
+use Rattle.volume_history.proofs.EarlierMoments.{now_before}
 use Rattle.volume_history.proofs.Phases.{finds_with}
 use Rattle.volume_history.specs.Chronicles.{Origin, left_out, now_at, origin_at}
 use Rattle.volume_history.specs.Placed.{volumes_of}
@@ -19,11 +19,11 @@ use Rattle.line_history.proofs.Finding.{one_image}
 use Rattle.line_history.proofs.Seen.{now_seen, record_before, steps_more}
 
 -- the history of this run begins so
-abbrev pub origin_of : Told → ℕ → List ℕ → List Word → ℕ → Option Version → Told → Origin
+abbrev pub origin_of : Record → ℕ → List ℕ → List Word → ℕ → Option Version → Record → Origin
 origin_of handed start sizes names clock version ended =
     record { told = ended; first = length handed.steps; start = start; sizes = sizes; names = names; clock = clock; version = version }
 
-module _ (handed at_start ended : Told) (first later : List Step) (is_start : at_start ≡ steps_on first handed) (is_end : ended ≡ steps_on later at_start) (record_is : IsRecord ended.steps)
+module _ (handed at_start ended : Record) (first later : List Step) (is_start : at_start ≡ steps_on first handed) (is_end : ended ≡ steps_on later at_start) (record_is : IsRecord ended.steps)
     (base start_base : Image) (base_is : IsBase handed base) (start_is : IsBase at_start start_base) (sizes : List ℕ) (names : List Word) (clock : ℕ) (version : Option Version) where
   abbrev pub origin : Origin
   origin = origin_of handed (length at_start.steps) sizes names clock version ended

@@ -13,7 +13,7 @@ use Rattle.disk_model.specs.CrashValues.{IsImage}
 use Rattle.disk_model.specs.Durability.{IsBase}
 use Rattle.disk_model.specs.Moments.{at_moment}
 use Rattle.disk_model.specs.Order.{WritesNothing}
-use Rattle.disk_model.specs.Steps.{Image, Step, Told, now_after, steps_on}
+use Rattle.disk_model.specs.Steps.{Image, Step, Record, now_after, steps_on}
 use Rattle.meta_model.specs.declared.group.Group.{Group}
 use Rattle.meta_model.specs.declared.lv.Lv.{Lv}
 use Rattle.disk_batch.proofs.FrontBatches.{none_front}
@@ -35,7 +35,7 @@ use Rattle.image_scans.specs.Laws.{CanCarryOut, none_out}
 use Rattle.image_scans.specs.Versions.{FindsVersion, Version, version_in}
 use Rattle.repair_scans.specs.Laws.{RepairedScans}
 use Rattle.volume_history.proofs.MadeVersions.{changes_make}
-use Rattle.volume_history.proofs.Past.{now_before}
+use Rattle.volume_history.proofs.EarlierMoments.{now_before}
 use Rattle.volume_history.proofs.Phases.{finds_with}
 use Rattle.volume_history.proofs.Reshaped.{zeroes_stand}
 use Rattle.volume_history.specs.Changing.{ChangesVolumes}
@@ -74,7 +74,7 @@ creates_none names command vg is = ap (created_disk names) is
 
 -- ---- until its disks are cleared nothing is written
 
-module _ (scans : RepairedScans) (g : Given) (stage : Stage) (start ended : Told) (r : RunsLine g stage start ended) (repaired : is_repaired stage ≡ true) (zeroed : is_zeroed stage ≡ true) (vg : Word) (command_is : g.line.command ≡ Vgremove vg) where
+module _ (scans : RepairedScans) (g : Given) (stage : Stage) (start ended : Record) (r : RunsLine g stage start ended) (repaired : is_repaired stage ≡ true) (zeroed : is_zeroed stage ≡ true) (vg : Word) (command_is : g.line.command ≡ Vgremove vg) where
   pub no_batches : batches_in g ≡ []
   no_batches = ap (λ (command : Command). batches_of (state_in (repaired_of g.found) g.names g.backup) (record { number = g.line.number; id = g.line.id; command = command }) g.clock g.given) command_is
 
@@ -113,7 +113,7 @@ module _ (scans : RepairedScans) (g : Given) (stage : Stage) (start ended : Told
 
 -- ---- while they are cleared
 
-module _ (scans : RepairedScans) (g : Given) (well : Bool) (start ended : Told) (c : ClearsLine g well start ended) (vg : Word) (command_is : g.line.command ≡ Vgremove vg) where
+module _ (scans : RepairedScans) (g : Given) (well : Bool) (start ended : Record) (c : ClearsLine g well start ended) (vg : Word) (command_is : g.line.command ≡ Vgremove vg) where
   abbrev opened : ℕ
   opened = length c.made.steps
 
@@ -158,11 +158,11 @@ module _ (scans : RepairedScans) (g : Given) (well : Bool) (start ended : Told) 
     still = still_longer (made_origin scans g well start ended c) ended c.clears.since c.clears.steps stays.still (untouched scans g well start ended c);
     from = stays.still.until;
     until = more scans g well start ended c;
-    commits_xl = ap commits command_is;
+    commits_is = ap commits command_is;
     keeps = makes_version;
     zeroed = λ m ge le. zeroes_stand (origin_at m (whole_origin scans g well start ended c)) g.line.command None (ap zeroes command_is) makes_version;
     before = λ m ge lt image is.
-        stays.after m ge (omega (arith, lt)) image (subst (λ (told : Told). IsImage told image) (moment_seen c.made ended c.clears.since c.clears.steps m (omega (arith, lt))) is);
+        stays.after m ge (omega (arith, lt)) image (subst (λ (told : Record). IsImage told image) (moment_seen c.made ended c.clears.since c.clears.steps m (omega (arith, lt))) is);
     makes = makes_then scans g Done start c.made c.line refl refl ended opened None (creates_none g.names g.line.command vg command_is) now_there none_made;
     between = way;
   }

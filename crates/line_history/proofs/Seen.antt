@@ -4,7 +4,7 @@ use Rattle.std.proofs.lemmas.List.{length-drop}
 use Rattle.disk_model.proofs.EveryMoment.{drop_newer}
 use Rattle.disk_model.specs.Moments.{at_moment}
 use Rattle.disk_model.specs.Record.{IsRecord}
-use Rattle.disk_model.specs.Steps.{Completed, Step, Submitted, Told, now_after, steps_on}
+use Rattle.disk_model.specs.Steps.{Completed, Step, Submitted, Record, now_after, steps_on}
 
 -- a record's beginning is one
 older_record : (newer older : List Step) → IsRecord (newer ++ older) → IsRecord older
@@ -12,8 +12,8 @@ older_record [] older is = is
 older_record (Submitted tag work ∷ newer) older is = older_record newer older is.1
 older_record (Completed tag work well fresh ∷ newer) older is = older_record newer older is.1
 
-pub record_before : (old new : Told) (newer : List Step) → new ≡ steps_on newer old → IsRecord new.steps → IsRecord old.steps
-record_before old new newer is rec = older_record newer old.steps (subst (λ (t : Told). IsRecord t.steps) is rec)
+pub record_before : (old new : Record) (newer : List Step) → new ≡ steps_on newer old → IsRecord new.steps → IsRecord old.steps
+record_before old new newer is rec = older_record newer old.steps (subst (λ (t : Record). IsRecord t.steps) is rec)
 
 -- so is what was told by an earlier moment
 pub record_drop : (k : ℕ) (steps : List Step) → IsRecord steps → IsRecord (drop k steps)
@@ -22,23 +22,23 @@ record_drop (suc k) [] is = tt
 record_drop (suc k) (Submitted tag work ∷ steps) is = record_drop k steps is.1
 record_drop (suc k) (Completed tag work well fresh ∷ steps) is = record_drop k steps is.1
 
-pub steps_more : (old new : Told) (newer : List Step) → new ≡ steps_on newer old → length old.steps ≤ length new.steps
-steps_more old new newer is = subst (λ (t : Told). length old.steps ≤ length t.steps) (sym is) (let long = length-append newer old.steps in omega (arith, long))
+pub steps_more : (old new : Record) (newer : List Step) → new ≡ steps_on newer old → length old.steps ≤ length new.steps
+steps_more old new newer is = subst (λ (t : Record). length old.steps ≤ length t.steps) (sym is) (let long = length-append newer old.steps in omega (arith, long))
 
 -- by a moment of the older record the newer one told the same
-pub moment_seen : (old new : Told) (newer : List Step) → new ≡ steps_on newer old → (m : ℕ) → m ≤ length old.steps → at_moment m new ≡ at_moment m old
+pub moment_seen : (old new : Record) (newer : List Step) → new ≡ steps_on newer old → (m : ℕ) → m ≤ length old.steps → at_moment m new ≡ at_moment m old
 moment_seen old new newer is m le =
     let long = length-append newer old.steps in
     let e : length (newer ++ old.steps) - m ≡ length newer + (length old.steps - m) = omega (arith, long, le) in
-    ap (λ (t : Told). at_moment m t) is
+    ap (λ (t : Record). at_moment m t) is
     ∙ ap (λ (l : List Step). record { opened = old.opened; steps = l }) (ap (λ (n : ℕ). drop n (newer ++ old.steps)) e ∙ drop_newer newer old.steps (length old.steps - m))
 
 -- and a read gave the same then
-pub now_seen : (old new : Told) (newer : List Step) → new ≡ steps_on newer old → now_after new.opened (drop (length new.steps - length old.steps) new.steps) ≡ now_after old.opened old.steps
+pub now_seen : (old new : Record) (newer : List Step) → new ≡ steps_on newer old → now_after new.opened (drop (length new.steps - length old.steps) new.steps) ≡ now_after old.opened old.steps
 now_seen old new newer is =
     let e : length old.steps - length old.steps ≡ 0 = omega arith in
     let m : at_moment (length old.steps) new ≡ at_moment (length old.steps) old = moment_seen old new newer is (length old.steps) (omega arith) in
-    ap (λ (t : Told). now_after t.opened t.steps) m ∙ ap (λ (n : ℕ). now_after old.opened (drop n old.steps)) e
+    ap (λ (t : Record). now_after t.opened t.steps) m ∙ ap (λ (n : ℕ). now_after old.opened (drop n old.steps)) e
 
 -- ---- by a moment of the newer steps
 
@@ -53,13 +53,13 @@ take_front zero (x ∷ xs) ys is = absurd (omega (arith, is))
 take_front (suc n) [] ys is = absurd (omega (arith, is))
 take_front (suc n) (x ∷ xs) ys is = ap (λ l. x ∷ l) (take_front n xs ys (omega (arith, is)))
 
-module _ (old new : Told) (newer : List Step) (is : new ≡ steps_on newer old) (m : ℕ) (ge : length old.steps ≤ m) (le : m ≤ length new.steps) where
+module _ (old new : Record) (newer : List Step) (is : new ≡ steps_on newer old) (m : ℕ) (ge : length old.steps ≤ m) (le : m ≤ length new.steps) where
   -- the newer steps by then
   abbrev pub part : List Step
   part = drop (length new.steps - m) newer
 
   new_steps : new.steps ≡ newer ++ old.steps
-  new_steps = ap (λ (t : Told). t.steps) is
+  new_steps = ap (λ (t : Record). t.steps) is
 
   long : length new.steps ≡ length newer + length old.steps
   long = ap length new_steps ∙ length-append newer old.steps
@@ -75,4 +75,4 @@ module _ (old new : Told) (newer : List Step) (is : new ≡ steps_on newer old) 
   pub told_then : at_moment m new ≡ steps_on part old
   told_then =
       ap (λ (l : List Step). record { opened = new.opened; steps = l }) steps_then
-      ∙ ap (λ (t : Told). record { opened = t.opened; steps = part ++ old.steps }) is
+      ∙ ap (λ (t : Record). record { opened = t.opened; steps = part ++ old.steps }) is

@@ -5,7 +5,7 @@ use Rattle.std.specs.List.{range_with_len}
 use Rattle.sector_base.specs.declared.places.At.{At}
 use Rattle.disk_model.specs.CrashValues.{IsImage, MayLeave}
 use Rattle.disk_model.specs.Record.{IsRecord}
-use Rattle.disk_model.specs.Steps.{Image, Told}
+use Rattle.disk_model.specs.Steps.{Image, Record}
 use Rattle.disk_model.proofs.SectorImages.{leaves_by_images}
 use Rattle.meta_model.specs.declared.group.Group.{Group}
 use Rattle.meta_model.specs.declared.lv.Lv.{Lv}
@@ -24,19 +24,19 @@ use Rattle.volume_history.specs.Placed.{Place, PlacedVolume, no_place, on_disk, 
 use Rattle.volume_history.specs.Quiet.{AllUntouched, AreUntouched}
 
 -- a crash may leave nothing at the place but what this image shows
-abbrev IsUntouched : Image → Told → Place → Type 0
+abbrev IsUntouched : Image → Record → Place → Type 0
 IsUntouched base told place = (write : Option ℕ) (value : List ℕ) → MayLeave told.opened told.steps place.disk place.sector write value → value ≡ base place.disk place.sector
 
 -- where each place of a range has nothing else
-range_untouched : (base : Image) (told : Told) (f : ℕ → Place) (from count : ℕ) → ((x : ℕ) → x < from + count → IsUntouched base told (f x)) → AreUntouched base (map f (range_with_len from count)) told
+range_untouched : (base : Image) (told : Record) (f : ℕ → Place) (from count : ℕ) → ((x : ℕ) → x < from + count → IsUntouched base told (f x)) → AreUntouched base (map f (range_with_len from count)) told
 range_untouched base told f from zero each = tt
 range_untouched base told f from (suc count) each = (each from (omega arith), range_untouched base told f (from + 1) count (λ x lt. each x (omega (arith, lt))))
 
-first_untouched : (visible : Bool) (base : Image) (told : Told) (v : PlacedVolume) (vs : List PlacedVolume) → AreUntouched base v.places told → AllUntouched base vs told → AllUntouched base (cond visible (v ∷ vs) vs) told
+first_untouched : (visible : Bool) (base : Image) (told : Record) (v : PlacedVolume) (vs : List PlacedVolume) → AreUntouched base v.places told → AllUntouched base vs told → AllUntouched base (cond visible (v ∷ vs) vs) told
 first_untouched true base told v vs here later = (here, later)
 first_untouched false base told v vs here later = later
 
-module _ (base : Image) (told : Told) (is : IsRecord told.steps) (group : Group) (accepted : IsAccepted group) (disk_of : List ℕ)
+module _ (base : Image) (told : Record) (is : IsRecord told.steps) (group : Group) (accepted : IsAccepted group) (disk_of : List ℕ)
     (same : (image : Image) → IsImage told image → (lv sector : ℕ) (at : At) → primary group lv sector ≡ Some at → at_place image disk_of at ≡ at_place base disk_of at) where
   abbrev version : Version
   version = record { group = group; disk_of = disk_of }
@@ -60,11 +60,11 @@ module _ (base : Image) (told : Told) (is : IsRecord told.steps) (group : Group)
   unfolding volumes_of
   volumes_untouched = untouched_from 0 group.lvs (λ k volume at. subst (λ (n : ℕ). slice_get group.lvs n ≡ Some volume) (omega arith) at)
 
-abbrev AllHave : Image → Found → Told → Type 0
+abbrev AllHave : Image → Found → Record → Type 0
 AllHave base found told =
     (image : Image) → IsImage told image → (group : Group) → found.group ≡ Some group → (lv sector : ℕ) (at : At) → primary group lv sector ≡ Some at → at_place image found.disk_of at ≡ at_place base found.disk_of at
 
-by_group : (base : Image) (found : Found) (told : Told) → HasShape found → IsRecord told.steps → AllHave base found told → ((group : Group) → found.group ≡ Some group → IsAccepted group) → (o : Option Group) → found.group ≡ o
+by_group : (base : Image) (found : Found) (told : Record) → HasShape found → IsRecord told.steps → AllHave base found told → ((group : Group) → found.group ≡ Some group → IsAccepted group) → (o : Option Group) → found.group ≡ o
     → AllUntouched base (volumes_of (option_map (λ (group : Group). record { group = group; disk_of = disks_of group found.disks }) o)) told
 unfolding volumes_of
 by_group base found told shape is same accepted None there = tt
@@ -74,8 +74,8 @@ by_group base found told shape is same accepted (Some group) there =
     (volumes_untouched base told is group (accepted group there) found.disk_of (λ image has. same image has group there))
 
 -- what an image has at the places of the volumes that were found in another one
-pub places_kept : (base mid : Image) (sizes : List ℕ) (found : Found) (told : Told) → IsScanOf base sizes found → HasShape found → IsRecord told.steps → AllHave mid found told → AllUntouched mid (volumes_of (version_in found)) told
+pub places_kept : (base mid : Image) (sizes : List ℕ) (found : Found) (told : Record) → IsScanOf base sizes found → HasShape found → IsRecord told.steps → AllHave mid found told → AllUntouched mid (volumes_of (version_in found)) told
 places_kept base mid sizes found told scan shape is same = by_group mid found told shape is same (found_accepted base sizes found scan) found.group refl
 
-pub places_untouched : (base : Image) (sizes : List ℕ) (found : Found) (told : Told) → IsScanOf base sizes found → HasShape found → IsRecord told.steps → AllHave base found told → AllUntouched base (volumes_of (version_in found)) told
+pub places_untouched : (base : Image) (sizes : List ℕ) (found : Found) (told : Record) → IsScanOf base sizes found → HasShape found → IsRecord told.steps → AllHave base found told → AllUntouched base (volumes_of (version_in found)) told
 places_untouched base sizes found told scan shape is same = places_kept base base sizes found told scan shape is same

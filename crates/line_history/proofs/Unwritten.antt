@@ -5,7 +5,7 @@ use Rattle.sector_base.specs.declared.spans.Span.{Span}
 use Rattle.disk_batch.specs.InTurn.{Put}
 use Rattle.disk_model.specs.Order.{WritesNothing}
 use Rattle.disk_model.specs.Since.{writes_submitted}
-use Rattle.disk_model.specs.Steps.{Completed, Flushing, Reading, Step, Submitted, Told, Writing, steps_on}
+use Rattle.disk_model.specs.Steps.{Completed, Flushing, Reading, Step, Submitted, Record, Writing, steps_on}
 use Rattle.volume_history.specs.Chronicles.{has_written}
 use Rattle.line_history.proofs.Seen.{part_then, steps_more}
 
@@ -60,7 +60,7 @@ none_written own (Submitted tag (Flushing disk) ∷ steps) nothing = none_writte
 none_written own (Completed tag work well fresh ∷ steps) nothing = none_written own steps nothing
 
 -- the newest steps of a record, as many as were told since an older one, are those
-pub newest : (old new : Told) (newer : List Step) → new ≡ steps_on newer old → take (length new.steps - length old.steps) new.steps ≡ newer
+pub newest : (old new : Record) (newer : List Step) → new ≡ steps_on newer old → take (length new.steps - length old.steps) new.steps ≡ newer
 newest old new newer is =
     let more = steps_more old new newer is in
     let e : length new.steps - length new.steps ≡ 0 = omega arith in

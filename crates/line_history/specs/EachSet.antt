@@ -4,7 +4,7 @@ use Rattle.std.specs.FinSet as set
 use Rattle.command_table.specs.declared.command.Command.TheVariants.{Vgremove}
 use Rattle.lvm_script.specs.declared.line.Line.{Line}
 use Rattle.disk_model.specs.CrashValues.{IsImage}
-use Rattle.disk_model.specs.Steps.{Image, Told}
+use Rattle.disk_model.specs.Steps.{Image, Record}
 use Rattle.meta_model.specs.declared.group.Group.{Group}
 use Rattle.extent_alloc.specs.declared.part.Part.{Part}
 use Rattle.disk_batch.specs.InTurn.{HasFirstBatches, with_batches}
@@ -48,23 +48,23 @@ EachMemberFinds =
 
 -- in every image that a crash may leave then, a scan of any of the disks finds no group or that of the version which a scan of
 -- all of them finds
-abbrev pub SetsAgree : List ℕ → Told → Type 0
+abbrev pub SetsAgree : List ℕ → Record → Type 0
 SetsAgree sizes told =
     (image : Image) → IsImage told image → (version : Option Version) → FindsVersion sizes image none_out version
     → (some : Found) (group : Group) → IsScanOf image sizes some → some.group ≡ Some group → option_map (λ (v : Version). v.group) version ≡ Some group
 
 -- in every image that a crash may leave then, where a scan of all disks finds a version, a scan of any of those of its physical
 -- volumes finds no group or that of the version
-abbrev pub MembersAgree : List ℕ → Told → Type 0
+abbrev pub MembersAgree : List ℕ → Record → Type 0
 MembersAgree sizes told =
     (image : Image) → IsImage told image → (version : Version) → FindsVersion sizes image none_out (Some version)
     → (some : Found) (group : Group) → IsScanOf image sizes some → AreMembers sizes version.disk_of some → some.group ≡ Some group → group ≡ version.group
 
 -- so it is at the end of a run whose line has committed a group, or removed it
 abbrev pub DoneSetsAgree : Type 0
-DoneSetsAgree = (g : Given) (start ended : Told) → ClearsLine g true start ended → commits g.line.command ≡ true → SetsAgree g.sizes ended
+DoneSetsAgree = (g : Given) (start ended : Record) → ClearsLine g true start ended → commits g.line.command ≡ true → SetsAgree g.sizes ended
 
 -- and so it is of the disks of the group at the end of one whose line has committed it, whether or not the disks could be cleared that it
 -- lets go
 abbrev pub MadeMembersAgree : Type 0
-MadeMembersAgree = (g : Given) (well : Bool) (start ended : Told) → ClearsLine g well start ended → commits_in g ≡ true → MembersAgree g.sizes ended
+MadeMembersAgree = (g : Given) (well : Bool) (start ended : Record) → ClearsLine g well start ended → commits_in g ≡ true → MembersAgree g.sizes ended

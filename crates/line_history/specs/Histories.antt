@@ -8,7 +8,7 @@ use Rattle.disk_model.specs.Durability.{IsBase}
 use Rattle.disk_model.specs.Order.{WritesNothing}
 use Rattle.disk_model.specs.Record.{IsRecord}
 use Rattle.disk_model.specs.Since.{writes_submitted}
-use Rattle.disk_model.specs.Steps.{Image, Step, Told, steps_on}
+use Rattle.disk_model.specs.Steps.{Image, Step, Record, steps_on}
 use Rattle.extent_alloc.specs.declared.part.Part.{Part}
 use Rattle.line_table.specs.declared.journal.EntryKind.{EntryKind}
 use Rattle.line_table.specs.declared.journal.EntryKind.TheVariants as kind
@@ -32,7 +32,7 @@ use Rattle.volume_history.specs.Runs.{HasHistory, Run, zero_piece}
 use Rattle.line_history.specs.LineRun.{ClearsLine, Given, RunsLine, Stage, Repaired, Zeroing, Writing, Done}
 
 -- the run of disks of these sizes and names, from when they were handed in, as far as this is told
-abbrev pub run_from : Told → List ℕ → List Word → ℕ → Told → Run
+abbrev pub run_from : Record → List ℕ → List Word → ℕ → Record → Run
 run_from handed sizes names clock ended = record { told = ended; first = length handed.steps; sizes = sizes; names = names; clock = clock }
 
 -- an entry of line 0 without a piece
@@ -77,7 +77,7 @@ making false count batches clears = batches ++ take count clears
 
 -- all was submitted that the repair of what a scan of the base finds and this line write until the group is committed, or the clearing
 -- of its disks was begun, where the line removes it
-pub record HasSubmittedAll (handed : Told) (base : Image) (sizes : List ℕ) (names : List Word) (clock : ℕ) (line : Line) (ended : Told) : Type 0 where
+pub record HasSubmittedAll (handed : Record) (base : Image) (sizes : List ℕ) (names : List Word) (clock : ℕ) (line : Line) (ended : Record) : Type 0 where
   pub found : Found
   pub scan : IsScanOf base sizes found
   pub since : List Step
@@ -92,31 +92,31 @@ pub record HasSubmittedAll (handed : Told) (base : Image) (sizes : List ℕ) (na
       making (is_some (change_of (state_in (repaired_of found) names backup) line clock given).group) count (batches_of (state_in (repaired_of found) names backup) line clock given) (clears_of (state_in (repaired_of found) names backup) line clock given))
 
 -- a run of one line had come so far
-abbrev pub IsAtLast : Told → Image → List ℕ → List Word → ℕ → List (Line × Option Answer) → Told → Type 0
+abbrev pub IsAtLast : Record → Image → List ℕ → List Word → ℕ → List (Line × Option Answer) → Record → Type 0
 IsAtLast handed base sizes names clock ((line, said) ∷ []) ended = HasSubmittedAll handed base sizes names clock line ended
 IsAtLast handed base sizes names clock lines ended = ⊥
 
 -- A run has its history, where each sector had one possible value when the disks were handed in, that of the base. A command is
 -- pending at its end only where the run had come to its commit's last batch, or to the first of those that clear the disks of a group
 -- that is removed: one that failed earlier has changed nothing, and the version that stood is in force.
-pub record HasRunHistory (handed : Told) (base : Image) (sizes : List ℕ) (names : List Word) (clock : ℕ) (ended : Told) (journal : List JournalEntry) (lines : List (Line × Option Answer)) : Type 0 where
+pub record HasRunHistory (handed : Record) (base : Image) (sizes : List ℕ) (names : List Word) (clock : ℕ) (ended : Record) (journal : List JournalEntry) (lines : List (Line × Option Answer)) : Type 0 where
   pub history : HasHistory (run_from handed sizes names clock ended) journal lines
   pub last : is_some (pending history.chronicle.entries) ≡ true → IsAtLast handed base sizes names clock lines ended
 
 -- the same of what was given
-abbrev pub HasHistoryOf : Given → Told → List JournalEntry → List (Line × Option Answer) → Type 0
+abbrev pub HasHistoryOf : Given → Record → List JournalEntry → List (Line × Option Answer) → Type 0
 HasHistoryOf g ended journal lines = HasRunHistory g.handed g.base g.sizes g.names g.clock ended journal lines
 
 -- a run whose line was begun has its history, where the line wasn't done
 abbrev pub LinesHaveHistories : Type 0
 LinesHaveHistories =
-    (g : Given) (stage : Stage) (start ended : Told) (said : Answer) → RunsLine g stage start ended → MayAnswer stage said
+    (g : Given) (stage : Stage) (start ended : Record) (said : Answer) → RunsLine g stage start ended → MayAnswer stage said
     → HasHistoryOf g ended (journal_of_line (length start.steps) None (length ended.steps)) ((g.line, Some said) ∷ [])
 
 -- and where its batches were written, and disks cleared as far as that came
 abbrev pub ClearsHaveHistories : Type 0
 ClearsHaveHistories =
-    (g : Given) (well : Bool) (start ended : Told) (said : Answer) (c : ClearsLine g well start ended) → MayEnd well said
+    (g : Given) (well : Bool) (start ended : Record) (said : Answer) (c : ClearsLine g well start ended) → MayEnd well said
     → HasHistoryOf g ended (journal_of_line (length start.steps) (took_of (commits_in g) well (length c.made.steps) (length ended.steps)) (length ended.steps)) ((g.line, Some said) ∷ [])
 
 -- nothing of the line was written
@@ -129,11 +129,11 @@ IsBeforeLine _ = Unit {0}
 -- so has one whose line wasn't begun
 abbrev pub EndsHaveHistories : Type 0
 EndsHaveHistories =
-    (g : Given) (stage : Stage) (start ended : Told) → RunsLine g stage start ended → IsBeforeLine stage → HasHistoryOf g ended [] []
+    (g : Given) (stage : Stage) (start ended : Record) → RunsLine g stage start ended → IsBeforeLine stage → HasHistoryOf g ended [] []
 
 -- the disks were only looked at, until the line began and then: each sector had one possible value when they were handed in, of which
 -- a scan finds this version, and nothing was written
-pub record LooksAlone (handed : Told) (sizes : List ℕ) (start ended : Told) : Type 0 where
+pub record LooksAlone (handed : Record) (sizes : List ℕ) (start ended : Record) : Type 0 where
   pub base : Image
   pub base_is : IsBase handed base
   pub version : Option Version
@@ -148,7 +148,7 @@ pub record LooksAlone (handed : Told) (sizes : List ℕ) (start ended : Told) : 
 -- a run that only looked at its disks, and began no line, has its history
 abbrev pub LooksHaveHistories : Type 0
 LooksHaveHistories =
-    (handed : Told) (sizes : List ℕ) (names : List Word) (clock : ℕ) (start ended : Told) (l : LooksAlone handed sizes start ended) → HasRunHistory handed l.base sizes names clock ended [] []
+    (handed : Record) (sizes : List ℕ) (names : List Word) (clock : ℕ) (start ended : Record) (l : LooksAlone handed sizes start ended) → HasRunHistory handed l.base sizes names clock ended [] []
 
 -- the answer is ok, or none that is given for something done
 abbrev pub IsFineOrBad : Answer → Type 0
@@ -163,6 +163,6 @@ took_if _ ended = None
 -- so has one whose line commits nothing
 abbrev pub ReportsHaveHistories : Type 0
 ReportsHaveHistories =
-    (handed : Told) (sizes : List ℕ) (names : List Word) (clock : ℕ) (start ended : Told) (line : Line) (said : Answer) (l : LooksAlone handed sizes start ended)
+    (handed : Record) (sizes : List ℕ) (names : List Word) (clock : ℕ) (start ended : Record) (line : Line) (said : Answer) (l : LooksAlone handed sizes start ended)
     → is_quiet line.command ≡ true → commits line.command ≡ false → IsFineOrBad said → may_say line.command said ≡ true
     → HasRunHistory handed l.base sizes names clock ended (journal_of_line (length start.steps) (took_if said (length ended.steps)) (length ended.steps)) ((line, Some said) ∷ [])

@@ -4,7 +4,7 @@ use Rattle.sector_base.specs.declared.places.At.{At}
 use Rattle.lvm_script.specs.declared.line.Line.{Line}
 use Rattle.disk_model.specs.CrashValues.{IsImage}
 use Rattle.disk_model.specs.Record.{IsRecord}
-use Rattle.disk_model.specs.Steps.{Image, Told}
+use Rattle.disk_model.specs.Steps.{Image, Record}
 use Rattle.meta_model.specs.declared.group.Group.{Group}
 use Rattle.volume_view.specs.Places.{primary}
 use Rattle.volume_view.specs.View.{at_place}
@@ -32,6 +32,6 @@ CommitChangesVolumes =
 -- volumes are untouched
 abbrev pub PlacesUntouched : Type 0
 PlacesUntouched =
-    (base : Image) (sizes : List ℕ) (found : Found) (told : Told) → IsScanOf base sizes found → HasShape found → IsRecord told.steps
+    (base : Image) (sizes : List ℕ) (found : Found) (told : Record) → IsScanOf base sizes found → HasShape found → IsRecord told.steps
     → ((image : Image) → IsImage told image → (group : Group) → found.group ≡ Some group → (lv sector : ℕ) (at : At) → primary group lv sector ≡ Some at → at_place image found.disk_of at ≡ at_place base found.disk_of at)
     → AllUntouched base (volumes_of (version_in found)) told

@@ -7,7 +7,7 @@ use Rattle.lvm_script.specs.declared.line.Line.{Line}
 use Rattle.disk_model.specs.Durability.{IsBase}
 use Rattle.disk_model.specs.Order.{WritesNothing}
 use Rattle.disk_model.specs.Record.{IsRecord}
-use Rattle.disk_model.specs.Steps.{Image, Step, Told, steps_on}
+use Rattle.disk_model.specs.Steps.{Image, Step, Record, steps_on}
 use Rattle.extent_alloc.specs.declared.part.Part.{Part}
 use Rattle.disk_batch.specs.InTurn.{Put, WritesInTurn}
 use Rattle.vg_found.specs.Shape.{HasShape}
@@ -76,7 +76,7 @@ batches_if begun batches = if begun then batches else []
 -- what was given: the disks as they were handed in, what a scan found there, their names, the line, the time, and the extents that
 -- the line takes
 pub record Given : Type 0 where
-  pub handed : Told
+  pub handed : Record
   pub base : Image
   pub sizes : List ℕ
   pub found : Found
@@ -116,10 +116,10 @@ pub record IsGiven (g : Given) : Type 0 where
 
 -- what the run did to the disks, until it ended with this record; the line began at the start, and its commit once its zeros
 -- were written
-pub record RunsLine (g : Given) (stage : Stage) (start ended : Told) : Type 0 where
+pub record RunsLine (g : Given) (stage : Stage) (start ended : Record) : Type 0 where
   pub given : IsGiven g
   -- the disks were opened: nothing was written
-  pub opened : Told
+  pub opened : Record
   pub since : List Step
   pub opening : opened ≡ steps_on since g.handed
   pub nothing : WritesNothing since
@@ -130,7 +130,7 @@ pub record RunsLine (g : Given) (stage : Stage) (start ended : Told) : Type 0 wh
   pub repaired_shape : IsTrue (is_repaired stage) → HasShape (repaired_of g.found)
   pub repaired_whole : IsTrue (is_repaired stage) → IsWhole (repaired_of g.found)
   -- and then the line's zeros were written, or the run ended
-  pub zeroed : Told
+  pub zeroed : Record
   pub zeros : IsTrue (is_repaired stage) → WritesInTurn start (batches_if (zeros_begun stage) (zeros_in g)) (is_zeroed stage) zeroed
   pub unrepaired : is_repaired stage ≡ false → zeroed ≡ start
   -- and then its other batches, or the run ended
@@ -143,8 +143,8 @@ pub record RunsLine (g : Given) (stage : Stage) (start ended : Told) : Type 0 wh
   pub record_is : IsRecord ended.steps
 
 -- the line's batches were written, until the disks had this record, and then disks were cleared, as far as that came
-pub record ClearsLine (g : Given) (well : Bool) (start ended : Told) : Type 0 where
-  pub made : Told
+pub record ClearsLine (g : Given) (well : Bool) (start ended : Record) : Type 0 where
+  pub made : Record
   pub line : RunsLine g Done start made
   pub clears : WritesInTurn made (clears_in g) well ended
   pub record_is : IsRecord ended.steps

@@ -31,7 +31,7 @@ use Rattle.lv_plans.specs.Lvcreate.{IsNewVolume, add_rows, create_asks, create_c
 pub record Creates (state : GroupState) (id : List ℕ) (new : NewVolume) (now : ℕ) (given : List Part) : Type 0 where
   pub old : Group
   pub there : state.group ≡ Some old
-  pub change_xl : lvcreate_change state id new now given ≡ create_change state id new now old given
+  pub change_is : lvcreate_change state id new now given ≡ create_change state id new now old given
   pub free : is_among (names_of old.lvs) new.lv ≡ false
   pub has_area : no_area_row state ≡ None
   pub fits : length_row state (created_group id new now given old) now ≡ None
@@ -57,7 +57,7 @@ creates state id new now given is_id values (Some group) there takes none =
     record {
       old = group;
       there = there;
-      change_xl = ap (λ (o : Option Group). option_map_or (λ (g : Group). create_change state id new now g given) o (no_change state)) there;
+      change_is = ap (λ (o : Option Group). option_map_or (λ (g : Group). create_change state id new now g given) o (no_change state)) there;
       free = free;
       has_area = rows.0;
       fits = more.1.0;

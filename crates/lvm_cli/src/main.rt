@@ -22,7 +22,7 @@ use lvm_run::guarded_run;
 use lvm_words::{WordsRefusal, disk_names};
 use not_run::say_not_run;
 use seed::{ids_of_system, seconds, since_1970};
-use startup::{NO_MEMORY, NOT_TO_BE_HAD, WORDS_REFUSED, open_disks, say_fault};
+use startup::{NO_MEMORY, NOT_TO_BE_HAD, WORDS_REFUSED, open_images, say_fault};
 use std::alloc::{AllocError, Global};
 use std::io::Eprint;
 use std::process::ExitCode;
@@ -43,7 +43,7 @@ fn main(rt: HostRuntime) -> ExitCode {
         return ExitCode::from(NO_MEMORY);
     };
     let names = names.as_vec();
-    let shelf = match open_disks(&rt, rt.alloc(), &words, names) {
+    let shelf = match open_images(&rt, rt.alloc(), &words, names) {
         Ok(shelf) => shelf,
         Err(fault) => return ExitCode::from(say_fault(&rt, names, fault)),
     };

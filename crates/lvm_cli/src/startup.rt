@@ -25,7 +25,7 @@ pub const WORDS_REFUSED: u8 = 3;
 pub const NOT_TO_BE_HAD: u8 = 6;
 
 /// Opens these disks to be changed where the words ask for a command that runs and changes something, and else to be read.
-pub fn open_disks<F: ImageFile + Drop, R: Files<File = F> + Clock + Eprint>(
+pub fn open_images<F: ImageFile + Drop, R: Files<File = F> + Clock + Eprint>(
     rt: &R,
     alloc: Global,
     words: &Vec<String>,

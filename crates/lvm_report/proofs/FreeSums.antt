@@ -9,7 +9,7 @@ use Rattle.std.proofs.lemmas.List.Sums.{sum_by-append, sum_by-cons}
 use Rattle.std.proofs.lemmas.Option.{same_Some, slice_get-get_or, slice_get_cases}
 use Rattle.meta_model.specs.declared.group.Group.{Group}
 use Rattle.meta_model.specs.declared.pv.Pv.{Pv}
-use Rattle.meta_model.specs.declared.run.Run.{Run}
+use Rattle.meta_model.specs.declared.extent_span.ExtentSpan.{ExtentSpan}
 use Rattle.volume_rules.specs.Rules.{IsAccepted}
 use Rattle.volume_rules.specs.Sorting.{EndsBefore, NoExtentInBoth}
 use Rattle.volume_rules.proofs.LegRuns.{contains_first}
@@ -27,17 +27,17 @@ use Rattle.extent_map.proofs.RunsInOrder.{Fits, InOrder, in_order}
 use Rattle.lvm_report.proofs.GroupLine.{count_in, free_are_few}
 
 -- a free run, to be put in order among those of legs
-abbrev as_run : ℕ → ExtentRun → Run
+abbrev as_run : ℕ → ExtentRun → ExtentSpan
 as_run pv run = record { on = 2 * pv; first = run.first; count = run.count }
 
 -- the free runs of a volume and those of its legs
-abbrev both : Group → ℕ → List ExtentRun → List Run
+abbrev both : Group → ℕ → List ExtentRun → List ExtentSpan
 both group pv runs = map (as_run pv) runs ++ lvs_on pv group.lvs
 
-sum_of_map : (pv : ℕ) (runs : List ExtentRun) → sum_by (λ (run : Run). run.count) (map (as_run pv) runs) ≡ sum_by (λ (run : ExtentRun). run.count) runs
+sum_of_map : (pv : ℕ) (runs : List ExtentRun) → sum_by (λ (run : ExtentSpan). run.count) (map (as_run pv) runs) ≡ sum_by (λ (run : ExtentRun). run.count) runs
 sum_of_map pv [] = refl
 sum_of_map pv (run ∷ runs) =
-    omega (arith, sum_by-cons (λ (r : Run). r.count) (as_run pv run) (map (as_run pv) runs), sum_by-cons (λ (r : ExtentRun). r.count) run runs, sum_of_map pv runs)
+    omega (arith, sum_by-cons (λ (r : ExtentSpan). r.count) (as_run pv run) (map (as_run pv) runs), sum_by-cons (λ (r : ExtentRun). r.count) run runs, sum_of_map pv runs)
 
 -- each lies within the volume
 fits : (group : Group) (pv : ℕ) (row : List ℕ × Pv) (runs : List ExtentRun) (run : ExtentRun) → slice_get group.pvs pv ≡ Some row → AreFreeRuns group pv runs → Contains runs run → Fits (2 * pv) row.1.pe_count (as_run pv run)
@@ -56,7 +56,7 @@ free_apart group pv runs free = neighbours_show (map (as_run pv) runs) near
     near k d lt =
         let within : k + 1 < length runs = omega (arith, lt, length-map runs (as_run pv)) in
         let e : ExtentRun = record { first = 0; count = 0 } in
-        subst (λ (r : Run). EndsBefore r (get_or (map (as_run pv) runs) (k + 1) d)) (sym (get_or-map (as_run pv) runs k e d (omega arith)))
+        subst (λ (r : ExtentSpan). EndsBefore r (get_or (map (as_run pv) runs) (k + 1) d)) (sym (get_or-map (as_run pv) runs k e d (omega arith)))
         (subst (EndsBefore (as_run pv (get_or runs k e))) (sym (get_or-map (as_run pv) runs (k + 1) e d within)) (inr (refl, omega (arith, free.apart k e within))))
 
 pairs_append : {X : Type 0} (R : X → X → Type 0) (xs ys : List X) → AllPairs R xs → AllPairs R ys → All (λ x. All (R x) ys) xs → AllPairs R (xs ++ ys)
@@ -91,7 +91,7 @@ none_left (run ∷ runs) some none = absurd (none run.first (run, contains_first
 free_sum : (group : Group) (pv : ℕ) (row : List ℕ × Pv) (runs : List ExtentRun) → IsAccepted group → slice_get group.pvs pv ≡ Some row → AreFreeRuns group pv runs → sum_by (λ (run : ExtentRun). run.count) runs ≡ free_extents group pv
 free_sum group pv row runs accepted is free =
     let end : ℕ = row.1.pe_count in
-    let legs : List Run = lvs_on pv group.lvs in
+    let legs : List ExtentSpan = lvs_on pv group.lvs in
     let fit : All (Fits (2 * pv) end) (both group pv runs) =
     All-append (Fits (2 * pv) end) (map (as_run pv) runs) legs
     (All-map (Fits (2 * pv) end) (as_run pv) runs (λ k d lt. fits group pv row runs (get_or runs k d) is free (Contains-get_or runs k d lt)))
@@ -107,7 +107,7 @@ free_sum group pv row runs accepted is free =
     (λ extent lies. let has = gaps_have 0 end extent ordered.sorted ordered.between lies in one_has group pv extent row runs is free has.1 (λ cover. has.2 (ordered.to extent cover)))
     in
     let all : all_extents group pv ≡ end = ap count_in is in
-    omega (arith, gaps_sum 0 end ordered.sorted ordered.between, left, ordered.sum, sum_by-append (λ (run : Run). run.count) (map (as_run pv) runs) legs, sum_of_map pv runs, all)
+    omega (arith, gaps_sum 0 end ordered.sorted ordered.between, left, ordered.sum, sum_by-append (λ (run : ExtentSpan). run.count) (map (as_run pv) runs) legs, sum_of_map pv runs, all)
 
 -- of the volume with this number among all
 pub free_there : (group : Group) (all : List (List ExtentRun)) (pv : ℕ) (runs d : List ExtentRun) → IsAccepted group → AreAllFree group all → pv < length all → runs ≡ slice_index_or all pv d

@@ -4,7 +4,7 @@ ghost use Rattle.byte_streams.specs.Streams.{WritesText};
 ghost use Rattle.line_answers.specs.Answers.{answer_text};
 ghost use Rattle.lvm_report.specs.AnswerLines.{answer_line, answers_text};
 
-use byte_streams::{Failed, Sink, TextSink, write_bytes, write_number};
+use byte_streams::{Failed, Sink, TextBuffer, write_bytes, write_number};
 use line_answers::{Answer, DiskNames};
 use line_table::Answers;
 use sector_base::Text;
@@ -39,7 +39,7 @@ pub fn write_answers<W: Sink>(
 pub fn answer_lines(alloc: Global, answers: &Answers, names: &DiskNames) -> Result<Text, AllocError>
     ensures { IfOk result (λ text. text ≡ answers_text names.now answers.now.items) }
 {
-    let mut text = TextSink::new(alloc);
+    let mut text = TextBuffer::new(alloc);
     match write_answers(&mut text, answers, names) {
         Ok(()) => Ok(text.into_text()),
         Err(Failed) => Err(AllocError),

@@ -1,6 +1,6 @@
 //! In what a run differs from what is expected of it.
 use crate::images::{left, opened};
-use crate::run::Ran;
+use crate::run::EndedRun;
 use crate::shown::{first_difference, shown};
 use byte_streams::read_all;
 use dev_shelf::{Images, Shelf};
@@ -10,7 +10,11 @@ use sector_base::{Bytes512, Sectors};
 use std::alloc::{AllocError, Global};
 
 /// The first difference, if there is one.
-pub fn difference(alloc: Global, run: &Run, ran: &mut Ran) -> Result<Option<Failure>, AllocError> {
+pub fn difference(
+    alloc: Global,
+    run: &Run,
+    ran: &mut EndedRun,
+) -> Result<Option<Failure>, AllocError> {
     let status = ran.ended.status;
     if let Some(what) = first_difference(alloc, &run.expected.output, ran.out.bytes())? {
         let what = format!(in alloc; "{what} (status {status})")?;
@@ -41,7 +45,7 @@ pub fn difference(alloc: Global, run: &Run, ran: &mut Ran) -> Result<Option<Fail
 fn other_difference(
     alloc: Global,
     others: &[Expectation],
-    ran: &mut Ran,
+    ran: &mut EndedRun,
 ) -> Result<Option<Failure>, AllocError> {
     for other in others {
         if let Some(what) = difference_in(alloc, &other.what, ran)? {
@@ -52,7 +56,11 @@ fn other_difference(
     Ok(None)
 }
 
-fn difference_in(alloc: Global, what: &What, ran: &mut Ran) -> Result<Option<String>, AllocError> {
+fn difference_in(
+    alloc: Global,
+    what: &What,
+    ran: &mut EndedRun,
+) -> Result<Option<String>, AllocError> {
     match what {
         What::Steps(wanted) => differs(alloc, "steps", *wanted, ran.ended.shelf.steps()),
         What::Forced(wanted) => {
@@ -79,7 +87,7 @@ fn differs(alloc: Global, of: &str, wanted: u64, is: u64) -> Result<Option<Strin
     Ok(Some(format!(in alloc; "{is} {of}, wanted {wanted}")?))
 }
 
-fn unread(alloc: Global, wanted: u64, ran: &mut Ran) -> Result<Option<String>, AllocError> {
+fn unread(alloc: Global, wanted: u64, ran: &mut EndedRun) -> Result<Option<String>, AllocError> {
     match read_all(alloc, &mut ran.source) {
         Ok(text) => differs(alloc, "bytes left", wanted, text.as_bytes().len() as u64),
         Err(_) => Ok(Some(String::from_str(alloc, "the source can't be read to its end")?)),

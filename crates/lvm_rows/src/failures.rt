@@ -1,6 +1,6 @@
 //! The images that a run leaves in which an operation fails.
 use crate::images::{crashed, opened};
-use crate::run::{Ran, run};
+use crate::run::{EndedRun, run};
 use crate::shown::first_difference;
 use crate::versions::{Seen, choices_at, version_of};
 use dev_shelf::{Fail, MemShelf};
@@ -76,7 +76,7 @@ fn check_failure<T: Threads + Wait + Sync>(
 }
 
 // The run in which an operation failed has the status and the output that are said.
-fn ends_so(alloc: Global, failures: &FailureList, ran: &Ran, place: &str) -> Result<(), Stop> {
+fn ends_so(alloc: Global, failures: &FailureList, ran: &EndedRun, place: &str) -> Result<(), Stop> {
     let line = failures.list.line;
     if ran.ended.status != failures.status {
         let is = ran.ended.status;

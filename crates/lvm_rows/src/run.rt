@@ -23,7 +23,7 @@ const LAST_SECOND: u64 = (1 << 48) - 1;
 
 /// A run that has ended: how, what it wrote, and the source that it read from.
 #[derive(Drop)]
-pub struct Ran {
+pub struct EndedRun {
     pub ended: Ended<MemShelf>,
     pub out: MemSink,
     pub source: MemSource,
@@ -36,7 +36,7 @@ pub fn run<T: Threads + Wait + Sync>(
     run: &Run,
     images: Images,
     failing: Option<Fail>,
-) -> Result<Ran, Stop> {
+) -> Result<EndedRun, Stop> {
     let Some(shelf) = shelf_for(alloc, run, images, failing)? else {
         return Err(failed(alloc, run.line, "the words name other disks than there are"));
     };
@@ -57,7 +57,7 @@ pub fn run<T: Threads + Wait + Sync>(
         now,
         &OpenGate,
     );
-    Ok(Ran { ended, out, source })
+    Ok(EndedRun { ended, out, source })
 }
 
 // A shelf of these disks with the run's plan, if the run's words name so many, or none.

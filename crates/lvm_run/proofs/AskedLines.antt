@@ -28,7 +28,7 @@ use Rattle.lvm_run.specs.Sourced.{SourceState}
 use Rattle.lvm_run.specs.declared.ending.Ending.{Ending}
 use Rattle.lvm_run.specs.declared.outcome.Outcome.{Outcome}
 use Rattle.lvm_run.specs.declared.outcome.Outcome.TheVariants.{Ended, Answered, Reported}
-use Rattle.lvm_run.specs.declared.ran.Ran.{Ran}
+use Rattle.lvm_run.specs.declared.timed_outcome.TimedOutcome.{TimedOutcome}
 use Rattle.lvm_run.proofs.Promised.{IsTold, kept_undone}
 
 -- what is asked for is what the task is
@@ -54,10 +54,10 @@ kept_asked words line task now text ids old outcome journal new is asked drawn k
     (subst (λ (ns : List Word). IsEntered ns now old journal (lines_of_task task text outcome) new) (sym names) kept)
 
 -- where the run ended before its line, no line was begun
-pub kept_ended : (names : List Word) (now : ℕ) (old : State) → IsTold old → (ran : Ran) (ending : Ending) → ran ≡ ended_by ending → (lines : Outcome → List Said) → lines (Ended ending) ≡ []
+pub kept_ended : (names : List Word) (now : ℕ) (old : State) → IsTold old → (ran : TimedOutcome) (ending : Ending) → ran ≡ ended_by ending → (lines : Outcome → List Said) → lines (Ended ending) ≡ []
     → IsEntered names now old (journal_by ran.begun ran.took old.steps ran.outcome) (lines ran.outcome) old
 kept_ended names now old told ran ending is lines none =
-    subst (λ (r : Ran). IsEntered names now old (journal_by r.begun r.took old.steps r.outcome) (lines r.outcome) old) (sym is)
+    subst (λ (r : TimedOutcome). IsEntered names now old (journal_by r.begun r.took old.steps r.outcome) (lines r.outcome) old) (sym is)
     (subst (λ (all : List Said). IsEntered names now old [] all old) (sym none) (kept_undone names now old told))
 
 -- by the words that ask for it

@@ -16,7 +16,7 @@ use Rattle.lvm_run.specs.Sourced.{SourceState}
 use Rattle.lvm_run.specs.declared.ending.Ending.TheVariants.{NoMemory, WordsRefused}
 use Rattle.lvm_run.specs.declared.outcome.Outcome.{Outcome}
 use Rattle.lvm_run.specs.declared.outcome.Outcome.TheVariants.{Ended}
-use Rattle.lvm_run.specs.declared.ran.Ran.{Ran}
+use Rattle.lvm_run.specs.declared.timed_outcome.TimedOutcome.{TimedOutcome}
 use Rattle.lvm_run.proofs.AskedLines.{kept_asked, kept_ended, none_asked}
 use Rattle.lvm_run.proofs.Promised.{IsTold}
 use Rattle.lvm_run.proofs.Undone.{undone_words}
@@ -34,26 +34,26 @@ as_request names (request.Demo seed lines workers) ids now text from to old outc
 
 module _ (words : List Word) (now : ℕ) (ids : ℕ → List ℕ) (old : State) where
   -- what a run of the words did, and that it keeps the promise
-  abbrev Runs : SourceState → SourceState → Ran → (ℕ → List ℕ) → State → Type 0
+  abbrev Runs : SourceState → SourceState → TimedOutcome → (ℕ → List ℕ) → State → Type 0
   Runs from to ran after new =
       (text : List ℕ) × RunsWords words now text from to ids old ran.outcome after new
       × IsEntered (names_of words) now old (journal_by ran.begun ran.took new.steps ran.outcome) (lines_of_words words text ids ran.outcome) new
 
   -- memory was wanting
-  pub wanting : HasDisks words old → IsTold old → (from : SourceState) (ran : Ran) → ran ≡ ended_by NoMemory → (after : ℕ → List ℕ) → after ≡ ids → Runs from from ran after old
+  pub wanting : HasDisks words old → IsTold old → (from : SourceState) (ran : TimedOutcome) → ran ≡ ended_by NoMemory → (after : ℕ → List ℕ) → after ≡ ids → Runs from from ran after old
   wanting disks told from ran is after undrawn = (
     [],
     subst (λ (drawn : ℕ → List ℕ). RunsWords words now [] from from ids old ran.outcome drawn old) (sym undrawn)
-        (subst (λ (r : Ran). RunsWords words now [] from from ids old r.outcome ids old) (sym is) (undone_words words now [] from ids old disks)),
+        (subst (λ (r : TimedOutcome). RunsWords words now [] from from ids old r.outcome ids old) (sym is) (undone_words words now [] from ids old disks)),
     kept_ended (names_of words) now old told ran NoMemory is (λ outcome. lines_of_words words [] ids outcome) (none_asked words [] ids NoMemory),
   )
 
   -- they have no meaning
-  pub unmeant : command_line_of words ≡ None → IsTold old → (from : SourceState) (ran : Ran) → ran ≡ ended_by WordsRefused → (after : ℕ → List ℕ) → after ≡ ids → Runs from from ran after old
+  pub unmeant : command_line_of words ≡ None → IsTold old → (from : SourceState) (ran : TimedOutcome) → ran ≡ ended_by WordsRefused → (after : ℕ → List ℕ) → after ≡ ids → Runs from from ran after old
   unmeant none told from ran is after undrawn = (
     [],
     record {
-      refused = λ also. (record { refused = (inl (ap (λ (r : Ran). r.outcome) is), refl); unread = refl }, undrawn);
+      refused = λ also. (record { refused = (inl (ap (λ (r : TimedOutcome). r.outcome) is), refl); unread = refl }, undrawn);
       lines = λ line meant. absurd (true≢false (ap is_some (sym meant ∙ none)));
       drawn = λ line meant. absurd (true≢false (ap is_some (sym meant ∙ none)));
     },
@@ -62,7 +62,7 @@ module _ (words : List Word) (now : ℕ) (ids : ℕ → List ℕ) (old : State) 
 
   -- what they ask for was done as a task
   module _ (line : CommandLine) (task : Task) (meant : command_line_of words ≡ Some line) (asked : line.request ≡ request_in task) (is : task ≡ task_of (request_in task) ids) where
-    pub done : (from to : SourceState) (ran : Ran) (after : ℕ → List ℕ) (new : State) → TakesId (draws_id (request_in task)) ids after
+    pub done : (from to : SourceState) (ran : TimedOutcome) (after : ℕ → List ℕ) (new : State) → TakesId (draws_id (request_in task)) ids after
         → ((text : List ℕ) × RunsTask line.names task now text from to old ran.outcome new
         × IsEntered line.names now old (journal_by ran.begun ran.took new.steps ran.outcome) (lines_of_task task text ran.outcome) new) → Runs from to ran after new
     done from to ran after new takes runs =

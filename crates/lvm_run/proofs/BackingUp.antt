@@ -9,7 +9,7 @@ use Rattle.line_answers.specs.declared.op_refusal.OpRefusal.TheVariants.{Unknown
 use Rattle.disk_model.proofs.IdleAgain.{again_nothing}
 use Rattle.disk_model.specs.Faults.{HasSameFaults}
 use Rattle.disk_model.specs.Idle.{IsIdleAgain}
-use Rattle.disk_model.specs.Since.{BetweenTold}
+use Rattle.disk_model.specs.Since.{BetweenRecords}
 use Rattle.disk_model.specs.State.{State}
 use Rattle.conf_text.specs.Printed.{printed}
 use Rattle.meta_model.specs.Standing.{HasTree}
@@ -25,7 +25,7 @@ use Rattle.lvm_run.specs.declared.ending.Ending.{Ending}
 use Rattle.lvm_run.specs.declared.ending.Ending.TheVariants.{NoMemory, ScanReadFailed, ScanRefused}
 use Rattle.lvm_run.specs.declared.outcome.Outcome.{Outcome}
 use Rattle.lvm_run.specs.declared.outcome.Outcome.TheVariants.{Ended, Answered, Reported}
-use Rattle.lvm_run.specs.declared.scan_refusal.ScanRefusal.TheVariants.{Disks, Partial}
+use Rattle.lvm_run.specs.declared.disks_refusal.DisksRefusal.TheVariants.{Disks, Partial}
 use Rattle.lvm_run.specs.Backup.{IsBackedUp, IsGroupBackedUp, IsWholeBackedUp}
 use Rattle.lvm_run.specs.CommandSpec.{Context, Finds, Refuses, Lacks, group_in, no_inputs}
 use Rattle.lvm_run.specs.Commands.Vgcfgbackup.{vgcfgbackup}
@@ -37,11 +37,11 @@ use Rattle.lvm_run.proofs.Refusals.{none_failed_on, refused_is}
 use Rattle.lvm_run.proofs.Reporting.{nothing_read, scan_reads}
 
 module _ (names : List Word) (id : Option (List ℕ)) (vg : List ℕ) (time : ℕ) (old new : State) (again : IsIdleAgain old new)
-    (told : BetweenTold (ReadsFew old.sizes) old.told new.told) where
+    (told : BetweenRecords (ReadsFew old.sizes) old.told new.told) where
   abbrev context : Context
   context = record { names = names; sizes = old.sizes; id = id; now = time }
 
-  does : (outcome : Outcome) → BetweenTold (DoesToDisks (vgcfgbackup vg) context no_inputs outcome) old.told new.told
+  does : (outcome : Outcome) → BetweenRecords (DoesToDisks (vgcfgbackup vg) context no_inputs outcome) old.told new.told
   does = scan_reads (vgcfgbackup vg) context old new refl (λ image spans few. few) told
 
   without_memory : Meets (vgcfgbackup vg) context old (Ended NoMemory) new
@@ -94,7 +94,7 @@ module _ (names : List Word) (id : Option (List ℕ)) (vg : List ℕ) (time : �
       scanned = holds_now_weaker old.told (λ image. IsScanOf image old.sizes found) (λ image. IsScanOf image old.sizes found × (found.unread ≡ set.empty) × IsWhole found) (λ image h. (h, whole.read, whole)) is.now
 
       taken : IsTaken (vgcfgbackup vg) context old (Some found) None
-      taken = record { scanned = scanned; stuck_xl = refl }
+      taken = record { scanned = scanned; stuck_is = refl }
 
       no_faults : HasSameFaults old new
       no_faults = none_failed_on found.unread old new whole.read is.faults

@@ -17,9 +17,9 @@ use Rattle.disk_model.proofs.NowStands.{now_base}
 use Rattle.disk_model.specs.Faults.{HasSameFaults}
 use Rattle.disk_model.specs.Idle.{IsIdleAgain}
 use Rattle.disk_model.specs.Moments.{EveryImageSince}
-use Rattle.disk_model.specs.Since.{BetweenTold}
+use Rattle.disk_model.specs.Since.{BetweenRecords}
 use Rattle.disk_model.specs.State.{State}
-use Rattle.disk_model.specs.Steps.{Image, Told, now_after}
+use Rattle.disk_model.specs.Steps.{Image, Record, now_after}
 use Rattle.disk_model.proofs.EveryMoment.{since_weaken}
 use Rattle.disk_model.proofs.LastFault.{same_faults_both}
 use Rattle.disk_model.proofs.StepsSince.{between_both, between_weaker}
@@ -72,11 +72,11 @@ module _ (names : List Word) (command : Command) (id : Option (List ℕ)) (time 
   abbrev here : Line
   here = line_in context command
 
-  abbrev Does : Inputs → Outcome → Told → Told → Type 0
+  abbrev Does : Inputs → Outcome → Record → Record → Type 0
   Does given outcome = ChangesDisks (changing command) context given outcome
 
   -- the disks weren't taken
-  pub meets_unopened : (new : State) (ending : Ending) → IsIdleAgain old new → IsOpenCause old new ending → BetweenTold (λ a b. OpensDisks old.sizes a false b) old.told new.told
+  pub meets_unopened : (new : State) (ending : Ending) → IsIdleAgain old new → IsOpenCause old new ending → BetweenRecords (λ a b. OpensDisks old.sizes a false b) old.told new.told
       → Meets (changing command) context old (Ended ending) new
   meets_unopened new WordsRefused again cause opens = absurd cause
   meets_unopened new SourceFailed again cause opens = absurd cause
@@ -113,33 +113,33 @@ module _ (names : List Word) (command : Command) (id : Option (List ℕ)) (time 
   meets_unopened new (RepairRefused pv need room) again cause opens = absurd cause
 
   -- they were taken as this was found
-  module _ (found : Found) (mid : State) (opened : IsOpened old found mid) (idle : IsIdleAgain old mid) (opens : BetweenTold (λ a b. OpensDisks old.sizes a true b) old.told mid.told)
-      (follows : (told : Told) → old.told ≡ Some told → IsRecord told.steps) where
+  module _ (found : Found) (mid : State) (opened : IsOpened old found mid) (idle : IsIdleAgain old mid) (opens : BetweenRecords (λ a b. OpensDisks old.sizes a true b) old.told mid.told)
+      (follows : (told : Record) → old.told ≡ Some told → IsRecord told.steps) where
     abbrev Held : Image → Type 0
     Held image = FindsWhole image old.sizes set.empty (Finds (Some found))
 
     scanned : HoldsNow old.told Held
     scanned = go old.told opened.now
       where
-        go : (o : Option Told) → HoldsNow o (λ image. IsScanOf image old.sizes found) → HoldsNow o Held
+        go : (o : Option Record) → HoldsNow o (λ image. IsScanOf image old.sizes found) → HoldsNow o Held
         go None h = tt
         go (Some t) h = (h, opened.whole.read, opened.whole)
 
-    held_now : (told : Told) → old.told ≡ Some told → Held (now_after told.opened told.steps)
-    held_now told is = subst (λ (x : Option Told). HoldsNow x Held) is scanned
+    held_now : (told : Record) → old.told ≡ Some told → Held (now_after told.opened told.steps)
+    held_now told is = subst (λ (x : Option Record). HoldsNow x Held) is scanned
 
     taken : (stuck : Option (ℕ × ℕ × ℕ)) → too_large found ≡ stuck → IsTaken (changing command) context old (Some found) stuck
-    taken stuck is = record { scanned = scanned; stuck_xl = is }
+    taken stuck is = record { scanned = scanned; stuck_is = is }
 
     -- ---- the repair ended the run
     module _ (new : State) (again : IsIdleAgain mid new) where
-      meets_fault : (why : RepairFault) → IsRepairFault found mid new why → BetweenTold (Repairs (repair_batches found) (Err why)) mid.told new.told
+      meets_fault : (why : RepairFault) → IsRepairFault found mid new why → BetweenRecords (Repairs (repair_batches found) (Err why)) mid.told new.told
           → Meets (changing command) context old (Ended (ending_of why)) new
       meets_fault repair.NoMemory cause told = record {
         given = no_inputs;
         cause = tt;
         told = between_both (λ a b. OpensDisks old.sizes a true b) (λ a b. b ≡ a) (Does no_inputs (Ended NoMemory)) old.told mid.told new.told
-            (λ a m b o e. looks (changing command) context no_inputs (Ended NoMemory) refl refl refl None a b (λ t. absurd (cc)) (subst (λ (t : Told). OpensDisks old.sizes a false t) (sym e) (unpassed old.sizes a m o)))
+            (λ a m b o e. looks (changing command) context no_inputs (Ended NoMemory) refl refl refl None a b (λ t. absurd (cc)) (subst (λ (t : Record). OpensDisks old.sizes a false t) (sym e) (unpassed old.sizes a m o)))
             opens told;
         again = again_both old mid new idle again;
       }
@@ -164,14 +164,14 @@ module _ (names : List Word) (command : Command) (id : Option (List ℕ)) (time 
               w.0,
               w.1,
               looks (changing command) context no_inputs (Ended (RepairRefused pv need room)) refl refl refl (Some found) before w.0 (λ t. held_now before is)
-                  (subst (λ (t : Told). OpensDisks old.sizes before true t) (sym w.2) o.2),
+                  (subst (λ (t : Record). OpensDisks old.sizes before true t) (sym w.2) o.2),
             );
         again = again_both old mid new idle again;
       }
 
     -- ---- all was repaired
     module _ (planned : IsPlanned id command) (early : time < 2 ^ 48) (count : length names ≡ length found.disks) (named : All (λ name. is_disk_name name ≡ true) names) (done new : State) (again : IsIdleAgain mid done) (repaired : IsRepaired found mid done (repaired_of found))
-        (repairs : BetweenTold (λ a b. WritesInTurn a (repair_batches found) true b) mid.told done.told) (images_kept : StraysAreOthers found → RepairKeepsImages found) (given : Inputs) where
+        (repairs : BetweenRecords (λ a b. WritesInTurn a (repair_batches found) true b) mid.told done.told) (images_kept : StraysAreOthers found → RepairKeepsImages found) (given : Inputs) where
       abbrev state : GroupState
       state = state_in (repaired_of found) names given.backup
 
@@ -195,16 +195,16 @@ module _ (names : List Word) (command : Command) (id : Option (List ℕ)) (time 
       faults_since = same_faults_both old mid done opened.faults repaired.faults
 
       -- the entries of the areas stand in every base once all was repaired
-      entries_now : (told : Told) → old.told ≡ Some told → ShowsEntries found.areas (now_after told.opened told.steps)
+      entries_now : (told : Record) → old.told ≡ Some told → ShowsEntries found.areas (now_after told.opened told.steps)
       entries_now told is =
           scan_names (now_after told.opened told.steps) old.sizes found
-          (subst (λ (o : Option Told). HoldsNow o (λ image. IsScanOf image old.sizes found)) is opened.now)
+          (subst (λ (o : Option Record). HoldsNow o (λ image. IsScanOf image old.sizes found)) is opened.now)
 
-      module _ (before : Told) (is : old.told ≡ Some before) where
-        abbrev look : Told
+      module _ (before : Record) (is : old.told ≡ Some before) where
+        abbrev look : Record
         look = (opens before is).0
 
-        abbrev start : Told
+        abbrev start : Record
         start = (repairs look (opens before is).1).0
 
         start_told : done.told ≡ Some start
@@ -224,25 +224,25 @@ module _ (names : List Word) (command : Command) (id : Option (List ℕ)) (time 
             subst (λ (image : Image). ShowsEntries (repaired_of found).areas image) (sym now_start)
             (repaired_entries found opened.shape (images_kept (strays_are_others (now_after before.opened before.steps) old.sizes found (held_now before is).0)) (now_after before.opened before.steps) (entries_now before is))
 
-      module _ (again_line : IsIdleAgain done new) (record_new : (told : Told) → new.told ≡ Some told → IsRecord told.steps) where
+      module _ (again_line : IsIdleAgain done new) (record_new : (told : Record) → new.told ≡ Some told → IsRecord told.steps) where
         again_all : IsIdleAgain old new
         again_all = again_both old done new (again_both old mid done idle again) again_line
 
         -- nothing of its own was written
         module _ (said : Answer) (unlined : line_begun (Answered 1 said) ≡ false) (undone : is_done (Answered 1 said) ≡ false) where
-          judged_alone : BetweenTold (λ a b. b ≡ a) done.told new.told → BetweenTold (Does given (Answered 1 said)) old.told new.told
+          judged_alone : BetweenRecords (λ a b. b ≡ a) done.told new.told → BetweenRecords (Does given (Answered 1 said)) old.told new.told
           judged_alone same before is =
               let l = same (start before is) (start_told before is) in (
                 l.0,
                 l.1,
-                subst (λ (t : Told). Does given (Answered 1 said) before t) (sym l.2)
+                subst (λ (t : Record). Does given (Answered 1 said) before t) (sym l.2)
                     (unwritten (changing command) context given (Answered 1 said) undone (Some found) before (look before is) (start before is) (start before is) (λ t. held_now before is) (opens before is).2 (written before is)
                     (λ begun. absurd (untrue (line_begun (Answered 1 said)) unlined begun)) (none_begun (line_begun (Answered 1 said)) false zeros (start before is) unlined)),
               )
 
         -- its zeros were written, its other batches as far as they came, and disks cleared behind these
         module _ (shape : HasShape (repaired_of found)) (whole : IsWhole (repaired_of found)) (takes : IsTakenBy) (passes : refusal_of state here time given.given ≡ None)
-            (images : KeepsImages state here time given.given) (before : Told) (is : old.told ≡ Some before) (made : Told) (record_made : IsRecord made.steps) (well : Bool) (w : WritesBehind zeros batches well (start before is) made) where
+            (images : KeepsImages state here time given.given) (before : Record) (is : old.told ≡ Some before) (made : Record) (record_made : IsRecord made.steps) (well : Bool) (w : WritesBehind zeros batches well (start before is) made) where
           -- the entries of the areas stand in every base then
           entries_zeroed : ShowsEntries (repaired_of found).areas (now_after w.zeroed.opened w.zeroed.steps)
           entries_zeroed =
@@ -278,7 +278,7 @@ module _ (names : List Word) (command : Command) (id : Option (List ℕ)) (time 
               (sym (same_image (now_after made.opened made.steps) (with_batches batches (now_after w.zeroed.opened w.zeroed.steps)) (w.behind.now went)))
               (found, refl, images.found (now_after w.zeroed.opened w.zeroed.steps) entries_zeroed)
 
-          module _ (after : Told) (cleared : Bool) (c : WritesInTurn made clears cleared after) where
+          module _ (after : Record) (cleared : Bool) (c : WritesInTurn made clears cleared after) where
             kept_clearing : (base : Image) → IsBase made base → EveryImageSince (length made.steps) after ((changing command).clearing context (Some found) given base)
             kept_clearing base base_is =
                 since_weaken after (length made.steps) (length made.steps) (HasFirstBatches (take c.submitted clears) base) ((changing command).clearing context (Some found) given base) (omega arith)
@@ -292,7 +292,7 @@ module _ (names : List Word) (command : Command) (id : Option (List ℕ)) (time 
                 (found, refl, images.clears.done (now_after made.opened made.steps))
 
           -- so the disks were changed, by what it was answered
-          written_behind : (said : Answer) → line_begun (Answered 1 said) ≡ true → (after : Told) → WritesInTurn made (batches_if well clears) (is_done (Answered 1 said)) after
+          written_behind : (said : Answer) → line_begun (Answered 1 said) ≡ true → (after : Record) → WritesInTurn made (batches_if well clears) (is_done (Answered 1 said)) after
               → (IsTrue (is_done (Answered 1 said)) → IsTrue well) → Does given (Answered 1 said) before after
           written_behind said begun after c all =
               let clears_if : IsTrue well → WritesInTurn made clears (is_done (Answered 1 said)) after =
@@ -325,7 +325,7 @@ module _ (names : List Word) (command : Command) (id : Option (List ℕ)) (time 
         module _ (shape : HasShape (repaired_of found)) (whole : IsWhole (repaired_of found)) where
           -- all was written, and disks were cleared as far as that came
           cleared_behind : (said : Answer) → line_begun (Answered 1 said) ≡ true → IsTakenBy → refusal_of state here time given.given ≡ None → KeepsImages state here time given.given
-              → ClearsBehind zeros batches clears (is_done (Answered 1 said)) done new → BetweenTold (Does given (Answered 1 said)) old.told new.told
+              → ClearsBehind zeros batches clears (is_done (Answered 1 said)) done new → BetweenRecords (Does given (Answered 1 said)) old.told new.told
           cleared_behind said begun takes passes images c before is =
               let m = c.first (start before is) (start_told before is) in
               let l = c.behind m.0 m.1 in (
@@ -384,8 +384,8 @@ module _ (names : List Word) (command : Command) (id : Option (List ℕ)) (time 
           }
 
     -- ---- the one or the other
-    meets_on : IsPlanned id command → time < 2 ^ 48 → length names ≡ length found.disks → All (λ name. is_disk_name name ≡ true) names → (result : Result Found RepairFault) (done new : State) → IsWholeAgain result → IsIdleAgain mid done → ((told : Told) → new.told ≡ Some told → IsRecord told.steps)
-        → MatchResult result (IsRepaired found mid done) (IsRepairFault found mid done) → BetweenTold (Repairs (repair_batches found) result) mid.told done.told
+    meets_on : IsPlanned id command → time < 2 ^ 48 → length names ≡ length found.disks → All (λ name. is_disk_name name ≡ true) names → (result : Result Found RepairFault) (done new : State) → IsWholeAgain result → IsIdleAgain mid done → ((told : Record) → new.told ≡ Some told → IsRecord told.steps)
+        → MatchResult result (IsRepaired found mid done) (IsRepairFault found mid done) → BetweenRecords (Repairs (repair_batches found) result) mid.told done.told
         → (HasRepairBegun result → StraysAreOthers found → RepairKeepsImages found)
         → (outcome : Outcome) (took : Option ℕ) → GoesOn names here time result done outcome took new → Meets (changing command) context old outcome new
     meets_on planned early count named (Err why) done new whole again record_is cause told images outcome took goes =
@@ -400,7 +400,7 @@ module _ (names : List Word) (command : Command) (id : Option (List ℕ)) (time 
         (meets_by planned early count named done new again (subst (IsRepaired found mid done) same cause) told (images tt) given carried.again record_is (subst HasShape same whole.0) (subst IsWhole same whole.1) carried.result
         (λ judged. (w.takes judged, carried.given_back judged)) w.cause w.images w.told)
 
-    pub meets_changed : IsPlanned id command → time < 2 ^ 48 → length names ≡ length found.disks → All (λ name. is_disk_name name ≡ true) names → (outcome : Outcome) (begun : ℕ) (took : Option ℕ) (new : State) → ((told : Told) → new.told ≡ Some told → IsRecord told.steps)
+    pub meets_changed : IsPlanned id command → time < 2 ^ 48 → length names ≡ length found.disks → All (λ name. is_disk_name name ≡ true) names → (outcome : Outcome) (begun : ℕ) (took : Option ℕ) (new : State) → ((told : Record) → new.told ≡ Some told → IsRecord told.steps)
         → IsChanged found names here time mid outcome begun took new → Meets (changing command) context old outcome new
     meets_changed planned early count named outcome begun took new record_is changed =
         meets_on planned early count named changed.result changed.mid new changed.whole changed.again record_is changed.cause changed.told changed.images outcome took changed.goes

@@ -9,8 +9,8 @@ use Rattle.sector_base.specs.declared.spans.Span.{Span}
 use Rattle.disk_batch.specs.InTurn.{Put, WritesInTurn}
 use Rattle.disk_model.specs.State.{State}
 use Rattle.disk_model.specs.Faults.{HasSameFaults}
-use Rattle.disk_model.specs.Since.{BetweenTold, HoldsOfDisk, KeepsSectors, OnlyReads, ReadsTold}
-use Rattle.disk_model.specs.Steps.{Image, IsSame, Told, now_after}
+use Rattle.disk_model.specs.Since.{BetweenRecords, HoldsOfDisk, KeepsSectors, OnlyReads, ReadsTold}
+use Rattle.disk_model.specs.Steps.{Image, IsSame, Record, now_after}
 use Rattle.disk_model.proofs.KeptSectors.{kept_images}
 use Rattle.vg_found.specs.declared.found.Found.{Found}
 use Rattle.vg_scan.specs.Scans.{FailedOn, HoldsNow}
@@ -25,11 +25,11 @@ untrue b e is = false≢true (sym e ∙ is)
 
 -- ---- nothing is written
 
-nothing_kept : (told : Told) → KeepsSectors told [] told
+nothing_kept : (told : Record) → KeepsSectors told [] told
 nothing_kept told = record { since = []; steps = refl; nothing = tt; same = λ pv sector. refl; flushes = λ k d lt. absurd (omega arith) }
 
 -- no batch is written
-pub none_in_turn : (told : Told) (well : Bool) → WritesInTurn told [] well told
+pub none_in_turn : (told : Record) (well : Bool) → WritesInTurn told [] well told
 none_in_turn told well = record {
   since = [];
   steps = refl;
@@ -46,12 +46,12 @@ none_in_turn told well = record {
 }
 
 -- nor are batches that weren't begun
-pub none_begun : (begun well : Bool) (batches : List (List Put)) (told : Told) → begun ≡ false → WritesInTurn told (batches_if begun batches) well told
+pub none_begun : (begun well : Bool) (batches : List (List Put)) (told : Record) → begun ≡ false → WritesInTurn told (batches_if begun batches) well told
 none_begun true well batches told e = absurd (cc)
 none_begun false well batches told e = none_in_turn told well
 
 -- a look that doesn't pass
-pub unpassed : (sizes : List ℕ) (old new : Told) → OpensDisks sizes old true new → OpensDisks sizes old false new
+pub unpassed : (sizes : List ℕ) (old new : Record) → OpensDisks sizes old true new → OpensDisks sizes old false new
 unpassed sizes old new o = record {
   since = o.since;
   steps = o.steps;
@@ -63,7 +63,7 @@ unpassed sizes old new o = record {
 }
 
 -- nothing behind the zeros of a line was written
-pub unwritten : (spec : CommandSpec) (context : Context) (given : Inputs) (outcome : Outcome) → is_done outcome ≡ false → (found : Option Found) (old opened start zeroed : Told)
+pub unwritten : (spec : CommandSpec) (context : Context) (given : Inputs) (outcome : Outcome) → is_done outcome ≡ false → (found : Option Found) (old opened start zeroed : Record)
     → (IsTrue (is_taken outcome) → spec.scan context (now_after old.opened old.steps) set.empty (Finds found)) → OpensDisks context.sizes old (is_taken outcome) opened
     → WritesInTurn opened (batches_if (repair_begun outcome) (spec.repairs found)) (is_repaired outcome) start → (IsTrue (line_begun outcome) → spec.takes context found given)
     → WritesInTurn start (batches_if (line_begun outcome) (spec.zeros context found given)) false zeroed → ChangesDisks spec context given outcome old zeroed
@@ -93,7 +93,7 @@ unwritten spec context given outcome undone found old opened start zeroed scanne
 
 -- the line ended with its look
 pub looks : (spec : CommandSpec) (context : Context) (given : Inputs) (outcome : Outcome) → repair_begun outcome ≡ false → line_begun outcome ≡ false → is_done outcome ≡ false
-    → (found : Option Found) (old new : Told) → (IsTrue (is_taken outcome) → spec.scan context (now_after old.opened old.steps) set.empty (Finds found))
+    → (found : Option Found) (old new : Record) → (IsTrue (is_taken outcome) → spec.scan context (now_after old.opened old.steps) set.empty (Finds found))
     → OpensDisks context.sizes old (is_taken outcome) new → ChangesDisks spec context given outcome old new
 looks spec context given outcome unrepaired unlined undone found old new scanned opens =
     unwritten spec context given outcome undone found old new new new scanned opens (none_begun (repair_begun outcome) (is_repaired outcome) (spec.repairs found) new unrepaired)
@@ -102,25 +102,25 @@ looks spec context given outcome unrepaired unlined undone found old new scanned
 -- ---- reads alone
 
 -- the line reads, as far as it came
-pub reads_disks : (spec : CommandSpec) (context : Context) (given : Inputs) → spec.flushes ≡ false → (outcome : Outcome) (old new : Told) (read unread : List Span)
+pub reads_disks : (spec : CommandSpec) (context : Context) (given : Inputs) → spec.flushes ≡ false → (outcome : Outcome) (old new : Record) (read unread : List Span)
     → OnlyReads old read new → spec.reads context (now_after old.opened old.steps) (read ++ unread) → DoesToDisks spec context given outcome old new
 reads_disks spec context given alone outcome old new read unread reads spans =
     subst (λ (b : Bool). MatchBool b (ChangesDisks spec context given outcome old new) (ReadsDisks spec context old new)) (sym alone)
     (record { read = read; reads = reads; unread = unread; spans = spans })
 
 -- what holds of the sectors of a disk before a call that reads
-pub between_reading : (R : Told → Told → Type 0) (s0 s1 : Option Told) (spans : List Span) (pv : ℕ) (P : (ℕ → List ℕ) → Type 0) → ReadsTold s0 spans s1 → HoldsOfDisk s0 pv P
-    → ((old new : Told) → OnlyReads old spans new → P (now_after old.opened old.steps pv) → R old new) → BetweenTold R s0 s1
+pub between_reading : (R : Record → Record → Type 0) (s0 s1 : Option Record) (spans : List Span) (pv : ℕ) (P : (ℕ → List ℕ) → Type 0) → ReadsTold s0 spans s1 → HoldsOfDisk s0 pv P
+    → ((old new : Record) → OnlyReads old spans new → P (now_after old.opened old.steps pv) → R old new) → BetweenRecords R s0 s1
 between_reading R s0 s1 spans pv P reads holds make old e =
     let r = reads old e in
-    (r.0, r.1, make old r.0 r.2 (subst (λ (o : Option Told). IfSome o (λ t. P (now_after t.opened t.steps pv))) e holds))
+    (r.0, r.1, make old r.0 r.2 (subst (λ (o : Option Record). IfSome o (λ t. P (now_after t.opened t.steps pv))) e holds))
 
 -- what holds of the disks as reads give them
-pub holds_now_weaker : (told : Option Told) (P Q : Image → Type 0) → ((image : Image) → P image → Q image) → HoldsNow told P → HoldsNow told Q
+pub holds_now_weaker : (told : Option Record) (P Q : Image → Type 0) → ((image : Image) → P image → Q image) → HoldsNow told P → HoldsNow told Q
 holds_now_weaker None P Q more h = tt
 holds_now_weaker (Some t) P Q more h = more (now_after t.opened t.steps) h
 
-pub holds_now_anyway : (told : Option Told) (P : Image → Type 0) → ((image : Image) → P image) → HoldsNow told P
+pub holds_now_anyway : (told : Option Record) (P : Image → Type 0) → ((image : Image) → P image) → HoldsNow told P
 holds_now_anyway None P all = tt
 holds_now_anyway (Some t) P all = all (now_after t.opened t.steps)
 

@@ -10,7 +10,7 @@ use Rattle.line_answers.specs.declared.op_refusal.OpRefusal.TheVariants.{Unknown
 use Rattle.disk_model.proofs.IdleAgain.{again_nothing}
 use Rattle.disk_model.specs.Faults.{HasSameFaults, IsLastFault}
 use Rattle.disk_model.specs.Idle.{IsIdleAgain}
-use Rattle.disk_model.specs.Since.{BetweenTold}
+use Rattle.disk_model.specs.Since.{BetweenRecords}
 use Rattle.disk_model.specs.State.{State}
 use Rattle.disk_model.specs.Steps.{Image, Reading, now_after}
 use Rattle.pv_label.specs.LabelSectors.{label_span}
@@ -43,7 +43,7 @@ module _ (names : List Word) (id : Option (List ℕ)) (pv : List ℕ) (time : �
   no_scan = holds_now_anyway old.told (λ image. Finds None ≡ Finds None) (λ image. refl)
 
   taken : IsTaken (pvck pv) context old None None
-  taken = record { scanned = no_scan; stuck_xl = refl }
+  taken = record { scanned = no_scan; stuck_is = refl }
 
   -- no disk has the name
   pub meets_unknown : number_named names pv ≡ None → old.in_flight ≡ [] → Meets (pvck pv) context old (Answered 1 (Refused (UnknownPv pv))) old
@@ -86,7 +86,7 @@ module _ (names : List Word) (id : Option (List ℕ)) (pv : List ℕ) (time : �
     reads_named : (image : Image) (spans : List Span) → ReadsOn disk image spans → (pvck pv).reads context image spans
     reads_named image spans reads = subst (λ (n : ℕ). ReadsOn n image spans) (sym number_is) reads
 
-    told_all : (outcome : Outcome) → ReadsAllOf disk (slice_index_or old.sizes disk 0) old new → BetweenTold (DoesToDisks (pvck pv) context no_inputs outcome) old.told new.told
+    told_all : (outcome : Outcome) → ReadsAllOf disk (slice_index_or old.sizes disk 0) old new → BetweenRecords (DoesToDisks (pvck pv) context no_inputs outcome) old.told new.told
     told_all outcome r =
         let spans = label_span disk ∷ area_spans disk (areas_found r.found) in
         between_reading (DoesToDisks (pvck pv) context no_inputs outcome) old.told new.told spans disk (λ sector_at. IsFound sector_at (slice_index_or old.sizes disk 0) r.found) r.reads r.is
@@ -94,7 +94,7 @@ module _ (names : List Word) (id : Option (List ℕ)) (pv : List ℕ) (time : �
         (reads_named (now_after before.opened before.steps) (spans ++ [])
         (areas_found r.found, areas_of_found (now_after before.opened before.steps disk) (slice_index_or old.sizes disk 0) r.found is, append-nil spans)))
 
-    told_first : (outcome : Outcome) → ReadsFirstOf disk (slice_index_or old.sizes disk 0) old new → BetweenTold (DoesToDisks (pvck pv) context no_inputs outcome) old.told new.told
+    told_first : (outcome : Outcome) → ReadsFirstOf disk (slice_index_or old.sizes disk 0) old new → BetweenRecords (DoesToDisks (pvck pv) context no_inputs outcome) old.told new.told
     told_first outcome r =
         between_reading (DoesToDisks (pvck pv) context no_inputs outcome) old.told new.told r.read disk (λ sector_at. AreAreasOf sector_at (slice_index_or old.sizes disk 0) r.areas) r.reads r.are
         (λ before after reads are. reads_disks (pvck pv) context no_inputs refl outcome before after r.read r.rest reads

@@ -9,9 +9,9 @@ use Rattle.disk_model.specs.Calls.{Reserves}
 use Rattle.disk_model.specs.Faults.{HasSameFaults}
 use Rattle.disk_model.specs.Idle.{IsIdleAgain}
 use Rattle.disk_model.specs.Order.{HasFlushed}
-use Rattle.disk_model.specs.Since.{BetweenTold, spans_read}
+use Rattle.disk_model.specs.Since.{BetweenRecords, spans_read}
 use Rattle.disk_model.specs.State.{State}
-use Rattle.disk_model.specs.Steps.{Image, IsSame, Reading, Writing, Flushing, Step, Submitted, Completed, Told, now_after}
+use Rattle.disk_model.specs.Steps.{Image, IsSame, Reading, Writing, Flushing, Step, Submitted, Completed, Record, now_after}
 use Rattle.disk_model.proofs.Ordered.{flushed_later, writes_nothing_append}
 use Rattle.disk_model.proofs.ReadingAlone.{now_after-reads, reads_write_nothing}
 use Rattle.disk_model.proofs.StepsSince.{between_both, between_weaker, spans_read-append, steps_joined}
@@ -27,7 +27,7 @@ use Rattle.lvm_run.specs.Scan.{FindsWhole, FlushesBeforeReads, IsOpenCause, IsOp
 use Rattle.lvm_run.specs.ScanEndings.{IsEndingOf, partial_ending}
 use Rattle.lvm_run.specs.declared.ending.Ending.{Ending}
 use Rattle.lvm_run.specs.declared.ending.Ending.TheVariants.{NoMemory, ScanRefused}
-use Rattle.lvm_run.specs.declared.scan_refusal.ScanRefusal.TheVariants.{Disks, Partial}
+use Rattle.lvm_run.specs.declared.disks_refusal.DisksRefusal.TheVariants.{Disks, Partial}
 use Rattle.lvm_run.proofs.Refusals.{none_failed_on, refused_is}
 
 -- ---- steps
@@ -63,19 +63,19 @@ few_none : (image : Image) (sizes : List ℕ) → AreFewReads image sizes []
 few_none image sizes pv = ([], inl refl, omega arith)
 
 -- what holds of the disks after they were flushed held before
-pub holds_unflushed : (disks : ℕ) (well : Bool) (s0 s1 : Option Told) (P : Image → Type 0) → BetweenTold (FlushesAll disks well) s0 s1 → HoldsNow s1 P → HoldsNow s0 P
+pub holds_unflushed : (disks : ℕ) (well : Bool) (s0 s1 : Option Record) (P : Image → Type 0) → BetweenRecords (FlushesAll disks well) s0 s1 → HoldsNow s1 P → HoldsNow s0 P
 holds_unflushed disks well s0 s1 P flushes h = go s0 refl
   where
-    go : (o : Option Told) → s0 ≡ o → HoldsNow o P
+    go : (o : Option Record) → s0 ≡ o → HoldsNow o P
     go None e = tt
     go (Some t) e =
         let f = flushes t e in
-        subst P (same_image (now_after f.0.opened f.0.steps) (now_after t.opened t.steps) f.2.same) (subst (λ (o : Option Told). HoldsNow o P) f.1 h)
+        subst P (same_image (now_after f.0.opened f.0.steps) (now_after t.opened t.steps) f.2.same) (subst (λ (o : Option Record). HoldsNow o P) f.1 h)
 
 -- ---- flushes, and a scan
 
 -- nothing was done yet
-pub unopened : (sizes : List ℕ) (t : Told) → OpensDisks sizes t false t
+pub unopened : (sizes : List ℕ) (t : Record) → OpensDisks sizes t false t
 unopened sizes t = record {
   since = [];
   steps = refl;
@@ -86,7 +86,7 @@ unopened sizes t = record {
   few = few_none (now_after t.opened t.steps) sizes;
 }
 
-module _ (sizes : List ℕ) (old new : Told) (f : FlushesAll (length sizes) false old new) where
+module _ (sizes : List ℕ) (old new : Record) (f : FlushesAll (length sizes) false old new) where
   flushes_open : OpensDisks sizes old false new
   flushes_open = record {
     since = f.since;
@@ -99,13 +99,13 @@ module _ (sizes : List ℕ) (old new : Told) (f : FlushesAll (length sizes) fals
   }
 
 -- a flush failed
-pub opens_flushed : (sizes : List ℕ) (s0 s1 : Option Told) → BetweenTold (FlushesAll (length sizes) false) s0 s1 → BetweenTold (λ old new. OpensDisks sizes old false new) s0 s1
+pub opens_flushed : (sizes : List ℕ) (s0 s1 : Option Record) → BetweenRecords (FlushesAll (length sizes) false) s0 s1 → BetweenRecords (λ old new. OpensDisks sizes old false new) s0 s1
 opens_flushed sizes s0 s1 flushes = between_weaker (FlushesAll (length sizes) false) (λ old new. OpensDisks sizes old false new) s0 s1 (flushes_open sizes) flushes
 
-module _ (sizes : List ℕ) (passes : Bool) (old mid new : Told) (f : FlushesAll (length sizes) true old mid) (r : ReadsFew sizes mid new) where
+module _ (sizes : List ℕ) (passes : Bool) (old mid new : Record) (f : FlushesAll (length sizes) true old mid) (r : ReadsFew sizes mid new) where
   read_same : IsSame (now_after new.opened new.steps) (now_after mid.opened mid.steps)
   read_same pv sector =
-      subst (λ (t : Told). now_after t.opened t.steps pv sector ≡ now_after mid.opened mid.steps pv sector) (sym r.steps)
+      subst (λ (t : Record). now_after t.opened t.steps pv sector ≡ now_after mid.opened mid.steps pv sector) (sym r.steps)
       (ap (λ (i : Image). i pv sector) (now_after-reads mid.opened r.since mid.steps r.reads))
 
   reads_are : spans_read (r.since ++ f.since) ≡ spans_read r.since
@@ -124,14 +124,14 @@ module _ (sizes : List ℕ) (passes : Bool) (old mid new : Told) (f : FlushesAll
   }
 
 -- all were flushed, and then scanned
-pub opens_scanned : (sizes : List ℕ) (passes : Bool) (s0 s1 s2 : Option Told) → BetweenTold (FlushesAll (length sizes) true) s0 s1 → BetweenTold (ReadsFew sizes) s1 s2
-    → BetweenTold (λ old new. OpensDisks sizes old passes new) s0 s2
+pub opens_scanned : (sizes : List ℕ) (passes : Bool) (s0 s1 s2 : Option Record) → BetweenRecords (FlushesAll (length sizes) true) s0 s1 → BetweenRecords (ReadsFew sizes) s1 s2
+    → BetweenRecords (λ old new. OpensDisks sizes old passes new) s0 s2
 opens_scanned sizes passes s0 s1 s2 flushes reads =
     between_both (FlushesAll (length sizes) true) (ReadsFew sizes) (λ old new. OpensDisks sizes old passes new) s0 s1 s2 (reads_open sizes passes) flushes reads
 
 -- ---- what it comes to
 
-module _ (old mid new : State) (same_sizes : mid.sizes ≡ old.sizes) (flushes : BetweenTold (FlushesAll (length old.sizes) true) old.told mid.told) (none : HasSameFaults old mid) where
+module _ (old mid new : State) (same_sizes : mid.sizes ≡ old.sizes) (flushes : BetweenRecords (FlushesAll (length old.sizes) true) old.told mid.told) (none : HasSameFaults old mid) where
   failed_since : (unread : set.FinSet nat_cmp) → FailedOn unread mid new → FailedOn unread old new
   failed_since unread f = record {
     rose = λ pv is. subst (λ (n : ℕ). n < new.faults pv) (none pv) (f.rose pv is);
@@ -162,7 +162,7 @@ module _ (old mid new : State) (same_sizes : mid.sizes ≡ old.sizes) (flushes :
         lacks : HoldsNow old.told (λ image. FindsWhole image old.sizes found.unread (Lacks pv))
         lacks = go old.told found_now
           where
-            go : (o : Option Told) → HoldsNow o (λ image. IsScanOf image old.sizes found) → HoldsNow o (λ image. FindsWhole image old.sizes found.unread (Lacks pv))
+            go : (o : Option Record) → HoldsNow o (λ image. IsScanOf image old.sizes found) → HoldsNow o (λ image. FindsWhole image old.sizes found.unread (Lacks pv))
             go None h = tt
             go (Some t) h = (found, h, refl, unread)
     not_whole_cause not_whole.Partial missing = (
@@ -174,7 +174,7 @@ module _ (old mid new : State) (same_sizes : mid.sizes ≡ old.sizes) (flushes :
         partial : HoldsNow old.told (λ image. FindsWhole image old.sizes found.unread (Refuses (Partial found.missing)))
         partial = go old.told found_now
           where
-            go : (o : Option Told) → HoldsNow o (λ image. IsScanOf image old.sizes found) → HoldsNow o (λ image. FindsWhole image old.sizes found.unread (Refuses (Partial found.missing)))
+            go : (o : Option Record) → HoldsNow o (λ image. IsScanOf image old.sizes found) → HoldsNow o (λ image. FindsWhole image old.sizes found.unread (Refuses (Partial found.missing)))
             go None h = tt
             go (Some t) h = (found, h, refl, missing.0, refl, missing.1)
 
@@ -199,22 +199,22 @@ module _ (s0 made s1 : State) (ops sectors : ℕ) (room : Reserves s0 ops sector
   sizes_same : made.sizes ≡ s0.sizes
   sizes_same = ap (λ (s : State). s.sizes) room.same
 
-  flushes_since : (well : Bool) → BetweenTold (FlushesAll (length made.sizes) well) made.told s1.told → BetweenTold (FlushesAll (length s0.sizes) well) s0.told s1.told
+  flushes_since : (well : Bool) → BetweenRecords (FlushesAll (length made.sizes) well) made.told s1.told → BetweenRecords (FlushesAll (length s0.sizes) well) s0.told s1.told
   flushes_since well flushes =
-      subst (λ (o : Option Told). BetweenTold (FlushesAll (length s0.sizes) well) o s1.told) told_same
-      (subst (λ (l : List ℕ). BetweenTold (FlushesAll (length l) well) made.told s1.told) sizes_same flushes)
+      subst (λ (o : Option Record). BetweenRecords (FlushesAll (length s0.sizes) well) o s1.told) told_same
+      (subst (λ (l : List ℕ). BetweenRecords (FlushesAll (length l) well) made.told s1.told) sizes_same flushes)
 
   faults_since : HasSameFaults made s1 → HasSameFaults s0 s1
   faults_since same pv = same pv ∙ ap (λ (s : State). s.faults pv) room.same
 
-  pub opens_failed : BetweenTold (FlushesAll (length made.sizes) false) made.told s1.told → BetweenTold (λ old new. OpensDisks s0.sizes old false new) s0.told s1.told
+  pub opens_failed : BetweenRecords (FlushesAll (length made.sizes) false) made.told s1.told → BetweenRecords (λ old new. OpensDisks s0.sizes old false new) s0.told s1.told
   opens_failed flushes = opens_flushed s0.sizes s0.told s1.told (flushes_since false flushes)
 
-  module _ (again : IsIdleAgain made s1) (flushes : BetweenTold (FlushesAll (length made.sizes) true) made.told s1.told) (s2 : State) where
-    pub opens_all : (passes : Bool) → BetweenTold (ReadsFew s1.sizes) s1.told s2.told → BetweenTold (λ old new. OpensDisks s0.sizes old passes new) s0.told s2.told
+  module _ (again : IsIdleAgain made s1) (flushes : BetweenRecords (FlushesAll (length made.sizes) true) made.told s1.told) (s2 : State) where
+    pub opens_all : (passes : Bool) → BetweenRecords (ReadsFew s1.sizes) s1.told s2.told → BetweenRecords (λ old new. OpensDisks s0.sizes old passes new) s0.told s2.told
     opens_all passes reads =
         opens_scanned s0.sizes passes s0.told s1.told s2.told (flushes_since true flushes)
-        (subst (λ (l : List ℕ). BetweenTold (ReadsFew l) s1.told s2.told) (again.sizes ∙ sizes_same) reads)
+        (subst (λ (l : List ℕ). BetweenRecords (ReadsFew l) s1.told s2.told) (again.sizes ∙ sizes_same) reads)
 
     module _ (same : HasSameFaults made s1) where
       pub refused_after : (why : RefusalOfScan) (unread : set.FinSet nat_cmp) (ending : Ending) → IsScanRefused s1 why unread s2 → IsEndingOf why unread ending → IsOpenCause s0 s2 ending

@@ -44,7 +44,7 @@ carried_between commits zeros batches clears (Err fault.NoMemory) old new later 
 
 pub goes_between : (names : List Word) (line : Line) (now : ℕ) (result : Result Found RepairFault) (old : State) (outcome : Outcome) (took : Option ℕ) (new : State) → GoesOn names line now result old outcome took new → LiesBetween old.steps took new.steps
 goes_between names line now (Ok repaired) old outcome took new goes =
-    subst (λ (t : Option ℕ). LiesBetween old.steps t new.steps) (sym goes.took_xl) (carried_between _ _ _ _ goes.result old new goes.again.later goes.carried.told)
+    subst (λ (t : Option ℕ). LiesBetween old.steps t new.steps) (sym goes.took_is) (carried_between _ _ _ _ goes.result old new goes.again.later goes.carried.told)
 goes_between names line now (Err why) old outcome took new goes =
     subst (λ (t : Option ℕ). LiesBetween old.steps t new.steps) (sym goes.1) (subst (λ (s : State). old.steps ≤ s.steps) (sym goes.2) (omega arith))
 

@@ -13,7 +13,7 @@ use Rattle.lvm_words.specs.CommandLines.{command_line_of}
 use Rattle.disk_model.specs.Faults.{HasSameFaults}
 use Rattle.disk_model.specs.Since.{ReadsAlone, writes_submitted}
 use Rattle.disk_model.specs.State.{State}
-use Rattle.disk_model.specs.Steps.{Step, Told, Submitted, Completed, Reading, Writing, Flushing, now_after}
+use Rattle.disk_model.specs.Steps.{Step, Record, Submitted, Completed, Reading, Writing, Flushing, now_after}
 use Rattle.vg_scan.specs.Scans.{HoldsNow}
 use Rattle.disk_use.specs.declared.in_use.InUse.{InUse as UsedDisk}
 use Rattle.disk_use.specs.declared.use_refusal.UseRefusal.{UseRefusal}
@@ -132,5 +132,5 @@ left_free words old new free = λ pv before told takes.
     let all : HoldsNow old.told (λ image. All (IsFree (is_new takes.command) image old.sizes) (taken_by takes.names takes.command)) =
     free takes.names takes.command takes.asks in
     let now : All (IsFree (is_new takes.command) (now_after before.opened before.steps) old.sizes) (taken_by takes.names takes.command) =
-    subst (λ (t : Option Told). HoldsNow t (λ image. All (IsFree (is_new takes.command) image old.sizes) (taken_by takes.names takes.command))) told all in
+    subst (λ (t : Option Record). HoldsNow t (λ image. All (IsFree (is_new takes.command) image old.sizes) (taken_by takes.names takes.command))) told all in
     absurd (takes.used (subst (IsFree (is_new takes.command) (now_after before.opened before.steps) old.sizes) takes.taken.2 (now takes.taken.0 pv takes.taken.1)))

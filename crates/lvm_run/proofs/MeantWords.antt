@@ -25,7 +25,7 @@ use Rattle.command_table.specs.declared.refusal.CommandRefusal.TheVariants.{Faul
 use Rattle.command_table.specs.declared.request.Request.{Request}
 use Rattle.command_table.specs.declared.request.Request.TheVariants.{One, Session}
 use Rattle.command_table.specs.declared.table.OptionRow.{OptionRow}
-use Rattle.command_table.specs.Meaning.{Given, alone, amount_of, amount_with, at_place, demo, demo_of, goes_together, growth_by, growth_of, growth_with, longer, lvcreate, lvextend, lvreduce, lvrename, meaning_of_words, meaning_with, narrow, new_volume, one_path, one_word, path_in, pvcreate, pvmove, request_by_name, request_named, request_read, session, session_on, shorter, size, value_in, vgcreate, vgextend, vgreduce, vgrename, workers_in}
+use Rattle.command_table.specs.Meaning.{OptionValues, alone, amount_of, amount_with, at_place, demo, demo_of, goes_together, growth_by, growth_of, growth_with, longer, lvcreate, lvextend, lvreduce, lvrename, meaning_of_words, meaning_with, narrow, new_volume, one_path, one_word, path_in, pvcreate, pvmove, request_by_name, request_named, request_read, session, session_on, shorter, size, value_in, vgcreate, vgextend, vgreduce, vgrename, workers_in}
 use Rattle.command_table.specs.Options.{Word, is_key}
 use Rattle.command_table.specs.Table.{command_named, is_for_words, options_of}
 use Rattle.command_table.specs.Values.{has_plus, is_between, is_group_name, number_fault, number_of, size_of, unless, without_plus}
@@ -221,19 +221,19 @@ name_fits : {A : Type 0} (o : Option A) → is_none (unless BadName (is_none o))
 name_fits None e = refl
 name_fits (Some a) e = absurd (true≢false (sym e))
 
-vgcreate_meant : (given : Given) (arguments : List Word) → IsExtentSize (unwrap_or (size given key.PhysicalExtentSize 2048) 8192)
+vgcreate_meant : (given : OptionValues) (arguments : List Word) → IsExtentSize (unwrap_or (size given key.PhysicalExtentSize 2048) 8192)
     → arguments_pass name.Vgcreate 0 arguments ≡ true → IfSome (vgcreate given arguments) IsMeant
 vgcreate_meant given [] fits pass = tt
 vgcreate_meant given (vg ∷ []) fits pass = tt
 vgcreate_meant given (vg ∷ pv ∷ pvs) fits pass =
     (name_fits (group_name_refusal vg) (and_parts _ (arguments_pass name.Vgcreate 1 (pv ∷ pvs)) pass).0, fits.0, fits.1, fits.2)
 
-pvcreate_meant : (given : Given) (arguments : List Word) → IfSome (pvcreate given arguments) IsMeant
+pvcreate_meant : (given : OptionValues) (arguments : List Word) → IfSome (pvcreate given arguments) IsMeant
 pvcreate_meant given [] = tt
 pvcreate_meant given (pv ∷ []) = tt
 pvcreate_meant given (pv ∷ other ∷ more) = tt
 
-pvmove_meant : (given : Given) (arguments : List Word) → IfSome (pvmove given arguments) IsMeant
+pvmove_meant : (given : OptionValues) (arguments : List Word) → IfSome (pvmove given arguments) IsMeant
 pvmove_meant given arguments = go (cases_Bool (is_some (given key.Abort))) arguments
   where
     go : (is_some (given key.Abort) ≡ true) ⊎ (is_some (given key.Abort) ≡ false) → (arguments : List Word) → IfSome (pvmove given arguments) IsMeant
@@ -272,14 +272,14 @@ lvrename_meant (vg ∷ old ∷ new ∷ []) pass =
 lvrename_meant (vg ∷ old ∷ new ∷ other ∷ more) pass = tt
 
 -- the values of its options are what they have to be
-record NewFits (given : Given) : Type 0 where
+record NewFits (given : OptionValues) : Type 0 where
   named : IfSome (given key.Name) (λ word. value_passes Volume word ≡ true)
   amount : IfSome (amount_of given) IsAmount
   stripes : IfSome (given key.Stripes) (λ word. value_passes (Number 1 8) word ≡ true)
   piece : IfSome (given key.StripeSize) (λ word. value_passes (PowerSize 2 8 (2 ^ 48 - 1)) word ≡ true)
   mirrors : IfSome (given key.Mirrors) (λ word. value_passes (Number 1 7) word ≡ true)
 
-lvcreate_meant : (given : Given) (arguments : List Word) → NewFits given → IfSome (lvcreate given arguments) IsMeant
+lvcreate_meant : (given : OptionValues) (arguments : List Word) → NewFits given → IfSome (lvcreate given arguments) IsMeant
 lvcreate_meant given [] fits = tt
 lvcreate_meant given (vg ∷ pvs) fits = go (goes_together given) refl
   where
@@ -298,7 +298,7 @@ lvcreate_meant given (vg ∷ pvs) fits = go (goes_together given) refl
     go true together = with_size together (given key.Name) fits.named (amount_of given) fits.amount
     go false together = tt
 
-lvextend_meant : (given : Given) (arguments : List Word) → IfSome (growth_of given) IsGrowth → IfSome (lvextend given arguments) IsMeant
+lvextend_meant : (given : OptionValues) (arguments : List Word) → IfSome (growth_of given) IsGrowth → IfSome (lvextend given arguments) IsMeant
 lvextend_meant given [] fits = tt
 lvextend_meant given (path ∷ pvs) fits = go (growth_of given) fits (path_in path)
   where
@@ -307,7 +307,7 @@ lvextend_meant given (path ∷ pvs) fits = go (growth_of given) fits (path_in pa
     go (Some growth) fits None = tt
     go (Some growth) fits (Some path) = fits
 
-lvreduce_meant : (given : Given) (arguments : List Word) → IfSome (amount_of given) IsAmount → IfSome (lvreduce given arguments) IsMeant
+lvreduce_meant : (given : OptionValues) (arguments : List Word) → IfSome (amount_of given) IsAmount → IfSome (lvreduce given arguments) IsMeant
 lvreduce_meant given arguments fits = go (amount_of given) fits (one_path arguments)
   where
     go : (amount : Option Amount) → IfSome amount IsAmount → (path : Option Path) → IfSome (shorter amount path) IsMeant
@@ -321,7 +321,7 @@ alone_meant command meant (word ∷ words) = tt
 
 -- ---- what is asked for
 
-session_meant : (given : Given) (arguments : List Word) → IfSome (session given arguments) IsMeantRequest
+session_meant : (given : OptionValues) (arguments : List Word) → IfSome (session given arguments) IsMeantRequest
 session_meant given arguments = chained IsMeantRequest (session_on (workers_in given)) (with_workers (workers_in given)) (one_word arguments)
   where
     with_workers : (workers : Option ℕ) (vg : Word) → IfSome (session_on workers vg) IsMeantRequest

@@ -14,9 +14,9 @@ use Rattle.disk_model.specs.Durability.{IsBase}
 use Rattle.disk_model.specs.Faults.{HasSameFaults}
 use Rattle.disk_model.specs.Order.{WritesNothing}
 use Rattle.disk_model.specs.Record.{IsRecord}
-use Rattle.disk_model.specs.Since.{BetweenTold}
+use Rattle.disk_model.specs.Since.{BetweenRecords}
 use Rattle.disk_model.specs.State.{IsLawful, State}
-use Rattle.disk_model.specs.Steps.{Image, Step, Told, now_after, steps_on}
+use Rattle.disk_model.specs.Steps.{Image, Step, Record, now_after, steps_on}
 use Rattle.disk_batch.specs.InTurn.{Put, WritesInTurn}
 use Rattle.vg_found.specs.Shape.{HasShape}
 use Rattle.vg_found.specs.Whole.{IsWhole}
@@ -57,17 +57,17 @@ use Rattle.lvm_run.proofs.InTime.{LiesBetween, goes_between, lies_whole, planned
 
 -- what a shelf's law says of its record
 pub record IsTold (state : State) : Type 0 where
-  pub record_is : (told : Told) → state.told ≡ Some told → IsRecord told.steps
-  pub steps : (told : Told) → state.told ≡ Some told → state.steps ≡ length told.steps
+  pub record_is : (told : Record) → state.told ≡ Some told → IsRecord told.steps
+  pub steps : (told : Record) → state.told ≡ Some told → state.steps ≡ length told.steps
 
 pub told_of : (state : State) → IsLawful state → IsTold state
 told_of state law = record {
-  record_is = λ told is. told_at (λ (t : Told). IsRecord t.steps) state.told told law.follows is;
-  steps = λ told is. told_at (λ (t : Told). state.steps ≡ length t.steps) state.told told law.steps is;
+  record_is = λ told is. told_at (λ (t : Record). IsRecord t.steps) state.told told law.follows is;
+  steps = λ told is. told_at (λ (t : Record). state.steps ≡ length t.steps) state.told told law.steps is;
 }
 
 -- the moments of a journal as the shelf counts them
-pub counted : (handed : Told) (base : Image) (sizes : List ℕ) (names : List Word) (now : ℕ) (ended : Told) (all : List Said) (a b n m : ℕ) (t u : Option ℕ) → n ≡ a → u ≡ t → m ≡ b
+pub counted : (handed : Record) (base : Image) (sizes : List ℕ) (names : List Word) (now : ℕ) (ended : Record) (all : List Said) (a b n m : ℕ) (t u : Option ℕ) → n ≡ a → u ≡ t → m ≡ b
     → HasRunHistory handed base sizes names now ended (journal_of_line a t b) all → HasRunHistory handed base sizes names now ended (journal_of_line n u m) all
 counted handed base sizes names now ended all a b n m t u begun took at_end has =
     subst (λ (k : ℕ). HasRunHistory handed base sizes names now ended (journal_of_line k u m) all) (sym begun)
@@ -97,15 +97,15 @@ pub record IsPassed (state : GroupState) (line : Line) (now : ℕ) (inputs : Inp
 
 -- ---- where nothing was written
 
-pub same_told : (o : Option Told) (a b : Told) → o ≡ Some a → o ≡ Some b → a ≡ b
+pub same_told : (o : Option Record) (a b : Record) → o ≡ Some a → o ≡ Some b → a ≡ b
 same_told o a b is also = same_Some a b (sym is ∙ also)
 
 -- the steps since write nothing
-abbrev pub WroteNothing : Told → Told → Type 0
+abbrev pub WroteNothing : Record → Record → Type 0
 WroteNothing old new = (since : List Step) × (new ≡ steps_on since old) × WritesNothing since
 
 -- a line was begun behind what was looked at, or before it; the steps up to then, and those since
-abbrev pub begun_at : Bool → Told → Told → Told
+abbrev pub begun_at : Bool → Record → Record → Record
 begun_at behind handed ended = if behind then ended else handed
 
 abbrev before_line : Bool → List Step → List Step
@@ -114,11 +114,11 @@ before_line behind since = if behind then since else []
 abbrev since_line : Bool → List Step → List Step
 since_line behind since = if behind then [] else since
 
-pub opening_is : (behind : Bool) (since : List Step) (handed ended : Told) → ended ≡ steps_on since handed → begun_at behind handed ended ≡ steps_on (before_line behind since) handed
+pub opening_is : (behind : Bool) (since : List Step) (handed ended : Record) → ended ≡ steps_on since handed → begun_at behind handed ended ≡ steps_on (before_line behind since) handed
 opening_is true since handed ended is = is
 opening_is false since handed ended is = refl
 
-pub since_is : (behind : Bool) (since : List Step) (handed ended : Told) → ended ≡ steps_on since handed → ended ≡ steps_on (since_line behind since) (begun_at behind handed ended)
+pub since_is : (behind : Bool) (since : List Step) (handed ended : Record) → ended ≡ steps_on since handed → ended ≡ steps_on (since_line behind since) (begun_at behind handed ended)
 since_is true since handed ended is = refl
 since_is false since handed ended is = is
 
@@ -126,8 +126,8 @@ pub nothing_is : (behind : Bool) (since : List Step) → WritesNothing since →
 nothing_is true since none = none
 nothing_is false since none = subst WritesNothing (sym (append-nil since)) none
 
-abbrev pub looked_alone : (behind : Bool) (old new : State) → IsTold new → BetweenTold WroteNothing old.told new.told → (handed : Told) → old.told ≡ Some handed → (base : Image) → IsBase handed base → (version : Option Version)
-    → FindsVersion old.sizes base none_out version → (ended : Told) → new.told ≡ Some ended → LooksAlone handed old.sizes (begun_at behind handed ended) ended
+abbrev pub looked_alone : (behind : Bool) (old new : State) → IsTold new → BetweenRecords WroteNothing old.told new.told → (handed : Record) → old.told ≡ Some handed → (base : Image) → IsBase handed base → (version : Option Version)
+    → FindsVersion old.sizes base none_out version → (ended : Record) → new.told ≡ Some ended → LooksAlone handed old.sizes (begun_at behind handed ended) ended
 looked_alone behind old new told between handed there base base_is version finds ended at_end =
     let w = between handed there in
     let steps : ended ≡ steps_on w.2.0 handed = same_told new.told ended w.0 at_end w.1 ∙ w.2.1 in
@@ -145,7 +145,7 @@ looked_alone behind old new told between handed there base base_is version finds
     }
 
 -- and no line was begun
-pub kept_unbegun : (names : List Word) (now : ℕ) (old new : State) → old.steps ≤ new.steps → IsTold new → BetweenTold WroteNothing old.told new.told → IsEntered names now old [] [] new
+pub kept_unbegun : (names : List Word) (now : ℕ) (old new : State) → old.steps ≤ new.steps → IsTold new → BetweenRecords WroteNothing old.told new.told → IsEntered names now old [] [] new
 kept_unbegun names now old new later told between = record {
   unbegun = λ none. refl;
   in_time = later;
@@ -156,17 +156,17 @@ kept_unbegun names now old new later told between = record {
 pub kept_undone : (names : List Word) (now : ℕ) (old : State) → IsTold old → IsEntered names now old [] [] old
 kept_undone names now old told = kept_unbegun names now old old (omega arith) told (λ handed there. (handed, there, ([], refl, tt)))
 
-opening_wrote : (sizes : List ℕ) (passes : Bool) (old new : Told) → OpensDisks sizes old passes new → WroteNothing old new
+opening_wrote : (sizes : List ℕ) (passes : Bool) (old new : Record) → OpensDisks sizes old passes new → WroteNothing old new
 opening_wrote sizes passes old new o = (o.since, o.steps, o.nothing)
 
 -- the disks weren't taken
-pub kept_unopened : (names : List Word) (now : ℕ) (line : Line) (old new : State) (begun : ℕ) (ending : Ending) → old.steps ≤ new.steps → IsTold new → BetweenTold (λ a b. OpensDisks old.sizes a false b) old.told new.told
+pub kept_unopened : (names : List Word) (now : ℕ) (line : Line) (old new : State) (begun : ℕ) (ending : Ending) → old.steps ≤ new.steps → IsTold new → BetweenRecords (λ a b. OpensDisks old.sizes a false b) old.told new.told
     → IsEntered names now old (journal_by begun None new.steps (Ended ending)) (lines_by line (Ended ending)) new
 kept_unopened names now line old new begun ending later told opens =
     kept_unbegun names now old new later told (λ handed there. let o = opens handed there in (o.0, o.1, opening_wrote old.sizes false handed o.0 o.2))
 
 -- ---- the disks were taken as this was found
-module _ (lines : LinesHaveHistories) (cleared : ClearsHaveHistories) (ends : EndsHaveHistories) (agree : DoneSetsAgree) (members : MadeMembersAgree) (names : List Word) (now : ℕ) (line : Line) (old : State) (found : Found) (mid : State) (opened : IsOpened old found mid) (opens : BetweenTold (λ a b. OpensDisks old.sizes a true b) old.told mid.told)
+module _ (lines : LinesHaveHistories) (cleared : ClearsHaveHistories) (ends : EndsHaveHistories) (agree : DoneSetsAgree) (members : MadeMembersAgree) (names : List Word) (now : ℕ) (line : Line) (old : State) (found : Found) (mid : State) (opened : IsOpened old found mid) (opens : BetweenRecords (λ a b. OpensDisks old.sizes a true b) old.told mid.told)
     (count : length names ≡ length found.disks) (named : All (λ name. is_disk_name name ≡ true) names) (planned : IsPlanned line.id line.command) (time : now < 2 ^ 48) (old_told : IsTold old) where
   -- what the line is judged against, by what it takes, and what it writes
   abbrev state : Inputs → GroupState
@@ -187,17 +187,17 @@ module _ (lines : LinesHaveHistories) (cleared : ClearsHaveHistories) (ends : En
   abbrev Passed : Inputs → Type 0
   Passed inputs = IsPassed (state inputs) line now inputs
 
-  module _ (handed : Told) (there : old.told ≡ Some handed) (base : Image) (base_is : IsBase handed base) where
+  module _ (handed : Record) (there : old.told ≡ Some handed) (base : Image) (base_is : IsBase handed base) where
     scan_base : IsScanOf base old.sizes found
     scan_base =
         subst (λ (i : Image). IsScanOf i old.sizes found)
         (same_image (now_after handed.opened handed.steps) base (now_base handed base (old_told.record_is handed there) base_is))
-        (subst (λ (o : Option Told). HoldsNow o (λ image. IsScanOf image old.sizes found)) there opened.now)
+        (subst (λ (o : Option Record). HoldsNow o (λ image. IsScanOf image old.sizes found)) there opened.now)
 
     others : StraysAreOthers found
     others = strays_apart base old.sizes found scan_base
 
-    abbrev look : Told
+    abbrev look : Record
     look = (opens handed there).0
 
     look_told : mid.told ≡ Some look
@@ -221,9 +221,9 @@ module _ (lines : LinesHaveHistories) (cleared : ClearsHaveHistories) (ends : En
       }
 
       -- as far as it came
-      run_at : (stage : Stage) (start ended : Told) → WritesInTurn look (batches_if (repair_begun stage) (repair_batches found)) (is_repaired stage) start → (IsTrue (repair_begun stage) → (too_large found ≡ None) × RepairKeepsImages found)
+      run_at : (stage : Stage) (start ended : Record) → WritesInTurn look (batches_if (repair_begun stage) (repair_batches found)) (is_repaired stage) start → (IsTrue (repair_begun stage) → (too_large found ≡ None) × RepairKeepsImages found)
           → (IsTrue (is_repaired stage) → HasShape (repaired_of found) × IsWhole (repaired_of found))
-          → (zeroed : Told) → (IsTrue (is_repaired stage) → WritesInTurn start (batches_if (zeros_begun stage) (zeros inputs)) (is_zeroed stage) zeroed) → (is_repaired stage ≡ false → zeroed ≡ start)
+          → (zeroed : Record) → (IsTrue (is_repaired stage) → WritesInTurn start (batches_if (zeros_begun stage) (zeros inputs)) (is_zeroed stage) zeroed) → (is_repaired stage ≡ false → zeroed ≡ start)
           → (IsTrue (is_zeroed stage) → WritesInTurn zeroed (batches inputs) (is_done stage) ended) → (is_zeroed stage ≡ false → ended ≡ zeroed)
           → (IsTrue (zeros_begun stage) → Passed inputs) → IsRecord ended.steps → RunsLine given stage start ended
       run_at stage start ended repair repairs repaired zeroed zeros unrepaired written unzeroed passed record_is = record {
@@ -250,21 +250,21 @@ module _ (lines : LinesHaveHistories) (cleared : ClearsHaveHistories) (ends : En
       }
 
       -- nothing was written at all
-      opened_alone : (ended : Told) → ended ≡ look → IsRecord ended.steps → RunsLine given Opened look ended
+      opened_alone : (ended : Record) → ended ≡ look → IsRecord ended.steps → RunsLine given Opened look ended
       opened_alone ended same record_is = run_at Opened look ended (none_in_turn look false) (λ begun. cc) (λ repaired. cc) look (λ repaired. cc) (λ e. refl) (λ e. cc) (λ e. same) (λ begun. cc) record_is
 
       -- the repair failed
-      repair_failed : (start ended : Told) → WritesInTurn look (repair_batches found) false start → too_large found ≡ None → RepairKeepsImages found → ended ≡ start → IsRecord ended.steps → RunsLine given Repairing start ended
+      repair_failed : (start ended : Record) → WritesInTurn look (repair_batches found) false start → too_large found ≡ None → RepairKeepsImages found → ended ≡ start → IsRecord ended.steps → RunsLine given Repairing start ended
       repair_failed start ended repaired fits keeps same record_is = run_at Repairing start ended repaired (λ begun. (fits, keeps)) (λ repaired. cc) start (λ repaired. cc) (λ e. refl) (λ e. cc) (λ e. same) (λ begun. cc) record_is
 
       -- all was repaired
-      module _ (start : Told) (repaired : WritesInTurn look (repair_batches found) true start) (fits : too_large found ≡ None) (keeps : RepairKeepsImages found)
+      module _ (start : Record) (repaired : WritesInTurn look (repair_batches found) true start) (fits : too_large found ≡ None) (keeps : RepairKeepsImages found)
           (shape : HasShape (repaired_of found)) (whole : IsWhole (repaired_of found)) where
-        unwritten : (ended : Told) → IsRecord ended.steps → ended ≡ start → RunsLine given Repaired start ended
+        unwritten : (ended : Record) → IsRecord ended.steps → ended ≡ start → RunsLine given Repaired start ended
         unwritten ended record_is same =
             run_at Repaired start ended repaired (λ begun. (fits, keeps)) (λ e. (shape, whole)) start (λ e. none_in_turn start false) (λ e. cc) (λ e. cc) (λ e. same) (λ begun. cc) record_is
 
-        module _ (passed : Passed inputs) (ended : Told) (record_is : IsRecord ended.steps) where
+        module _ (passed : Passed inputs) (ended : Record) (record_is : IsRecord ended.steps) where
           zeros_failed : WritesInTurn start (zeros inputs) false ended → RunsLine given Zeroing start ended
           zeros_failed zeros = run_at Zeroing start ended repaired (λ begun. (fits, keeps)) (λ e. (shape, whole)) ended (λ e. zeros) (λ e. cc) (λ e. cc) (λ e. refl) (λ begun. passed) record_is
 
@@ -280,7 +280,7 @@ module _ (lines : LinesHaveHistories) (cleared : ClearsHaveHistories) (ends : En
     Keeps outcome took = KeepsPromise names now old (journal_by done_at.steps took new.steps outcome) (lines_by line outcome) new
 
     -- the run ended before its line
-    ended_by : (why : RepairFault) → IsRepairFault found mid done_at why → BetweenTold (Repairs (repair_batches found) (Err why)) mid.told done_at.told
+    ended_by : (why : RepairFault) → IsRepairFault found mid done_at why → BetweenRecords (Repairs (repair_batches found) (Err why)) mid.told done_at.told
         → (HasRepairBegun (Err why) → StraysAreOthers found → RepairKeepsImages found) → new ≡ done_at → Keeps (Ended (ending_of why)) None
     ended_by repair.NoMemory cause told keeps same handed there base base_is version finds ended at_end =
         let t = told (look handed there base base_is) (look_told handed there base base_is) in
@@ -298,13 +298,13 @@ module _ (lines : LinesHaveHistories) (cleared : ClearsHaveHistories) (ends : En
           tt,
         )
 
-    module _ (repaired : IsRepaired found mid done_at (repaired_of found)) (told : BetweenTold (λ a b. WritesInTurn a (repair_batches found) true b) mid.told done_at.told)
+    module _ (repaired : IsRepaired found mid done_at (repaired_of found)) (told : BetweenRecords (λ a b. WritesInTurn a (repair_batches found) true b) mid.told done_at.told)
         (keeps : StraysAreOthers found → RepairKeepsImages found) (shape : HasShape (repaired_of found)) (whole : IsWhole (repaired_of found)) (inputs : Inputs) where
-      module _ (handed : Told) (there : old.told ≡ Some handed) (base : Image) (base_is : IsBase handed base) (ended : Told) (at_end : new.told ≡ Some ended) where
+      module _ (handed : Record) (there : old.told ≡ Some handed) (base : Image) (base_is : IsBase handed base) (ended : Record) (at_end : new.told ≡ Some ended) where
         abbrev run : Given
         run = given handed there base base_is inputs
 
-        abbrev start : Told
+        abbrev start : Record
         start = (told (look handed there base base_is) (look_told handed there base base_is)).0
 
         start_told : done_at.told ≡ Some start
@@ -330,25 +330,25 @@ module _ (lines : LinesHaveHistories) (cleared : ClearsHaveHistories) (ends : En
             (lines run stage start ended said runs may)
 
         -- nothing of it was written
-        run_unwritten : BetweenTold (λ a b. b ≡ a) done_at.told new.told → RunsLine run Repaired start ended
+        run_unwritten : BetweenRecords (λ a b. b ≡ a) done_at.told new.told → RunsLine run Repaired start ended
         run_unwritten carried =
             let e = carried start start_told in
             unwritten handed there base base_is inputs start written repaired.fits repair_keeps shape whole ended record_is (same_told new.told ended e.0 at_end e.1 ∙ e.2)
 
         module _ (passed : Passed inputs) where
           -- its zeros or its other batches failed
-          run_failed : (pv : ℕ) → BetweenTold (WritesBoth (zeros inputs) (batches inputs) false) done_at.told new.told → HasHistory None (answer.PvFailed pv)
+          run_failed : (pv : ℕ) → BetweenRecords (WritesBoth (zeros inputs) (batches inputs) false) done_at.told new.told → HasHistory None (answer.PvFailed pv)
           run_failed pv carried =
               let e = carried start start_told in
               let is : e.0 ≡ ended = same_told new.told e.0 ended e.1 at_end in
               ⊎_elim
               (λ first. answered Zeroing (answer.PvFailed pv) (zeros_failed handed there base base_is inputs start written repaired.fits repair_keeps shape whole passed ended record_is first) tt)
               (λ behind. answered Writing (answer.PvFailed pv) (failed handed there base base_is inputs start written repaired.fits repair_keeps shape whole passed ended record_is behind) tt)
-              (subst (λ (u : Told). WritesBoth (zeros inputs) (batches inputs) false start u) is e.2)
+              (subst (λ (u : Record). WritesBoth (zeros inputs) (batches inputs) false start u) is e.2)
 
           -- these were written until the shelf was in a state, and disks cleared behind them
           module _ (well : Bool) (c : ClearsBehind (zeros inputs) (batches inputs) (clears inputs) well done_at new) where
-            abbrev made : Told
+            abbrev made : Record
             made = (c.first start start_told).0
 
             made_told : IsTold c.made
@@ -360,7 +360,7 @@ module _ (lines : LinesHaveHistories) (cleared : ClearsHaveHistories) (ends : En
             cleared_behind : WritesInTurn made (clears inputs) well ended
             cleared_behind =
                 let e = c.behind made made_is in
-                subst (λ (u : Told). WritesInTurn made (clears inputs) well u) (same_told new.told e.0 ended e.1 at_end) e.2
+                subst (λ (u : Record). WritesInTurn made (clears inputs) well u) (same_told new.told e.0 ended e.1 at_end) e.2
 
             abbrev run_cleared : ClearsLine run well start ended
             run_cleared = record {
@@ -408,7 +408,7 @@ module _ (lines : LinesHaveHistories) (cleared : ClearsHaveHistories) (ends : En
             λ took. members (run handed there base base_is ended at_end) false (start handed there base base_is ended at_end) ended (run_cleared handed there base base_is ended at_end passed false carried.0) carried.2,
           )
 
-    by_result : (result : Result Found RepairFault) → IsWholeAgain result → MatchResult result (IsRepaired found mid done_at) (IsRepairFault found mid done_at) → BetweenTold (Repairs (repair_batches found) result) mid.told done_at.told
+    by_result : (result : Result Found RepairFault) → IsWholeAgain result → MatchResult result (IsRepaired found mid done_at) (IsRepairFault found mid done_at) → BetweenRecords (Repairs (repair_batches found) result) mid.told done_at.told
         → (HasRepairBegun result → StraysAreOthers found → RepairKeepsImages found) → (outcome : Outcome) (took : Option ℕ) → GoesOn names line now result done_at outcome took new → Keeps outcome took
     by_result (Err why) whole cause told keeps outcome took goes =
         subst (λ (o : Outcome). Keeps o took) (sym goes.0) (subst (λ (t : Option ℕ). Keeps (Ended (ending_of why)) t) (sym goes.1) (ended_by why cause told keeps goes.2))
@@ -418,7 +418,7 @@ module _ (lines : LinesHaveHistories) (cleared : ClearsHaveHistories) (ends : En
         let w = carried.carried in
         let inputs : Inputs = record { given = w.given; backup = carried.backup } in
         subst (λ (o : Outcome). Keeps o took) (sym carried.is)
-        (subst (λ (t : Option ℕ). Keeps (outcome_of carried.result) t) (sym carried.took_xl)
+        (subst (λ (t : Option ℕ). Keeps (outcome_of carried.result) t) (sym carried.took_is)
         (line_by (subst (IsRepaired found mid done_at) same cause) told (keeps tt) (subst HasShape same whole.0) (subst IsWhole same whole.1) inputs carried.result
         (λ judged. (w.takes judged, carried.given_back judged)) w.cause w.images w.told))
 
@@ -430,10 +430,10 @@ module _ (lines : LinesHaveHistories) (cleared : ClearsHaveHistories) (ends : En
       record {
         unbegun = run_unbegun line outcome old.steps begun took new.steps;
         in_time =
-            subst (λ (n : ℕ). AreInTime (begun_from (lines_by line outcome) old.steps new.steps) (journal_by n took new.steps outcome) new.steps) (sym c.begun_xl)
+            subst (λ (n : ℕ). AreInTime (begun_from (lines_by line outcome) old.steps new.steps) (journal_by n took new.steps outcome) new.steps) (sym c.begun_is)
             (run_in_time line outcome old.steps c.mid.steps took new.steps (omega (arith, later, lies_whole c.mid.steps took new.steps between))
             (subst (λ (alone : Bool). (if alone then new.steps else old.steps) ≤ c.mid.steps) (sym (planned_writes line.id line.command planned)) later) between);
         promise =
-            subst (λ (n : ℕ). KeepsPromise names now old (journal_by n took new.steps outcome) (lines_by line outcome) new) (sym c.begun_xl)
+            subst (λ (n : ℕ). KeepsPromise names now old (journal_by n took new.steps outcome) (lines_by line outcome) new) (sym c.begun_is)
             (by_result c.mid new (record { record_is = c.follows; steps = c.steps }) told_new c.result c.whole c.cause c.told c.images outcome took c.goes);
       }

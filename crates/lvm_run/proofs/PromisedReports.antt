@@ -12,9 +12,9 @@ use Rattle.line_answers.specs.declared.op_refusal.OpRefusal.{OpRefusal}
 use Rattle.lvm_script.specs.declared.line.Line.{Line}
 use Rattle.disk_model.proofs.ReadingAlone.{reads_write_nothing}
 use Rattle.disk_model.proofs.StepsSince.{between_weaker}
-use Rattle.disk_model.specs.Since.{BetweenTold}
+use Rattle.disk_model.specs.Since.{BetweenRecords}
 use Rattle.disk_model.specs.State.{State}
-use Rattle.disk_model.specs.Steps.{Told}
+use Rattle.disk_model.specs.Steps.{Record}
 use Rattle.volume_history.specs.Commands.{commits, may_say}
 use Rattle.volume_history.specs.Quiet.{is_quiet}
 use Rattle.line_history.proofs.Looks.{reports}
@@ -72,10 +72,10 @@ module _ (names : List Word) (now : ℕ) (line : Line) (old new : State) (later 
   abbrev context : Context
   context = context_with names line.id now old
 
-  reads_of : (outcome : Outcome) (a b : Told) → DoesToDisks (spec_of line.command) context given outcome a b → ReadsDisks (spec_of line.command) context a b
+  reads_of : (outcome : Outcome) (a b : Record) → DoesToDisks (spec_of line.command) context given outcome a b → ReadsDisks (spec_of line.command) context a b
   reads_of outcome a b does = subst (λ (f : Bool). MatchBool f (ChangesDisks (spec_of line.command) context given outcome a b) (ReadsDisks (spec_of line.command) context a b)) report.unflushed does
 
-  wrote : (outcome : Outcome) → BetweenTold (DoesToDisks (spec_of line.command) context given outcome) old.told new.told → BetweenTold WroteNothing old.told new.told
+  wrote : (outcome : Outcome) → BetweenRecords (DoesToDisks (spec_of line.command) context given outcome) old.told new.told → BetweenRecords WroteNothing old.told new.told
   wrote outcome told =
       between_weaker (DoesToDisks (spec_of line.command) context given outcome) WroteNothing old.told new.told
       (λ a b does. let r = (reads_of outcome a b does).reads in (r.since, r.steps, reads_write_nothing r.since r.reads)) told
@@ -84,15 +84,15 @@ module _ (names : List Word) (now : ℕ) (line : Line) (old new : State) (later 
   abbrev begun : ℕ
   begun = if reports_scan line.command then new.steps else old.steps
 
-  begun_told : (behind : Bool) (handed ended : Told) → old.told ≡ Some handed → new.told ≡ Some ended → (if behind then new.steps else old.steps) ≡ length (begun_at behind handed ended).steps
+  begun_told : (behind : Bool) (handed ended : Record) → old.told ≡ Some handed → new.told ≡ Some ended → (if behind then new.steps else old.steps) ≡ length (begun_at behind handed ended).steps
   begun_told true handed ended there at_end = told_new.steps ended at_end
   begun_told false handed ended there at_end = told_old.steps handed there
 
   abbrev Keeps : Outcome → Type 0
   Keeps outcome = KeepsPromise names now old (journal_by begun (if is_report outcome then Some new.steps else None) new.steps outcome) (lines_by line outcome) new
 
-  said_so : (said : Answer) → IsFineOrBad said → may_say line.command said ≡ true → ((ended : Told) → NoneOlder (journal_of_line begun (took_if said new.steps) new.steps) ((line, Some said) ∷ []) old.sizes ended)
-      → BetweenTold WroteNothing old.told new.told → KeepsPromise names now old (journal_of_line begun (took_if said new.steps) new.steps) ((line, Some said) ∷ []) new
+  said_so : (said : Answer) → IsFineOrBad said → may_say line.command said ≡ true → ((ended : Record) → NoneOlder (journal_of_line begun (took_if said new.steps) new.steps) ((line, Some said) ∷ []) old.sizes ended)
+      → BetweenRecords WroteNothing old.told new.told → KeepsPromise names now old (journal_of_line begun (took_if said new.steps) new.steps) ((line, Some said) ∷ []) new
   said_so said may says older told handed there base base_is version finds ended at_end =
       let behind : Bool = reports_scan line.command in (
         counted handed base old.sizes names now ended ((line, Some said) ∷ []) (length (begun_at behind handed ended).steps) (length ended.steps) begun new.steps (took_if said (length ended.steps)) (took_if said new.steps)
@@ -102,10 +102,10 @@ module _ (names : List Word) (now : ℕ) (line : Line) (old new : State) (later 
       )
 
   -- no line was begun
-  unbegun : (outcome : Outcome) → BetweenTold (DoesToDisks (spec_of line.command) context given outcome) old.told new.told → KeepsPromise names now old [] [] new
+  unbegun : (outcome : Outcome) → BetweenRecords (DoesToDisks (spec_of line.command) context given outcome) old.told new.told → KeepsPromise names now old [] [] new
   unbegun outcome told = (kept_unbegun names now old new later told_new (wrote outcome told)).promise
 
-  promised : (outcome : Outcome) → IsCause (spec_of line.command) context given old new outcome → BetweenTold (DoesToDisks (spec_of line.command) context given outcome) old.told new.told → Keeps outcome
+  promised : (outcome : Outcome) → IsCause (spec_of line.command) context given old new outcome → BetweenRecords (DoesToDisks (spec_of line.command) context given outcome) old.told new.told → Keeps outcome
   promised (Ended ending) cause told = unbegun (Ended ending) told
   promised (Answered n answer.NoMemory) cause told = unbegun (Answered n answer.NoMemory) told
   promised (Answered n answer.Fine) cause told = absurd (true≢false (sym cause.1 ∙ report.unflushed))
@@ -115,7 +115,7 @@ module _ (names : List Word) (now : ℕ) (line : Line) (old new : State) (later 
   promised (Reported text whole) cause told =
       said_so answer.Fine tt report.says_fine (λ ended commit. absurd (true≢false (sym commit ∙ report.uncommitted))) (wrote (Reported text whole) told)
 
-  pub kept_report : (outcome : Outcome) → IsCause (spec_of line.command) context given old new outcome → BetweenTold (DoesToDisks (spec_of line.command) context given outcome) old.told new.told
+  pub kept_report : (outcome : Outcome) → IsCause (spec_of line.command) context given old new outcome → BetweenRecords (DoesToDisks (spec_of line.command) context given outcome) old.told new.told
       → IsEntered names now old (journal_by begun (if is_report outcome then Some new.steps else None) new.steps outcome) (lines_by line outcome) new
   kept_report outcome cause told =
       let took : Option ℕ = if is_report outcome then Some new.steps else None in

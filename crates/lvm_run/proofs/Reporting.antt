@@ -10,7 +10,7 @@ use Rattle.command_table.specs.Commands.{changes}
 use Rattle.line_answers.specs.declared.answer.Answer.TheVariants as answer
 use Rattle.disk_model.proofs.IdleAgain.{again_nothing}
 use Rattle.disk_model.specs.Idle.{IsIdleAgain}
-use Rattle.disk_model.specs.Since.{BetweenTold, spans_read}
+use Rattle.disk_model.specs.Since.{BetweenRecords, spans_read}
 use Rattle.disk_model.specs.State.{State}
 use Rattle.disk_model.specs.Steps.{Image, now_after}
 use Rattle.scan_rules.specs.declared.decision.ScanRefusal.{ScanRefusal}
@@ -22,7 +22,7 @@ use Rattle.lvm_run.specs.declared.ending.Ending.{Ending}
 use Rattle.lvm_run.specs.declared.ending.Ending.TheVariants.{NoMemory, ScanRefused}
 use Rattle.lvm_run.specs.declared.outcome.Outcome.{Outcome}
 use Rattle.lvm_run.specs.declared.outcome.Outcome.TheVariants.{Answered, Ended, Reported}
-use Rattle.lvm_run.specs.declared.scan_refusal.ScanRefusal.TheVariants.{Disks}
+use Rattle.lvm_run.specs.declared.disks_refusal.DisksRefusal.TheVariants.{Disks}
 use Rattle.lvm_run.specs.CommandSpec.{CommandSpec, Context, no_inputs}
 use Rattle.lvm_run.specs.Meets.{DoesToDisks, Meets}
 use Rattle.lvm_run.specs.ScanEndings.{IsEndingOf}
@@ -33,7 +33,7 @@ use Rattle.lvm_run.proofs.Refusals.{refused_is}
 -- what a scan reads is what the command may read
 pub scan_reads : (spec : CommandSpec) (context : Context) (old new : State) → spec.flushes ≡ false
     → ((image : Image) (spans : List Span) → AreFewReads image old.sizes spans → spec.reads context image spans)
-    → BetweenTold (ReadsFew old.sizes) old.told new.told → (outcome : Outcome) → BetweenTold (DoesToDisks spec context no_inputs outcome) old.told new.told
+    → BetweenRecords (ReadsFew old.sizes) old.told new.told → (outcome : Outcome) → BetweenRecords (DoesToDisks spec context no_inputs outcome) old.told new.told
 scan_reads spec context old new alone may told outcome before e =
     let r = told before e in (
       r.0,
@@ -51,11 +51,11 @@ reads_alone Lvs = refl
 reads_alone Vgck = refl
 
 module _ (report : ScanReport) (names : List Word) (id : Option (List ℕ)) (time : ℕ) (old new : State) (again : IsIdleAgain old new)
-    (told : BetweenTold (ReadsFew old.sizes) old.told new.told) where
+    (told : BetweenRecords (ReadsFew old.sizes) old.told new.told) where
   abbrev context : Context
   context = record { names = names; sizes = old.sizes; id = id; now = time }
 
-  does : (outcome : Outcome) → BetweenTold (DoesToDisks (scan_report report) context no_inputs outcome) old.told new.told
+  does : (outcome : Outcome) → BetweenRecords (DoesToDisks (scan_report report) context no_inputs outcome) old.told new.told
   does = scan_reads (scan_report report) context old new (reads_alone report) (λ image spans few. few) told
 
   without_memory : Meets (scan_report report) context old (Ended NoMemory) new
@@ -107,7 +107,7 @@ module _ (report : ScanReport) (names : List Word) (id : Option (List ℕ)) (tim
   ending_meets why unread _ is ends = absurd ends
 
 -- nothing was read yet
-pub nothing_read : (state : State) → BetweenTold (ReadsFew state.sizes) state.told state.told
+pub nothing_read : (state : State) → BetweenRecords (ReadsFew state.sizes) state.told state.told
 nothing_read state told e = (told, e, record { since = []; steps = refl; reads = tt; few = λ pv. ([], inl refl, omega arith) })
 
 -- memory was wanting before anything was done

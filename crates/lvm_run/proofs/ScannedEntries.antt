@@ -7,8 +7,8 @@ use Rattle.std.proofs.lemmas.List.Elements.{All-append, All-nil}
 use Rattle.std.proofs.lemmas.Option.{same_Some}
 use Rattle.disk_model.specs.Steps.{Image}
 use Rattle.mda_header.specs.Header.{IsEntry}
-use Rattle.mda_header.specs.declared.entry.Entry.{Entry}
-use Rattle.mda_header.specs.declared.entry.Entry.TheVariants.{Ignored, Nothing, Text, Refused}
+use Rattle.mda_header.specs.declared.entry.HeaderEntry.{HeaderEntry}
+use Rattle.mda_header.specs.declared.entry.HeaderEntry.TheVariants.{Ignored, Nothing, Text, Refused}
 use Rattle.mda_header.specs.declared.header.Locn.{Locn}
 use Rattle.mda_ring.specs.declared.area.Area.{Area}
 use Rattle.disk_contents.specs.Contents.{IsAreaFound}
@@ -29,12 +29,12 @@ use Rattle.vg_scan.specs.Scans.{IsScanOf}
 abbrev IsNamed : Image → Area × Option Locn → Type 0
 IsNamed image area = Names area.0 area.1 (sectors_of area.0 image 0)
 
-header_sector : (image : Image) (area : Area) (entry : Entry) → IsEntry (image area.pv (area.start / 512)) area.start area.size entry → IsEntry (sectors_of area image 0) area.start area.size entry
+header_sector : (image : Image) (area : Area) (entry : HeaderEntry) → IsEntry (image area.pv (area.start / 512)) area.start area.size entry → IsEntry (sectors_of area image 0) area.start area.size entry
 header_sector image area entry is =
     let at : area.start / 512 ≡ area.start / 512 + 0 = omega arith in
     subst (λ (n : ℕ). IsEntry (image area.pv n) area.start area.size entry) at is
 
-named_by : (image : Image) (area : Area) (entry : Entry) (held : Area × Option Locn) → IsEntry (image area.pv (area.start / 512)) area.start area.size entry → held_by area entry ≡ Some held → IsNamed image held
+named_by : (image : Image) (area : Area) (entry : HeaderEntry) (held : Area × Option Locn) → IsEntry (image area.pv (area.start / 512)) area.start area.size entry → held_by area entry ≡ Some held → IsNamed image held
 named_by image area Ignored held is kept = absurd (cc)
 named_by image area Nothing held is kept = subst (IsNamed image) (same_Some (area, None) held kept) (inl (header_sector image area Nothing is))
 named_by image area (Text locn) held is kept = subst (IsNamed image) (same_Some (area, Some locn) held kept) (header_sector image area (Text locn) is)

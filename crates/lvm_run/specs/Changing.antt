@@ -8,9 +8,9 @@ use Rattle.line_answers.specs.declared.op_refusal.OpRefusal.{OpRefusal}
 use Rattle.lvm_script.specs.declared.line.Line.{Line}
 use Rattle.disk_model.specs.Idle.{IsIdleAgain}
 use Rattle.disk_model.specs.Record.{IsRecord}
-use Rattle.disk_model.specs.Since.{BetweenTold}
+use Rattle.disk_model.specs.Since.{BetweenRecords}
 use Rattle.disk_model.specs.State.{State}
-use Rattle.disk_model.specs.Steps.{Told}
+use Rattle.disk_model.specs.Steps.{Record}
 use Rattle.disk_batch.specs.InTurn.{Put}
 use Rattle.vg_found.specs.Shape.{HasShape}
 use Rattle.vg_found.specs.Whole.{IsWhole}
@@ -132,7 +132,7 @@ pub record IsCarriedOut (found : Found) (names : List Word) (line : Line) (now :
   pub result : Result ℕ ChangeFault
   pub given_back : HasJudged result → IsBackupOf line.command backup
   pub is : outcome ≡ outcome_of result
-  pub took_xl : took ≡ took_of result
+  pub took_is : took ≡ took_of result
   pub again : IsIdleAgain old new
   pub carried : IsCarried (state_in found names backup) line now old result new
 
@@ -157,12 +157,12 @@ IsWholeAgain (Err fault) = Unit {0}
 pub record IsChanged (found : Found) (names : List Word) (line : Line) (now : ℕ) (old : State) (outcome : Outcome) (begun : ℕ) (took : Option ℕ) (new : State) : Type 0 where
   pub result : Result Found RepairFault
   pub mid : State
-  pub begun_xl : begun ≡ mid.steps
+  pub begun_is : begun ≡ mid.steps
   pub whole : IsWholeAgain result
   pub again : IsIdleAgain old mid
-  pub follows : (told : Told) → mid.told ≡ Some told → IsRecord told.steps
-  pub steps : (told : Told) → mid.told ≡ Some told → mid.steps ≡ length told.steps
+  pub follows : (told : Record) → mid.told ≡ Some told → IsRecord told.steps
+  pub steps : (told : Record) → mid.told ≡ Some told → mid.steps ≡ length told.steps
   pub cause : MatchResult result (IsRepaired found old mid) (IsRepairFault found old mid)
-  pub told : BetweenTold (Repairs (repair_batches found) result) old.told mid.told
+  pub told : BetweenRecords (Repairs (repair_batches found) result) old.told mid.told
   pub images : HasRepairBegun result → StraysAreOthers found → RepairKeepsImages found
   pub goes : GoesOn names line now result mid outcome took new

@@ -12,7 +12,7 @@ use Rattle.extent_alloc.specs.declared.part.Part.{Part}
 use Rattle.disk_batch.specs.InTurn.{Put}
 use Rattle.vg_found.specs.declared.found.Found.{Found}
 use Rattle.group_plan.specs.declared.backup.Backup.{Backup}
-use Rattle.lvm_run.specs.declared.scan_refusal.ScanRefusal.{ScanRefusal}
+use Rattle.lvm_run.specs.declared.disks_refusal.DisksRefusal.{DisksRefusal}
 
 -- what a line is judged against, beside what a scan finds
 pub record Context : Type 0 where
@@ -28,7 +28,7 @@ pub record Context : Type 0 where
 -- disk that wasn't read, where nothing is taken without it
 pub data Scanned : Type 0 where
   Finds : Option Found → Scanned
-  Refuses : ScanRefusal → Scanned
+  Refuses : DisksRefusal → Scanned
   Lacks : ℕ → Scanned
 
 -- what is looked at before a command is judged

@@ -9,8 +9,8 @@ use Rattle.scan_rules.specs.declared.decision.ScanRefusal.{ScanRefusal as Refusa
 use Rattle.scan_rules.specs.declared.decision.ScanRefusal.TheVariants as scan
 use Rattle.lvm_run.specs.declared.ending.Ending.{Ending}
 use Rattle.lvm_run.specs.declared.ending.Ending.TheVariants.{WordsRefused, NoMemory, SourceFailed, ScriptTooLong, OpenFailed, ScanReadFailed, ScanRefused, RepairFailed, RepairRefused}
-use Rattle.lvm_run.specs.declared.scan_refusal.ScanRefusal.{ScanRefusal}
-use Rattle.lvm_run.specs.declared.scan_refusal.ScanRefusal.TheVariants.{Disks, Partial}
+use Rattle.lvm_run.specs.declared.disks_refusal.DisksRefusal.{DisksRefusal}
+use Rattle.lvm_run.specs.declared.disks_refusal.DisksRefusal.TheVariants.{Disks, Partial}
 
 -- the name of a disk
 abbrev pub named : List Word → ℕ → Value
@@ -35,7 +35,7 @@ shown_refusal names (scan.Conflict first second seqno) = (codes "Conflict", name
 shown_refusal names (scan.PvShape pv) = (codes "PvShape", named names pv ∷ [])
 
 -- a refusal of a run whose disks aren't taken as a scan finds them
-abbrev pub shown_scan : List Word → ScanRefusal → List ℕ × List Value
+abbrev pub shown_scan : List Word → DisksRefusal → List ℕ × List Value
 shown_scan names (Disks refusal) = shown_refusal names refusal
 shown_scan names (Partial ids) = (codes "Partial", flat_map id_values ids)
 

@@ -9,7 +9,7 @@ use Rattle.lvm_words.specs.CommandLines.{command_line_of}
 use Rattle.disk_model.specs.Faults.{HasSameFaults}
 use Rattle.disk_model.specs.Since.{writes_submitted}
 use Rattle.disk_model.specs.State.{State}
-use Rattle.disk_model.specs.Steps.{Image, Step, Told, now_after, steps_on}
+use Rattle.disk_model.specs.Steps.{Image, Step, Record, now_after, steps_on}
 use Rattle.vg_scan.specs.Scans.{HoldsNow}
 use Rattle.disk_use.specs.declared.in_use.InUse.{InUse as UsedDisk}
 use Rattle.disk_use.specs.Faults.{IsUseFault}
@@ -37,7 +37,7 @@ pub record TakesUsed (words : List Word) (image : Image) (sizes : List ℕ) (pv 
   pub used : ¬ IsFree (is_new command) image sizes pv
 
 -- no write to this disk was submitted
-pub record IsLeft (pv : ℕ) (old new : Told) : Type 0 where
+pub record IsLeft (pv : ℕ) (old new : Record) : Type 0 where
   pub since : List Step
   pub steps : new ≡ steps_on since old
   pub none : All (λ (write : Span × List (List ℕ)). write.0.pv ≢ pv) (writes_submitted since)
@@ -45,8 +45,8 @@ pub record IsLeft (pv : ℕ) (old new : Told) : Type 0 where
 -- none was to such a disk, where the disks tell their record
 abbrev pub LeavesUsed : List Word → State → State → Type 0
 LeavesUsed words old new =
-    (pv : ℕ) (before : Told) → old.told ≡ Some before → TakesUsed words (now_after before.opened before.steps) old.sizes pv
-    → (after : Told) × (new.told ≡ Some after) × IsLeft pv before after
+    (pv : ℕ) (before : Record) → old.told ≡ Some before → TakesUsed words (now_after before.opened before.steps) old.sizes pv
+    → (after : Record) × (new.told ≡ Some after) × IsLeft pv before after
 
 -- nothing that is in use is lost where the command that the words ask for takes its disks
 abbrev pub AreFree : List Word → State → Type 0

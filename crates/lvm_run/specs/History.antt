@@ -17,7 +17,7 @@ use Rattle.lvm_words.specs.declared.asked.Task.TheVariants as task
 use Rattle.lvm_words.specs.declared.command_line.CommandLine.{CommandLine}
 use Rattle.disk_model.specs.Durability.{IsBase}
 use Rattle.disk_model.specs.State.{State}
-use Rattle.disk_model.specs.Steps.{Image, Told}
+use Rattle.disk_model.specs.Steps.{Image, Record}
 use Rattle.line_table.specs.declared.journal.EntryKind.{EntryKind}
 use Rattle.line_table.specs.declared.journal.EntryKind.TheVariants as kind
 use Rattle.line_table.specs.declared.journal.JournalEntry.{JournalEntry}
@@ -78,7 +78,7 @@ took_place entries = list_any (λ (entry : JournalEntry). is_took entry.kind) en
 
 -- where the line has committed a group or removed it and was answered ok, no set of the disks finds an older version of it than
 -- all of them; and where it has committed one, and disks couldn't be cleared that this lets go, no set of the disks of the group
-abbrev pub NoneOlder : List JournalEntry → List Said → List ℕ → Told → Type 0
+abbrev pub NoneOlder : List JournalEntry → List Said → List ℕ → Record → Type 0
 NoneOlder journal ((line, Some answer.Fine) ∷ []) sizes ended = commits line.command ≡ true → SetsAgree sizes ended
 NoneOlder journal ((line, Some (answer.PvFailed pv)) ∷ []) sizes ended = took_place journal ≡ true → MembersAgree sizes ended
 NoneOlder journal _ sizes ended = Unit {0}
@@ -91,8 +91,8 @@ NoneOlder journal _ sizes ended = Unit {0}
 -- disks finds an older version than the last acknowledged one.
 abbrev pub KeepsPromise : List Word → ℕ → State → List JournalEntry → List Said → State → Type 0
 KeepsPromise names now old journal lines new =
-    (handed : Told) → old.told ≡ Some handed → (base : Image) → IsBase handed base → (version : Option Version) → FindsVersion old.sizes base none_out version
-    → (ended : Told) → new.told ≡ Some ended → HasRunHistory handed base old.sizes names now ended journal lines × NoneOlder journal lines old.sizes ended
+    (handed : Record) → old.told ≡ Some handed → (base : Image) → IsBase handed base → (version : Option Version) → FindsVersion old.sizes base none_out version
+    → (ended : Record) → new.told ≡ Some ended → HasRunHistory handed base old.sizes names now ended journal lines × NoneOlder journal lines old.sizes ended
 
 -- each moment of the journal lies between these two, none before that of an earlier entry
 abbrev pub AreInTime : ℕ → List JournalEntry → ℕ → Type 0
@@ -132,7 +132,7 @@ is_answer _ = false
 -- what a run of these words has entered that came to this outcome, where the source gave this text: the answers of the lines that
 -- were asked for and begun, which are what it prints where a line has answered, and their journal
 pub record HasEntered (words : List Word) (now : ℕ) (text : List ℕ) (ids : ℕ → List ℕ) (old : State) (outcome : Outcome) (journal : List JournalEntry) (answers : List (ℕ × Option Answer)) (new : State) : Type 0 where
-  pub answers_xl : answers ≡ answers_of (lines_of_words words text ids outcome)
+  pub answers_is : answers ≡ answers_of (lines_of_words words text ids outcome)
   pub printed : is_answer outcome ≡ true → output_of (names_of words) outcome ≡ answers_text (names_of words) answers
   pub entered : IsEntered (names_of words) now old journal (lines_of_words words text ids outcome) new
 

@@ -11,9 +11,9 @@ use Rattle.disk_model.specs.Durability.{IsBase}
 use Rattle.disk_model.specs.Faults.{HasSameFaults, IsLastFault}
 use Rattle.disk_model.specs.Idle.{IsIdleAgain}
 use Rattle.disk_model.specs.Moments.{EveryImageSince}
-use Rattle.disk_model.specs.Since.{BetweenTold, OnlyReads}
+use Rattle.disk_model.specs.Since.{BetweenRecords, OnlyReads}
 use Rattle.disk_model.specs.State.{State}
-use Rattle.disk_model.specs.Steps.{Image, Reading, Flushing, Told, now_after}
+use Rattle.disk_model.specs.Steps.{Image, Reading, Flushing, Record, now_after}
 use Rattle.disk_batch.specs.InTurn.{Put, WritesInTurn}
 use Rattle.vg_found.specs.declared.found.Found.{Found}
 use Rattle.vg_scan.specs.Scans.{FailedOn, HoldsNow}
@@ -32,7 +32,7 @@ IsScanned spec context unread old scanned = HoldsNow old.told (λ image. spec.sc
 -- all disks were read, and this was found, with this stale area that can't take the group's text, or none
 pub record IsTaken (spec : CommandSpec) (context : Context) (old : State) (found : Option Found) (stuck : Option (ℕ × ℕ × ℕ)) : Type 0 where
   pub scanned : IsScanned spec context set.empty old (Finds found)
-  pub stuck_xl : spec.stuck found ≡ stuck
+  pub stuck_is : spec.stuck found ≡ stuck
 
 -- what was found can be repaired, and judged by that and by what it takes, which is this, the line has this refusal or none
 abbrev pub IsJudged : CommandSpec → Context → Inputs → State → Option OpRefusal → Type 0
@@ -121,21 +121,21 @@ batches_if begun batches = if begun then batches else []
 -- batches are written, then its zeros, its other batches, and those that clear disks, by what it takes; each part as far as it
 -- came, and nothing else. Batches are written in turn: at every moment a crash leaves the first so many of them whole, of the
 -- next one each sector old or new, and each other sector as it was; once all went well it leaves all of them.
-pub record ChangesDisks (spec : CommandSpec) (context : Context) (given : Inputs) (outcome : Outcome) (old new : Told) : Type 0 where
+pub record ChangesDisks (spec : CommandSpec) (context : Context) (given : Inputs) (outcome : Outcome) (old new : Record) : Type 0 where
   pub found : Option Found
   pub scanned : IsTrue (is_taken outcome) → spec.scan context (now_after old.opened old.steps) set.empty (Finds found)
-  pub opened : Told
+  pub opened : Record
   pub opening : OpensDisks context.sizes old (is_taken outcome) opened
-  pub start : Told
+  pub start : Record
   pub repair : WritesInTurn opened (batches_if (repair_begun outcome) (spec.repairs found)) (is_repaired outcome) start
   pub takes : IsTrue (line_begun outcome) → spec.takes context found given
   -- its zeros are written, and ready says whether all of them were
-  pub zeroed : Told
+  pub zeroed : Record
   pub ready : Bool
   pub zeros : WritesInTurn start (batches_if (line_begun outcome) (spec.zeros context found given)) ready zeroed
   pub begun : IsTrue ready → IsTrue (line_begun outcome)
   -- the other batches are begun where all zeros were written, and written says whether all of them were
-  pub made : Told
+  pub made : Record
   pub written : Bool
   pub line : WritesInTurn zeroed (batches_if ready (spec.batches context found given)) written made
   pub ready_then : IsTrue written → IsTrue ready
@@ -150,19 +150,19 @@ pub record ChangesDisks (spec : CommandSpec) (context : Context) (given : Inputs
   pub cleared_after : IsTrue (is_done outcome) → spec.cleared context found given (now_after new.opened new.steps)
 
 -- A command that changes nothing submits reads alone, of its spans, as far as it came.
-pub record ReadsDisks (spec : CommandSpec) (context : Context) (old new : Told) : Type 0 where
+pub record ReadsDisks (spec : CommandSpec) (context : Context) (old new : Record) : Type 0 where
   pub read : List Span
   pub reads : OnlyReads old read new
   pub unread : List Span
   pub spans : spec.reads context (now_after old.opened old.steps) (read ++ unread)
 
 -- the one or the other
-abbrev pub DoesToDisks : CommandSpec → Context → Inputs → Outcome → Told → Told → Type 0
+abbrev pub DoesToDisks : CommandSpec → Context → Inputs → Outcome → Record → Record → Type 0
 DoesToDisks spec context given outcome old new = MatchBool spec.flushes (ChangesDisks spec context given outcome old new) (ReadsDisks spec context old new)
 
 -- a line of this command, judged against this context and by what it takes, came to this outcome
 pub record Meets (spec : CommandSpec) (context : Context) (old : State) (outcome : Outcome) (new : State) : Type 0 where
   pub given : Inputs
   pub cause : IsCause spec context given old new outcome
-  pub told : BetweenTold (DoesToDisks spec context given outcome) old.told new.told
+  pub told : BetweenRecords (DoesToDisks spec context given outcome) old.told new.told
   pub again : IsIdleAgain old new

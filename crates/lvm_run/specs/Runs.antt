@@ -20,7 +20,7 @@ use Rattle.lvm_run.specs.declared.ending.Ending.{Ending}
 use Rattle.lvm_run.specs.declared.ending.Ending.TheVariants.{WordsRefused, NoMemory}
 use Rattle.lvm_run.specs.declared.outcome.Outcome.{Outcome}
 use Rattle.lvm_run.specs.declared.outcome.Outcome.TheVariants.{Ended}
-use Rattle.lvm_run.specs.declared.ran.Ran.{Ran}
+use Rattle.lvm_run.specs.declared.timed_outcome.TimedOutcome.{TimedOutcome}
 use Rattle.lvm_run.specs.CommandSpec.{Context}
 use Rattle.lvm_run.specs.Commands.{is_built, spec_of}
 use Rattle.lvm_run.specs.Meets.{Meets}
@@ -96,5 +96,5 @@ pub record RunsWords (words : List Word) (now : ℕ) (text : List ℕ) (from to 
   pub drawn : (line : CommandLine) → command_line_of words ≡ Some line → TakesId (draws_id line.request) ids ids_after ⊎ ((outcome ≡ Ended NoMemory) × (ids_after ≡ ids) × (new ≡ old))
 
 -- a run that ended so before anything was done
-abbrev pub ended_by : Ending → Ran
+abbrev pub ended_by : Ending → TimedOutcome
 ended_by ending = record { outcome = Ended ending; begun = 0; took = None }

@@ -6,7 +6,7 @@ use Rattle.disk_model.specs.Faults.{HasSameFaults, IsLastFault}
 use Rattle.disk_model.specs.Order.{HasFlushed, WritesNothing}
 use Rattle.disk_model.specs.Since.{spans_read}
 use Rattle.disk_model.specs.State.{State}
-use Rattle.disk_model.specs.Steps.{Image, IsSame, Reading, Flushing, Step, Submitted, Told, now_after, steps_on}
+use Rattle.disk_model.specs.Steps.{Image, IsSame, Reading, Flushing, Step, Submitted, Record, now_after, steps_on}
 use Rattle.vg_found.specs.declared.disk.Disk.{Disk}
 use Rattle.vg_found.specs.declared.found.Found.{Found}
 use Rattle.vg_found.specs.declared.whole.NotWhole.{NotWhole}
@@ -17,7 +17,7 @@ use Rattle.lvm_run.specs.CommandSpec.{Scanned, Finds, Refuses, Lacks}
 use Rattle.lvm_run.specs.ScanEndings.{partial_ending}
 use Rattle.lvm_run.specs.declared.ending.Ending.{Ending}
 use Rattle.lvm_run.specs.declared.ending.Ending.TheVariants.{NoMemory, OpenFailed, ScanReadFailed, ScanRefused}
-use Rattle.lvm_run.specs.declared.scan_refusal.ScanRefusal.TheVariants.{Disks, Partial}
+use Rattle.lvm_run.specs.declared.disks_refusal.DisksRefusal.TheVariants.{Disks, Partial}
 
 -- what a scan of disks of these sizes finds, whatever is missing and whichever are unread
 abbrev pub FindsAnything : Image → List ℕ → set.FinSet nat_cmp → Scanned → Type 0
@@ -41,7 +41,7 @@ FlushesBeforeReads disks (Submitted tag (Reading span) ∷ steps) = ((pv : ℕ) 
 FlushesBeforeReads disks (_ ∷ steps) = FlushesBeforeReads disks steps
 
 -- disks of these sizes were flushed, and then read a little; where it doesn't pass, as far as it came
-pub record OpensDisks (sizes : List ℕ) (old : Told) (passes : Bool) (new : Told) : Type 0 where
+pub record OpensDisks (sizes : List ℕ) (old : Record) (passes : Bool) (new : Record) : Type 0 where
   pub since : List Step
   pub steps : new ≡ steps_on since old
   pub nothing : WritesNothing since

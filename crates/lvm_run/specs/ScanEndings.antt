@@ -9,7 +9,7 @@ use Rattle.vg_found.specs.declared.whole.NotWhole.{NotWhole}
 use Rattle.vg_found.specs.declared.whole.NotWhole.TheVariants as not_whole
 use Rattle.lvm_run.specs.declared.ending.Ending.{Ending}
 use Rattle.lvm_run.specs.declared.ending.Ending.TheVariants.{NoMemory, ScanReadFailed, ScanRefused}
-use Rattle.lvm_run.specs.declared.scan_refusal.ScanRefusal.TheVariants.{Disks, Partial}
+use Rattle.lvm_run.specs.declared.disks_refusal.DisksRefusal.TheVariants.{Disks, Partial}
 
 -- for this refusal of the scan, where these disks were unread
 abbrev pub IsEndingOf : ScanRefusal → set.FinSet nat_cmp → Ending → Type 0

@@ -16,7 +16,7 @@ ghost use Rattle.lvm_run.specs.Runs.{context_with};
 use crate::ending::Ending;
 use crate::opening::open_disks;
 use crate::outcome::Outcome;
-use crate::ran::Ran;
+use crate::timed_outcome::TimedOutcome;
 use command_table::Command;
 use disk_model::Shelf;
 use group_plan::{Backup, GroupState, read_backup};
@@ -36,7 +36,7 @@ pub fn run_change<S: Shelf>(
     names: &DiskNames,
     line: &Line,
     now: u64,
-) -> Ran
+) -> TimedOutcome
     requires disks { AreDisks (length names.now) (S.state shelf.old) }
     requires some { 1 ≤ length names.now }
     requires few { length names.now ≤ 64 }
@@ -52,7 +52,7 @@ pub fn run_change<S: Shelf>(
     done_sets_agree();
     match open_disks(alloc, shelf) {
         Ok(whole) => change_whole(alloc, shelf, names, whole, line, now),
-        Err(ending) => Ran {
+        Err(ending) => TimedOutcome {
             outcome: Outcome::Ended(ending),
             begun: shelf.steps(),
             took: None,
@@ -68,7 +68,7 @@ fn change_whole<S: Shelf>(
     whole: Whole,
     line: &Line,
     now: u64,
-) -> Ran
+) -> TimedOutcome
     requires idle { (S.state shelf.old).in_flight ≡ [] }
     requires shape { HasShape whole }
     requires all { IsWhole whole }
@@ -84,13 +84,13 @@ fn change_whole<S: Shelf>(
             let begun = shelf.steps();
             let found = repaired.into_found();
             let (outcome, took) = change_found(alloc, shelf, names, found, line, now);
-            Ran {
+            TimedOutcome {
                 outcome,
                 begun,
                 took,
             }
         }
-        Err(fault) => Ran {
+        Err(fault) => TimedOutcome {
             outcome: Outcome::Ended(ending_of(fault)),
             begun: shelf.steps(),
             took: None,

@@ -5,7 +5,7 @@ ghost use Rattle.byte_streams.specs.Streams.{WritesText};
 ghost use Rattle.lvm_run.specs.Endings.{ending_text, status_of_ending};
 ghost use Rattle.lvm_run.specs.Endings.{repair_values, shown_scan};
 
-use crate::scan_refusal::ScanRefusal;
+use crate::disks_refusal::DisksRefusal;
 use byte_streams::{Failed, Sink, write_bytes};
 use line_answers::{DiskNames, Shown, write_kind};
 
@@ -25,7 +25,7 @@ pub enum Ending {
     /// A read of the disk with this number failed.
     ScanReadFailed(u32),
     /// The disks aren't taken as they are. Whether each of them was read.
-    ScanRefused { refusal: ScanRefusal, whole: bool },
+    ScanRefused { refusal: DisksRefusal, whole: bool },
     /// A write or flush of the repair failed on the disk with this number.
     RepairFailed(u32),
     /// The text of the group has no room in a stale area of the disk with this number: how many sectors it needs, and how
@@ -84,7 +84,7 @@ fn write_line<W: Sink>(out: &mut W, first: &[u8], second: &[u8]) -> Result<(), F
 // Writes the line of a refusal of the scan.
 fn write_scan_refusal<W: Sink>(
     out: &mut W,
-    refusal: &ScanRefusal,
+    refusal: &DisksRefusal,
     names: &DiskNames,
 ) -> Result<(), Failed>
     ensures { WritesText (W.written out.old) (W.fault_count out.old) (codes "scan refused " ++ shown_text (shown_scan names.now refusal.now) ++ codes "\n")

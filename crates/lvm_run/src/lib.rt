@@ -7,6 +7,7 @@
 mod built;
 mod changing;
 mod commands;
+mod disks_refusal;
 mod ending;
 mod entered;
 mod guarded;
@@ -14,11 +15,10 @@ mod not_run;
 mod opening;
 mod outcome;
 mod output;
-mod ran;
 mod run;
-mod scan_refusal;
 mod scanned;
 mod sourced;
+mod timed_outcome;
 
 pub use built::{BUILT, is_built};
 pub use guarded::guarded_run;

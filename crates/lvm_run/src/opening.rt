@@ -1,7 +1,7 @@
 //! The disks are flushed and scanned, before a command changes something.
 ghost use Rattle.std.specs.Prelude.{◌≡◌, ◌≤◌, length, is_ok, MatchResult};
 ghost use Rattle.disk_model.specs.Idle.{IsIdleAgain};
-ghost use Rattle.disk_model.specs.Since.{BetweenTold};
+ghost use Rattle.disk_model.specs.Since.{BetweenRecords};
 ghost use Rattle.vg_found.specs.Shape.{HasShape};
 ghost use Rattle.lvm_run.specs.Disks.{AreDisks};
 ghost use Rattle.lvm_run.specs.Scan.{IsOpenCause, IsOpened, IsTakenAsFound, OpensDisks};
@@ -22,7 +22,7 @@ pub fn open_disks<S: Shelf>(alloc: Global, shelf: &mut S) -> Result<Whole, Endin
     requires few { length (S.state shelf.old).sizes ≤ 64 }
     ensures again { IsIdleAgain (S.state shelf.old) (S.state shelf.new) }
     ensures cause { MatchResult result (λ whole. IsOpened (S.state shelf.old) whole (S.state shelf.new)) (IsOpenCause (S.state shelf.old) (S.state shelf.new)) }
-    ensures told { BetweenTold (λ old new. OpensDisks (S.state shelf.old).sizes old (is_ok result) new) (S.state shelf.old).told (S.state shelf.new).told }
+    ensures told { BetweenRecords (λ old new. OpensDisks (S.state shelf.old).sizes old (is_ok result) new) (S.state shelf.old).told (S.state shelf.new).told }
 {
     if let Err(AllocError) = shelf.reserve(u64::from(shelf.count()), 0) {
         return Err(Ending::NoMemory);

@@ -6,7 +6,7 @@ ghost use Rattle.lvm_run.specs.Endings.{ending_text};
 ghost use Rattle.lvm_run.specs.Outcomes.{text_of};
 
 use crate::ending::Ending;
-use byte_streams::{Failed, Sink, TextSink, write_all, write_bytes};
+use byte_streams::{Failed, Sink, TextBuffer, write_all, write_bytes};
 use line_answers::{Answer, DiskNames};
 use line_table::Answers;
 use lvm_report::{answer_lines, write_answered, write_answers};
@@ -78,7 +78,7 @@ fn print_ending<W: Sink>(
     ensures { WritesText (W.written out.old) (W.fault_count out.old) (ending_text names.now ending.now)
         (is_ok result) (W.written out.new) (W.fault_count out.new) }
 {
-    let mut line = TextSink::new(alloc);
+    let mut line = TextBuffer::new(alloc);
     match ending.write(&mut line, names) {
         Ok(()) => write_bytes(out, line.as_bytes()),
         Err(Failed) => ending.write(out, names),

@@ -22,8 +22,8 @@ use crate::commands::vgcfgbackup::run_vgcfgbackup;
 use crate::ending::Ending;
 use crate::entered::Entered;
 use crate::outcome::Outcome;
-use crate::ran::Ran;
 use crate::sourced::with_source;
+use crate::timed_outcome::TimedOutcome;
 use byte_streams::{Failed, Sink, Source};
 use command_table::Command;
 use disk_model::Shelf;
@@ -111,7 +111,7 @@ fn finish<W: Sink>(
     out: &mut W,
     names: &DiskNames,
     entered: &mut Entered,
-    ran: Ran,
+    ran: TimedOutcome,
     steps: u64,
 ) -> u8
     requires nothing { IsNothing entered.old }
@@ -121,7 +121,7 @@ fn finish<W: Sink>(
     ensures answers { entered.new.answers.items ≡ option_map_or (λ (said : AnswerRecord). (1, Some said) ∷ []) (said_of ran.outcome) [] }
     ensures ends { Ends names.now ran.outcome result (W.written out.old) (W.fault_count out.old) (W.written out.new) (W.fault_count out.new) }
 {
-    let Ran {
+    let TimedOutcome {
         outcome,
         begun,
         took,
@@ -144,7 +144,7 @@ fn run_words<R: Source, S: Shelf, N: Words64>(
     shelf: &mut S,
     ids: &mut N,
     now: u64,
-) -> (Ran, DiskNames, Entered)
+) -> (TimedOutcome, DiskNames, Entered)
     requires disks { HasDisks (words_of words.now) (S.state shelf.old) }
     requires time { now < 2 ^ 48 }
     ensures run { (text : List ℕ)
@@ -162,7 +162,7 @@ fn run_words<R: Source, S: Shelf, N: Words64>(
             (ran, names, entered)
         }
         Err(AllocError) => (
-            Ran::ended(Ending::NoMemory),
+            TimedOutcome::ended(Ending::NoMemory),
             no_names(alloc),
             Entered::none(alloc),
         ),
@@ -177,7 +177,7 @@ fn run_asked<R: Source, S: Shelf, N: Words64>(
     shelf: &mut S,
     ids: &mut N,
     now: u64,
-) -> (Ran, DiskNames)
+) -> (TimedOutcome, DiskNames)
     requires disks { HasDisks (words_of words.now) (S.state shelf.old) }
     requires time { now < 2 ^ 48 }
     ensures run { (text : List ℕ)
@@ -189,8 +189,11 @@ fn run_asked<R: Source, S: Shelf, N: Words64>(
 {
     match read_words(alloc, words, ids) {
         Ok(Asked { names, task }) => (run_task(alloc, script, shelf, &names, task, now), names),
-        Err(WordsRefusal::NoMeaning) => (Ran::ended(Ending::WordsRefused), no_names(alloc)),
-        Err(WordsRefusal::NoMemory) => (Ran::ended(Ending::NoMemory), no_names(alloc)),
+        Err(WordsRefusal::NoMeaning) => (
+            TimedOutcome::ended(Ending::WordsRefused),
+            no_names(alloc),
+        ),
+        Err(WordsRefusal::NoMemory) => (TimedOutcome::ended(Ending::NoMemory), no_names(alloc)),
     }
 }
 
@@ -208,7 +211,7 @@ fn run_task<R: Source, S: Shelf>(
     names: &DiskNames,
     task: Task,
     now: u64,
-) -> Ran
+) -> TimedOutcome
     requires disks { AreDisks (length names.now) (S.state shelf.old) }
     requires named { AreNamed names.now }
     requires planned { CanPlanTask task }
@@ -220,8 +223,8 @@ fn run_task<R: Source, S: Shelf>(
 {
     match task {
         Task::One(line) => run_line(alloc, script, shelf, names, line, now),
-        Task::Session { .. } => Ran::ended(Ending::WordsRefused),
-        Task::Demo { .. } => Ran::ended(Ending::WordsRefused),
+        Task::Session { .. } => TimedOutcome::ended(Ending::WordsRefused),
+        Task::Demo { .. } => TimedOutcome::ended(Ending::WordsRefused),
     }
 }
 
@@ -233,7 +236,7 @@ fn run_line<R: Source, S: Shelf>(
     names: &DiskNames,
     line: Line,
     now: u64,
-) -> Ran
+) -> TimedOutcome
     requires disks { AreDisks (length names.now) (S.state shelf.old) }
     requires named { AreNamed names.now }
     requires planned { CanPlan line }
@@ -244,16 +247,22 @@ fn run_line<R: Source, S: Shelf>(
         × IsEntered names.now now (S.state shelf.old) (journal_by result.begun result.took (S.state shelf.new).steps result.outcome) (lines_by (with_text text line) result.outcome) (S.state shelf.new) }
 {
     if !is_built(&line.command) {
-        return Ran::ended(Ending::WordsRefused);
+        return TimedOutcome::ended(Ending::WordsRefused);
     }
     match with_source(alloc, script, line) {
         Ok(line) => run_built(alloc, shelf, names, line, now),
-        Err(ending) => Ran::ended(ending),
+        Err(ending) => TimedOutcome::ended(ending),
     }
 }
 
 // Does what the line asks for on these disks, at this time.
-fn run_built<S: Shelf>(alloc: Global, shelf: &mut S, names: &DiskNames, line: Line, now: u64) -> Ran
+fn run_built<S: Shelf>(
+    alloc: Global,
+    shelf: &mut S,
+    names: &DiskNames,
+    line: Line,
+    now: u64,
+) -> TimedOutcome
     requires disks { AreDisks (length names.now) (S.state shelf.old) }
     requires named { AreNamed names.now }
     requires built { is_built line.command ≡ true }
@@ -275,7 +284,7 @@ fn run_built<S: Shelf>(alloc: Global, shelf: &mut S, names: &DiskNames, line: Li
     } else {
         None
     };
-    Ran {
+    TimedOutcome {
         outcome,
         begun,
         took,

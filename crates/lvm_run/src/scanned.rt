@@ -2,8 +2,8 @@
 ghost use Rattle.std.specs.Prelude.{◌≡◌};
 ghost use Rattle.lvm_run.specs.ScanEndings.{IsEndingOf, partial_ending};
 
+use crate::disks_refusal::DisksRefusal;
 use crate::ending::Ending;
-use crate::scan_refusal::ScanRefusal;
 use vg_found::{NotWhole, ScanRefused};
 use vg_scan::ScanStopped;
 
@@ -14,7 +14,7 @@ pub fn scan_ending(stopped: ScanStopped) -> Ending
     match stopped.why {
         scan_rules::ScanRefusal::NoMemory => Ending::NoMemory,
         why => Ending::ScanRefused {
-            refusal: ScanRefusal::Disks(why),
+            refusal: DisksRefusal::Disks(why),
             whole: stopped.unread.is_empty(),
         },
     }
@@ -28,7 +28,7 @@ pub fn partial_ending(refused: ScanRefused) -> Ending
     match why {
         NotWhole::ReadFailed(pv) => Ending::ScanReadFailed(pv),
         NotWhole::Partial => Ending::ScanRefused {
-            refusal: ScanRefusal::Partial(found.missing),
+            refusal: DisksRefusal::Partial(found.missing),
             whole: true,
         },
     }

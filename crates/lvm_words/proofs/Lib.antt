@@ -4,7 +4,7 @@ pub mod Find
 pub mod Forms
 pub mod Found
 pub mod Fronts
-pub mod Given
+pub mod MatchedValues
 pub mod LineNames
 pub mod Link
 pub mod Outcome

@@ -21,7 +21,7 @@ use Rattle.command_table.specs.Table.{is_for_words, options_of}
 use Rattle.command_table.specs.Words.{Split, is_complete, nothing_split, numbered_from, read}
 use Rattle.lvm_words.specs.Parser.{Lists, arguments_in, arguments_pass, listed, no_stray, pairs_of, request_found, split_of, value_passes, values_of, values_pass}
 use Rattle.lvm_words.proofs.FaultFree.{all_pass, bare, distinct_options, fault_free, given_passes, split_read}
-use Rattle.lvm_words.proofs.Given.{given_alike}
+use Rattle.lvm_words.proofs.MatchedValues.{given_alike}
 use Rattle.lvm_words.proofs.Passing.{row_passes, rows_pass}
 
 -- places don't matter to what is asked for

@@ -13,7 +13,7 @@ use crate::parser::{arguments, only_options, parse, value, values};
 use clap::ArgMatches;
 use clap::error::ErrorKind;
 use command_table::{
-    CommandName, Given, Kind, OptionKey, OptionRow, Request, fault_in, request_by_name,
+    CommandName, GivenOptions, Kind, OptionKey, OptionRow, Request, fault_in, request_by_name,
 };
 use std::alloc::{AllocError, Global};
 
@@ -77,7 +77,7 @@ fn request_in(
         return Ok(None);
     }
     let pairs = pairs_of(alloc, name.options(), matches)?;
-    let given = Given {
+    let given = GivenOptions {
         pairs: pairs.as_slice(),
     };
     request_by_name(alloc, name, &given, words.as_slice())

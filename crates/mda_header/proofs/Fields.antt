@@ -13,7 +13,7 @@ committed_inside sector size None is some = absurd (some is)
 committed_inside sector size (Some locn) is some = subst (IsInside size) is.0 is.1
 
 pub IsRefused-no_header : (sector : List ℕ) (header : MdaHeader) (refusal : MdaRefusal) → IsRefused sector header.start header.size refusal → ¬ IsHeader sector header
-IsRefused-no_header sector header (BadSum said found) h is = h.2 (sym h.0 ∙ is.sound.checksum_xl ∙ sym h.1)
+IsRefused-no_header sector header (BadSum said found) h is = h.2 (sym h.0 ∙ is.sound.checksum_is ∙ sym h.1)
 IsRefused-no_header sector header BadMagic h is = h.1 is.sound.magic
 IsRefused-no_header sector header (BadVersion said) h is = h.3 (sym h.2 ∙ is.sound.version)
 IsRefused-no_header sector header (WrongStart said sought) h is = h.3 (sym h.1 ∙ is.start)

@@ -1,7 +1,7 @@
 -- A sector says one thing of the committed text.
 use Rattle.std.proofs.Common.{◌≡◌, ◌≤◌, ℕ, List, refl, sym, ap, ◌∙◌, arith}
-use Rattle.mda_header.specs.declared.entry.Entry.{Entry}
-use Rattle.mda_header.specs.declared.entry.Entry.TheVariants.{Ignored, Nothing, Text, Refused}
+use Rattle.mda_header.specs.declared.entry.HeaderEntry.{HeaderEntry}
+use Rattle.mda_header.specs.declared.entry.HeaderEntry.TheVariants.{Ignored, Nothing, Text, Refused}
 use Rattle.mda_header.specs.declared.header.Locn.{Locn}
 use Rattle.mda_header.specs.declared.refusal.MdaRefusal.{MdaRefusal}
 use Rattle.mda_header.specs.declared.refusal.MdaRefusal.TheVariants.{BadSum, BadMagic, BadVersion, WrongStart, SizeBad, LocnOutside}
@@ -10,11 +10,11 @@ use Rattle.mda_header.proofs.OneRefusal.{one_refusal}
 
 -- a header whose text lies in the area isn't refused
 text_or_refusal : (sector : List ℕ) (start size : ℕ) (refusal : MdaRefusal) → HoldsText sector start size → IsRefused sector start size refusal → ⊥
-text_or_refusal sector start size (BadSum said found) is h = h.2 (sym h.0 ∙ is.of_area.sound.checksum_xl ∙ sym h.1)
+text_or_refusal sector start size (BadSum said found) is h = h.2 (sym h.0 ∙ is.of_area.sound.checksum_is ∙ sym h.1)
 text_or_refusal sector start size BadMagic is h = h.1 is.of_area.sound.magic
 text_or_refusal sector start size (BadVersion said) is h = h.3 (sym h.2 ∙ is.of_area.sound.version)
-text_or_refusal sector start size (WrongStart said sought) is h = h.3 (sym h.1 ∙ is.of_area.start_xl)
-text_or_refusal sector start size (SizeBad said sought) is h = h.4 (sym h.2 ∙ is.of_area.size_xl)
+text_or_refusal sector start size (WrongStart said sought) is h = h.3 (sym h.1 ∙ is.of_area.start_is)
+text_or_refusal sector start size (SizeBad said sought) is h = h.4 (sym h.2 ∙ is.of_area.size_is)
 text_or_refusal sector start size (LocnOutside offset text_size) is h = h.4 is.inside
 
 -- an offset of 0 is none, and a text lies behind the header
@@ -24,7 +24,7 @@ nothing_or_text sector start size none is =
     let behind : 512 ≤ (locn_at sector 40).offset = is.inside.behind_header in
     omega arith
 
-pub one_entry : (sector : List ℕ) (start size : ℕ) (a b : Entry) → IsEntry sector start size a → IsEntry sector start size b → a ≡ b
+pub one_entry : (sector : List ℕ) (start size : ℕ) (a b : HeaderEntry) → IsEntry sector start size a → IsEntry sector start size b → a ≡ b
 one_entry sector start size Ignored Ignored h k = refl
 one_entry sector start size Ignored Nothing h k = absurd (k.1 h.bit)
 one_entry sector start size Ignored (Text locn) h k = absurd (k.1 h.bit)

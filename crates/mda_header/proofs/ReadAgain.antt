@@ -57,7 +57,7 @@ ignored_read start size (Some locn) precommitted false = (λ h. absurd (true≢f
 sound_read : (header : MdaHeader) → checksum lvm_crc_start (summed_bytes header) < 256 ^ 4 → IsSound (header_bytes header)
 unfolding header_bytes summed_bytes
 sound_read header fits = record {
-  checksum_xl = field-front 4 (checksum lvm_crc_start (summed_bytes header)) (summed_bytes header) fits;
+  checksum_is = field-front 4 (checksum lvm_crc_start (summed_bytes header)) (summed_bytes header) fits;
   magic = refl;
   version = refl;
 }

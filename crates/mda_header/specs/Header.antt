@@ -3,8 +3,8 @@
 use Rattle.std.specs.Prelude.{◌≡◌, ◌≢◌, ℕ, ◌+◌, ◌-◌, ◌%◌, ◌<◌, ◌≤◌, ◌↔◌, IsTrue, List, take, drop, codes, Option, None, Some}
 use Rattle.sector_base.specs.Fields.{field}
 use Rattle.sector_base.specs.Checksum.{checksum, lvm_crc_start}
-use Rattle.mda_header.specs.declared.entry.Entry.{Entry}
-use Rattle.mda_header.specs.declared.entry.Entry.TheVariants.{Ignored, Nothing, Text, Refused}
+use Rattle.mda_header.specs.declared.entry.HeaderEntry.{HeaderEntry}
+use Rattle.mda_header.specs.declared.entry.HeaderEntry.TheVariants.{Ignored, Nothing, Text, Refused}
 use Rattle.mda_header.specs.declared.header.Locn.{Locn}
 use Rattle.mda_header.specs.declared.header.MdaHeader.{MdaHeader}
 use Rattle.mda_header.specs.declared.refusal.MdaRefusal.{MdaRefusal}
@@ -12,15 +12,15 @@ use Rattle.mda_header.specs.declared.refusal.MdaRefusal.TheVariants.{BadSum, Bad
 
 -- a header of lvm2's only version, of whatever area
 pub record IsSound (sector : List ℕ) : Type 0 where
-  pub checksum_xl : field 4 sector 0 ≡ checksum lvm_crc_start (drop 4 sector)
+  pub checksum_is : field 4 sector 0 ≡ checksum lvm_crc_start (drop 4 sector)
   pub magic : take 16 (drop 4 sector) ≡ codes " LVM2 x[5A%r0N*>"
   pub version : field 4 sector 20 ≡ 1
 
 -- the sector is the header of the area with this start and size, whatever its entries are
 pub record IsOfArea (sector : List ℕ) (start size : ℕ) : Type 0 where
   pub sound : IsSound sector
-  pub start_xl : field 8 sector 24 ≡ start
-  pub size_xl : field 8 sector 32 ≡ size
+  pub start_is : field 8 sector 24 ≡ start
+  pub size_is : field 8 sector 32 ≡ size
 
 -- the fields of the entry at this byte
 abbrev pub locn_at : List ℕ → ℕ → Locn
@@ -89,7 +89,7 @@ pub record IsIgnored (sector : List ℕ) : Type 0 where
   pub bit : HasIgnoredBit sector
 
 -- what the sector says of the text that is committed in the area with this start and size
-abbrev pub IsEntry : List ℕ → ℕ → ℕ → Entry → Type 0
+abbrev pub IsEntry : List ℕ → ℕ → ℕ → HeaderEntry → Type 0
 IsEntry sector start size Ignored = IsIgnored sector
 IsEntry sector start size Nothing = HoldsNothing sector × (¬ HasIgnoredBit sector)
 IsEntry sector start size (Text locn) = HoldsText sector start size × (¬ HasIgnoredBit sector) × (locn ≡ locn_at sector 40)

@@ -11,7 +11,7 @@ mod read;
 mod refusal;
 mod write;
 
-pub use entry::{Entry, read_entry};
+pub use entry::{HeaderEntry, read_entry};
 pub use header::{Locn, MdaHeader};
 pub use read::read_mda;
 pub use refusal::MdaRefusal;

@@ -23,14 +23,14 @@ next_offset-cases size text whole big inside left =
 -- the next place lies in the ring
 pub in_ring : (size : ℕ) (committed : Option Locn) (count : ℕ) (place : Place) → size % 512 ≡ 0 → 1536 ≤ size → IsNoneOrInside size committed → 1 ≤ count → IsNext size committed count place → IsInRing size place
 in_ring size None count place whole big inside some is =
-    let begins : place.offset ≡ 512 = is.offset_xl in
+    let begins : place.offset ≡ 512 = is.offset_is in
     let left : need count ≤ ring_sectors size = is.has_room in
-    let long : place.sectors ≡ need count = is.sectors_xl in
+    let long : place.sectors ≡ need count = is.sectors_is in
     record { is_whole = omega arith; behind_header = omega arith; before_end = omega arith; fits = omega arith }
 in_ring size (Some text) count place whole big inside some is =
-    let begins : place.offset ≡ next_offset size (Some text) = is.offset_xl in
+    let begins : place.offset ≡ next_offset size (Some text) = is.offset_is in
     let left : need count ≤ room size (Some text) = is.has_room in
-    let long : place.sectors ≡ need count = is.sectors_xl in
+    let long : place.sectors ≡ need count = is.sectors_is in
     let behind : 512 ≤ text.offset = inside.behind_header in
     let before : text.offset < size = inside.before_end in
     let short : text.size ≤ size - 512 = inside.has_room in
@@ -64,9 +64,9 @@ apart size (Some text) count place whole big inside some is = λ sector next old
     let behind : 512 ≤ place.offset = ring.behind_header in
     let before : place.offset < size = ring.before_end in
     let left : need count ≤ room size (Some text) = is.has_room in
-    let long : place.sectors ≡ need count = is.sectors_xl in
+    let long : place.sectors ≡ need count = is.sectors_is in
     let fits : 512 * place.sectors ≤ size - 512 = ring.fits in
-    let begins : place.offset ≡ next_offset size (Some text) = is.offset_xl in
+    let begins : place.offset ≡ next_offset size (Some text) = is.offset_is in
     let short : text.size ≤ size - 512 = inside.has_room in
     let starts : (place.offset ≡ 512 * need (text.offset + text.size)) ⊎ (place.offset + (size - 512) ≡ 512 * need (text.offset + text.size)) =
     elim (next_offset-cases size text whole big inside (omega arith)) [ inl low ↦ inl (begins ∙ low) | inr high ↦ inr (omega arith) ]

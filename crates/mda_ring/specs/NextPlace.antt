@@ -8,8 +8,8 @@ use Rattle.mda_ring.specs.Ring.{Touches, need, next_offset, room}
 
 -- the place of a text of so many bytes, for which the committed text leaves room
 pub record IsNext (size : ℕ) (committed : Option Locn) (count : ℕ) (place : Place) : Type 0 where
-  pub offset_xl : place.offset ≡ next_offset size committed
-  pub sectors_xl : place.sectors ≡ need count
+  pub offset_is : place.offset ≡ next_offset size committed
+  pub sectors_is : place.sectors ≡ need count
   pub has_room : need count ≤ room size committed
 
 -- a text of so many bytes has no room, and these are the sectors that it needs and those that there are

@@ -36,7 +36,7 @@ spans_cover spans pv sector = covers spans.0 pv sector || option_map_or (λ (res
 
 -- the span has a sector, and lies in the area, behind its header
 pub record IsInArea (area : Area) (span : Span) : Type 0 where
-  pub pv_xl : span.pv ≡ area.pv
+  pub pv_is : span.pv ≡ area.pv
   pub behind_header : area.start / 512 + 1 ≤ span.first
   pub has_sectors : 0 < span.count
   pub before_end : span.first + span.count ≤ (area.start + area.size) / 512

@@ -26,7 +26,7 @@ without_zero bytes = if slice_index_or bytes (length bytes - 1) 1 == 0 then take
 -- the bytes have the checksum of the entry, and are this text, with or without a zero byte behind it
 pub record IsTextOf (locn : Locn) (bytes text : List ℕ) : Type 0 where
   pub agrees : checksum lvm_crc_start bytes ≡ locn.sum
-  pub text_xl : text ≡ without_zero bytes
+  pub text_is : text ≡ without_zero bytes
 
 -- the bytes don't have the checksum of the entry, and these are both, or memory is wanting
 abbrev pub IsDamaged : Locn → List ℕ → RingRefusal → Type 0

@@ -25,8 +25,8 @@ const SUM: u32 = 0x182F_C4C4;
 // The entry of six bytes at the ring's begin, with this checksum.
 fn entry(sum: u32) -> Locn
     ensures inside { IsInside 4096 result }
-    ensures offset_xl { result.offset ≡ 512 }
-    ensures size_xl { result.size ≡ 6 }
+    ensures offset_is { result.offset ≡ 512 }
+    ensures size_is { result.size ≡ 6 }
 {
     Locn {
         offset: 512,

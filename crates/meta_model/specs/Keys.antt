@@ -5,7 +5,7 @@ use Rattle.std.specs.List.{list_all}
 use Rattle.std.specs.Cmp.Lexicographic.{pointwise}
 use Rattle.lvm_id.specs.LvmId.{is_id_char, hyphen_form}
 use Rattle.lvm_name.specs.Names.{is_among}
-use Rattle.conf_text.specs.Entries.{Scalar, Number, Text, One, Many, Entry}
+use Rattle.conf_text.specs.Entries.{Scalar, Number, Text, One, Many, ConfEntry}
 use Rattle.conf_text.specs.Items.{Node, Leaf, Body, lookup}
 use Rattle.meta_model.specs.declared.refusal.GroupRefusal.{GroupRefusal}
 use Rattle.meta_model.specs.declared.refusal.GroupRefusal.TheVariants.{Missing, WrongKind, UnknownStatus, CountDiffers, BadId}
@@ -69,7 +69,7 @@ pairs (Leaf (Many scalars)) = pairs_of scalars
 pairs _ = None
 
 -- a section
-abbrev pub section : Node → Option (List Entry)
+abbrev pub section : Node → Option (List ConfEntry)
 section (Body entries) = Some entries
 section _ = None
 

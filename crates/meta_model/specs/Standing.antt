@@ -5,7 +5,7 @@ use Rattle.std.specs.Char.{is_ascii_digit}
 use Rattle.std.specs.List.{list_all, position}
 use Rattle.std.specs.Cmp.Lexicographic.{pointwise}
 use Rattle.lvm_name.specs.Names.{is_among, group_name_refusal, any_name_refusal}
-use Rattle.conf_text.specs.Entries.{Conf, Entry}
+use Rattle.conf_text.specs.Entries.{Conf, ConfEntry}
 use Rattle.conf_text.specs.Grammar.{IsTextOf}
 use Rattle.conf_text.specs.Items.{items}
 use Rattle.meta_model.specs.Keys.{Items, Read, ◌>>=◌, each, or_refused, number, text, words, pairs, section, required, optional, only, only_text, only_number, id, status, counted}
@@ -23,11 +23,11 @@ use Rattle.meta_model.specs.declared.status.VgStatus.{VgStatus}
 use Rattle.meta_model.specs.declared.status.LvStatus.{LvStatus}
 
 -- the sections among the items
-abbrev pub sections_of : Items → List (List ℕ × List Entry)
+abbrev pub sections_of : Items → List (List ℕ × List ConfEntry)
 sections_of found = filter_map (λ item. option_map (λ body. (item.0, body)) (section item.1)) found
 
 -- Sections by their names, each read by its items. A name is one of a volume, and stands once.
-abbrev pub named : {A : Type 0} → (Items → Read A) → List (List ℕ) → List (List ℕ × List Entry) → Read (List (List ℕ × A))
+abbrev pub named : {A : Type 0} → (Items → Read A) → List (List ℕ) → List (List ℕ × List ConfEntry) → Read (List (List ℕ × A))
 named read taken [] = Ok []
 named read taken (found ∷ more) =
     if is_none (any_name_refusal found.0) && not (is_among taken found.0)
@@ -119,7 +119,7 @@ is_segment_name name = pointwise nat_eq (take 7 name) (codes "segment") && is_fr
     is_from_one (digit ∷ digits) = not (digit == 48) && list_all is_ascii_digit (digit ∷ digits)
 
 -- the segments' sections, in the order of the text
-abbrev pub segments_of : Items → List (List Entry)
+abbrev pub segments_of : Items → List (List ConfEntry)
 segments_of keys = filter_map (λ found. if is_segment_name found.0 then Some found.1 else None) (sections_of keys)
 
 -- the status words of a logical volume
@@ -191,14 +191,14 @@ group_in name keys =
       lvs = volumes.1;
     })
   where
-    volumes : List (List ℕ × List Entry) → List (List ℕ × List Entry) → Read (List (List ℕ × Pv) × List (List ℕ × Lv))
+    volumes : List (List ℕ × List ConfEntry) → List (List ℕ × List ConfEntry) → Read (List (List ℕ × Pv) × List (List ℕ × Lv))
     volumes pvs lvs =
         named pv_of [] pvs >>= λ pvs_read.
         named (lv_of (record { pvs = map (λ found. found.0) pvs; lvs = map (λ found. found.0) lvs })) [] lvs >>= λ lvs_read.
         Ok (pvs_read, lvs_read)
 
 -- the one section of the top level
-abbrev pub only_section : List (List ℕ × List Entry) → Read (List ℕ × List Entry)
+abbrev pub only_section : List (List ℕ × List ConfEntry) → Read (List ℕ × List ConfEntry)
 only_section [] = Err (Missing (codes "group"))
 only_section (found ∷ []) = if is_none (group_name_refusal found.0) then Ok found else Err (BadName found.0)
 only_section (found ∷ second ∷ more) = Err (WrongKind second.0)

@@ -2,23 +2,23 @@
 #![tactic(auto)]
 
 mod copies;
+mod extent_span;
 mod group;
 mod lv;
 mod printable;
 mod pv;
 mod refusal;
-mod run;
 mod segment;
 mod status;
 mod table;
 mod tables;
 
 pub use copies::TryCopy;
+pub use extent_span::ExtentSpan;
 pub use group::Group;
 pub use lv::Lv;
 pub use pv::Pv;
 pub use refusal::GroupRefusal;
-pub use run::Run;
 pub use segment::{Leg, Legs, On, SegKind, Segment, Segments};
 pub use status::{LvStatus, VgStatus};
 pub use table::{PushRefusal, Table};

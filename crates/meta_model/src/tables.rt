@@ -6,13 +6,13 @@ ghost use Rattle.meta_model.specs.Runs.{room_of, run_room};
 ghost use Rattle.meta_model.specs.Tables.{names_of, NamesDiffer, Pushes};
 
 use crate::copies::copied_table;
-use crate::{Lv, PushRefusal, Pv, Run, Table};
+use crate::{ExtentSpan, Lv, PushRefusal, Pv, Table};
 use lvm_name::VolumeName;
 use std::alloc::{AllocError, Global};
 use std::marker::Model;
 
 // What stands where no run was put.
-const NO_RUN: Run = Run {
+const NO_RUN: ExtentSpan = ExtentSpan {
     on: 0,
     first: 0,
     count: 0,
@@ -29,7 +29,7 @@ pub type LvRows = Table<Lv>;
 #[derive(Debug, Drop)]
 pub struct LvTable {
     rows: LvRows,
-    runs: Vec<Run>,
+    runs: Vec<ExtentSpan>,
 }
 
 impl Model for LvTable {
@@ -136,7 +136,7 @@ impl LvTable {
     // be replaced by something shorter.
 
     /// The volumes, and room for a run for each leg and each volume. What the runs are isn't said.
-    pub fn into_parts(self) -> (LvRows, Vec<Run>)
+    pub fn into_parts(self) -> (LvRows, Vec<ExtentSpan>)
         ensures rows { result.0 ≡ self }
         ensures room { run_room self ≤ vec_len result.1 }
     {
@@ -144,7 +144,7 @@ impl LvTable {
     }
 
     /// The table of these volumes, with that room.
-    pub fn from_parts(rows: LvRows, runs: Vec<Run>) -> Self
+    pub fn from_parts(rows: LvRows, runs: Vec<ExtentSpan>) -> Self
         requires { run_room rows ≤ vec_len runs }
         ensures { result ≡ rows }
     {
@@ -153,7 +153,7 @@ impl LvTable {
 }
 
 // Room for the runs of one more volume. It only grows.
-fn make_room(runs: &mut Vec<Run>, lv: &Lv) -> Result<(), AllocError>
+fn make_room(runs: &mut Vec<ExtentSpan>, lv: &Lv) -> Result<(), AllocError>
     ensures grown { OnOk result (vec_len runs.new ≡ vec_len runs.old + room_of lv.now) }
     ensures kept { vec_len runs.old ≤ vec_len runs.new }
 {
@@ -165,7 +165,7 @@ fn make_room(runs: &mut Vec<Run>, lv: &Lv) -> Result<(), AllocError>
 }
 
 // So many runs more.
-fn push_runs(runs: &mut Vec<Run>, count: usize) -> Result<(), AllocError>
+fn push_runs(runs: &mut Vec<ExtentSpan>, count: usize) -> Result<(), AllocError>
     ensures grown { OnOk result (vec_len runs.new ≡ vec_len runs.old + count) }
     ensures kept { vec_len runs.old ≤ vec_len runs.new }
 {
@@ -176,7 +176,7 @@ fn push_runs(runs: &mut Vec<Run>, count: usize) -> Result<(), AllocError>
 }
 
 // One run more. The vector grows by an eighth.
-fn push_run(runs: &mut Vec<Run>) -> Result<(), AllocError>
+fn push_run(runs: &mut Vec<ExtentSpan>) -> Result<(), AllocError>
     ensures grown { OnOk result (vec_len runs.new ≡ vec_len runs.old + 1) }
     ensures kept { vec_len runs.old ≤ vec_len runs.new }
 {

@@ -4,7 +4,7 @@ use Rattle.std.proofs.lemmas.List.{append-nil}
 use Rattle.std.specs.Prelude.{codes, flat_map}
 use Rattle.std.specs.List.{AllByRecursion as Each}
 use Rattle.lvm_id.specs.LvmId.{hyphen_form}
-use Rattle.conf_text.specs.Entries.{Entry, One, Many, Number, Text}
+use Rattle.conf_text.specs.Entries.{ConfEntry, One, Many, Number, Text}
 use Rattle.conf_text.specs.Items.{Leaf, Body, items, lookup}
 use Rattle.meta_model.specs.Keys.{Items, section as section_kind, optional}
 use Rattle.meta_model.specs.PassedOver.{path_in, in_pv, in_lv, in_volumes, in_group}
@@ -21,7 +21,7 @@ use Rattle.meta_print.proofs.LvAgain.{lv_body, lv_whole, lv_read_again, lv_keys_
 use Rattle.meta_print.proofs.VolumesAgain.{row_bodies, rows_whole, rows_items, rows_bodies, rows_names, rows_again, rows_known}
 
 -- what stands in the section
-abbrev pub group_body : Group → List Entry
+abbrev pub group_body : Group → List ConfEntry
 group_body group =
     text (codes "id") (hyphen_form group.id)
     ∷ number (codes "seqno") group.seqno
@@ -111,10 +111,10 @@ no_lock : (group : Group) (lvs : List (List ℕ × Lv)) → lookup (codes "lock_
 no_lock group [] = refl
 no_lock group (lv ∷ lvs) = refl
 
-abbrev named_by : List (List ℕ × List Entry) → List (List ℕ × List Entry) → Names
+abbrev named_by : List (List ℕ × List ConfEntry) → List (List ℕ × List ConfEntry) → Names
 named_by pvs lvs = record { pvs = map (λ found. found.0) pvs; lvs = map (λ found. found.0) lvs }
 
-group_by : (group : Group) (more : Items) (lvs_body : List Entry) (pvs lvs : List (List ℕ × List Entry)) → IsPrintable group → optional section_kind [] (codes "logical_volumes") more ≡ Ok lvs_body
+group_by : (group : Group) (more : Items) (lvs_body : List ConfEntry) (pvs lvs : List (List ℕ × List ConfEntry)) → IsPrintable group → optional section_kind [] (codes "logical_volumes") more ≡ Ok lvs_body
     → lookup (codes "system_id") more ≡ None → lookup (codes "lock_type") more ≡ None
     → sections_of (items (flat_map pv_entries group.pvs)) ≡ pvs → sections_of (items lvs_body) ≡ lvs
     → named pv_of [] pvs ≡ Ok group.pvs → named (lv_of (named_by pvs lvs)) [] lvs ≡ Ok group.lvs
@@ -124,8 +124,8 @@ group_by group more lvs_body pvs lvs h found no_system no_lock pv_sections lv_se
 
 pub group_read_again : (group : Group) → IsPrintable group → group_in group.name (items (group_body group)) ≡ Ok group
 group_read_again group h =
-    let pvs : List (List ℕ × List Entry) = row_bodies pv_body group.pvs in
-    let lvs : List (List ℕ × List Entry) = row_bodies (lv_body group) group.lvs in
+    let pvs : List (List ℕ × List ConfEntry) = row_bodies pv_body group.pvs in
+    let lvs : List (List ℕ × List ConfEntry) = row_bodies (lv_body group) group.lvs in
     let names : named_by pvs lvs ≡ names_of group = rw (rows_names pv_body group.pvs, rows_names (lv_body group) group.lvs) refl in
     let read_lvs : named (lv_of (named_by pvs lvs)) [] lvs ≡ Ok group.lvs =
     ap (λ found. named (lv_of found) [] lvs) names ∙ rows_again (lv_of (names_of group)) (lv_body group) [] group.lvs h.lv_names (lvs_read group group.lvs h.each_lv)
@@ -146,7 +146,7 @@ lvs_known group [] h = tt
 lvs_known group (lv ∷ lvs) h = (λ path. lv_keys_known group path lv.1 h.0.count_fits, lvs_known group lvs h.1)
 
 -- the volumes' sections alone
-lvs_item-known : (path : List ℕ) (body : List Entry) → in_volumes in_lv (path_in path (codes "logical_volumes")) (items body) ≡ [] → in_group path ((codes "logical_volumes", Body body) ∷ []) ≡ []
+lvs_item-known : (path : List ℕ) (body : List ConfEntry) → in_volumes in_lv (path_in path (codes "logical_volumes")) (items body) ≡ [] → in_group path ((codes "logical_volumes", Body body) ∷ []) ≡ []
 lvs_item-known path body known = rw known refl
 
 lvs_items-known : (group : Group) (path : List ℕ) (lvs : List (List ℕ × Lv)) → Each (λ (lv : List ℕ × Lv). IsLv group lv.1) lvs → in_group path (lvs_items group lvs) ≡ []

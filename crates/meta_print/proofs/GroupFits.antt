@@ -8,7 +8,7 @@ use Rattle.std.specs.Cmp.Lexicographic.{pointwise}
 use Rattle.std.proofs.lemmas.Bool.{or_from, ne_eqb, and_parts}
 use Rattle.std.proofs.lemmas.Bool.Decides.{nat_tests}
 use Rattle.conf_text.specs.Bytes.{kind}
-use Rattle.conf_text.specs.Entries.{Entry, KeepsLimits, IsBalanced}
+use Rattle.conf_text.specs.Entries.{ConfEntry, KeepsLimits, IsBalanced}
 use Rattle.conf_text.specs.Grammar.{is_name, IsName}
 use Rattle.conf_text.specs.Printed.{CanPrint}
 use Rattle.lvm_id.specs.LvmId.{hyphen_form}
@@ -106,7 +106,7 @@ abbrev with_names : List (List ℕ) → List (List ℕ) → List (List ℕ)
 with_names taken [] = taken
 with_names taken (name ∷ names) = with_names (name ∷ taken) names
 
-rows_fit : {A : Type 0} (deep : ℕ) (body : A → List Entry) (taken : List (List ℕ)) (rows : List (List ℕ × A)) → AreNames taken (map (λ row. row.0) rows)
+rows_fit : {A : Type 0} (deep : ℕ) (body : A → List ConfEntry) (taken : List (List ℕ)) (rows : List (List ℕ × A)) → AreNames taken (map (λ row. row.0) rows)
     → Each (λ (row : List ℕ × A). FitsIn deep (body row.1)) rows → Fits (suc deep) taken (with_names taken (map (λ row. row.0) rows)) (row_sections body rows)
 rows_fit deep body taken [] names h = fits_none
 rows_fit deep body taken (row ∷ rows) names h =
@@ -193,12 +193,12 @@ beside_trailer : (name : List ℕ) → IsBeside name → has_name (with_trailer 
 beside_trailer name h = rw (h.no_time, h.no_host, h.no_description, h.no_version, h.no_contents) refl
 
 -- it can be printed, is balanced and keeps the limits
-pub record IsSound (es : List Entry) : Type 0 where
+pub record IsSound (es : List ConfEntry) : Type 0 where
   pub can : CanPrint es
   pub balanced : IsBalanced es
   pub limits : KeepsLimits es
 
-sound_by : (later : List (List ℕ)) (es : List Entry) → Fits 4 [] later es → IsSound es
+sound_by : (later : List (List ℕ)) (es : List ConfEntry) → Fits 4 [] later es → IsSound es
 sound_by later es fits = record { can = fits.can; balanced = ap length (fits.after []); limits = fits.kept [] (omega arith) }
 
 pub tree_sound : (group : Group) (now : ℕ) → now < 2 ^ 64 → IsPrintable group → IsSound (tree_of group now)

@@ -4,7 +4,7 @@ use Rattle.std.specs.Prelude.{◌&&◌, not, codes, filter_map, is_none, if◌th
 use Rattle.std.specs.List.{cons_option, AllByRecursion as Each}
 use Rattle.std.proofs.lemmas.Bool.{and_parts, not-true}
 use Rattle.lvm_name.specs.Names.{is_among, group_name_refusal, any_name_refusal}
-use Rattle.conf_text.specs.Entries.{Conf, Entry}
+use Rattle.conf_text.specs.Entries.{Conf, ConfEntry}
 use Rattle.conf_text.specs.Printed.{CanPrint}
 use Rattle.conf_text.specs.Items.{items}
 use Rattle.meta_model.specs.Keys.{Items, Read, ◌>>=◌, each, number, words, section, id as keys_id, status as keys_status, required, optional, only_text, only_number, counted}
@@ -21,11 +21,11 @@ use Rattle.meta_print.proofs.FromTree.{each_from, segment_from, pv_from}
 
 -- ---- a logical volume
 
-bodies_by : (part : List ℕ × List Entry) (test : Bool) (more : List (List Entry)) → CanPrint part.1 → Each CanPrint more → Each CanPrint (cons_option (if test then Some part.1 else None) more)
+bodies_by : (part : List ℕ × List ConfEntry) (test : Bool) (more : List (List ConfEntry)) → CanPrint part.1 → Each CanPrint more → Each CanPrint (cons_option (if test then Some part.1 else None) more)
 bodies_by part true more good later = (good, later)
 bodies_by part false more good later = later
 
-bodies_good : (parts : List (List ℕ × List Entry)) → Each (λ (part : List ℕ × List Entry). CanPrint part.1) parts → Each CanPrint (filter_map (λ found. if is_segment_name found.0 then Some found.1 else None) parts)
+bodies_good : (parts : List (List ℕ × List ConfEntry)) → Each (λ (part : List ℕ × List ConfEntry). CanPrint part.1) parts → Each CanPrint (filter_map (λ found. if is_segment_name found.0 then Some found.1 else None) parts)
 bodies_good [] good = tt
 bodies_good (part ∷ parts) good = bodies_by part (is_segment_name part.0) _ good.0 (bodies_good parts good.1)
 
@@ -56,7 +56,7 @@ lv_from group keys lv good h =
 -- ---- named sections
 
 -- what a row's reading gives, step by step
-named_step : {A : Type 0} (read : Items → Read A) (taken : List (List ℕ)) (part : List ℕ × List Entry) (more : List (List ℕ × List Entry)) (rows : List (List ℕ × A)) → named read taken (part ∷ more) ≡ Ok rows
+named_step : {A : Type 0} (read : Items → Read A) (taken : List (List ℕ)) (part : List ℕ × List ConfEntry) (more : List (List ℕ × List ConfEntry)) (rows : List (List ℕ × A)) → named read taken (part ∷ more) ≡ Ok rows
     → (is_none (any_name_refusal part.0) ≡ true) × (is_among taken part.0 ≡ false) × (x : A) × (xs : List (List ℕ × A)) × (read (items part.1) ≡ Ok x) × (named read (part.0 ∷ taken) more ≡ Ok xs) × ((part.0, x) ∷ xs ≡ rows)
 named_step read taken part more rows h =
     let parts : ((is_none (any_name_refusal part.0) && not (is_among taken part.0)) ≡ true) × (((read (items part.1) >>= λ x. named read (part.0 ∷ taken) more >>= λ xs. Ok ((part.0, x) ∷ xs))) ≡ Ok rows) = not_refused (BadName part.0) h in
@@ -68,7 +68,7 @@ record HasNames {A : Type 0} (taken names : List (List ℕ)) (rows : List (List 
   are : AreNames taken (map (λ row. row.0) rows)
   same : names ≡ map (λ row. row.0) rows
 
-named_names : {A : Type 0} (read : Items → Read A) (taken : List (List ℕ)) (parts : List (List ℕ × List Entry)) (rows : List (List ℕ × A)) → named read taken parts ≡ Ok rows
+named_names : {A : Type 0} (read : Items → Read A) (taken : List (List ℕ)) (parts : List (List ℕ × List ConfEntry)) (rows : List (List ℕ × A)) → named read taken parts ≡ Ok rows
     → HasNames taken (map (λ part. part.0) parts) rows
 named_names read taken [] rows h = subst (HasNames taken []) (same_Ok h) (record { are = tt; same = refl })
 named_names read taken (part ∷ more) rows h =
@@ -76,8 +76,8 @@ named_names read taken (part ∷ more) rows h =
     let rest : HasNames (part.0 ∷ taken) (map (λ part. part.0) more) xs = named_names read (part.0 ∷ taken) more xs xs_is in
     subst (HasNames taken (map (λ part. part.0) (part ∷ more))) e (record { are = (is_name, free, rest.are); same = ap (λ names. part.0 ∷ names) rest.same })
 
-named_each : {A : Type 0} (read : Items → Read A) (Q : A → Type 0) → ((keys : Items) (x : A) → AreGood keys → read keys ≡ Ok x → Q x) → (taken : List (List ℕ)) (parts : List (List ℕ × List Entry)) (rows : List (List ℕ × A))
-    → Each (λ (part : List ℕ × List Entry). CanPrint part.1) parts → named read taken parts ≡ Ok rows → Each (λ (row : List ℕ × A). Q row.1) rows
+named_each : {A : Type 0} (read : Items → Read A) (Q : A → Type 0) → ((keys : Items) (x : A) → AreGood keys → read keys ≡ Ok x → Q x) → (taken : List (List ℕ)) (parts : List (List ℕ × List ConfEntry)) (rows : List (List ℕ × A))
+    → Each (λ (part : List ℕ × List ConfEntry). CanPrint part.1) parts → named read taken parts ≡ Ok rows → Each (λ (row : List ℕ × A). Q row.1) rows
 named_each {A} read Q one taken [] rows good h = subst (Each (λ (row : List ℕ × A). Q row.1)) (same_Ok h) tt
 named_each {A} read Q one taken (part ∷ more) rows good h =
     let (is_name, free, x, xs, x_is, xs_is, e) = named_step read taken part more rows h in
@@ -92,10 +92,10 @@ record ArePrintable (group : Group) : Type 0 where
   each_pv : Each (λ (pv : List ℕ × Pv). IsPv pv.1) group.pvs
   each_lv : Each (λ (lv : List ℕ × Lv). IsLv group lv.1) group.lvs
 
-abbrev part_names : List (List ℕ × List Entry) → List (List ℕ)
+abbrev part_names : List (List ℕ × List ConfEntry) → List (List ℕ)
 part_names parts = map (λ found. found.0) parts
 
-volumes_from : (group : Group) (pvs lvs : List (List ℕ × List Entry)) → Each (λ (part : List ℕ × List Entry). CanPrint part.1) pvs → Each (λ (part : List ℕ × List Entry). CanPrint part.1) lvs
+volumes_from : (group : Group) (pvs lvs : List (List ℕ × List ConfEntry)) → Each (λ (part : List ℕ × List ConfEntry). CanPrint part.1) pvs → Each (λ (part : List ℕ × List ConfEntry). CanPrint part.1) lvs
     → named pv_of [] pvs ≡ Ok group.pvs → named (lv_of (record { pvs = part_names pvs; lvs = part_names lvs })) [] lvs ≡ Ok group.lvs → ArePrintable group
 volumes_from group pvs lvs pvs_good lvs_good pvs_are lvs_are =
     let names : Names = record { pvs = part_names pvs; lvs = part_names lvs } in
@@ -112,11 +112,11 @@ volumes_from group pvs lvs pvs_good lvs_good pvs_are lvs_are =
 -- ---- the group
 
 -- the volumes of both sections
-abbrev volumes_in : List (List ℕ × List Entry) → List (List ℕ × List Entry) → Read (List (List ℕ × Pv) × List (List ℕ × Lv))
+abbrev volumes_in : List (List ℕ × List ConfEntry) → List (List ℕ × List ConfEntry) → Read (List (List ℕ × Pv) × List (List ℕ × Lv))
 volumes_in pvs lvs = named pv_of [] pvs >>= λ pvs_read. named (lv_of (record { pvs = part_names pvs; lvs = part_names lvs })) [] lvs >>= λ lvs_read. Ok (pvs_read, lvs_read)
 
-volumes_are : (group : Group) (pvs lvs : List (List ℕ × List Entry)) (found : List (List ℕ × Pv) × List (List ℕ × Lv)) → Each (λ (part : List ℕ × List Entry). CanPrint part.1) pvs
-    → Each (λ (part : List ℕ × List Entry). CanPrint part.1) lvs → volumes_in pvs lvs ≡ Ok found → found.0 ≡ group.pvs → found.1 ≡ group.lvs → ArePrintable group
+volumes_are : (group : Group) (pvs lvs : List (List ℕ × List ConfEntry)) (found : List (List ℕ × Pv) × List (List ℕ × Lv)) → Each (λ (part : List ℕ × List ConfEntry). CanPrint part.1) pvs
+    → Each (λ (part : List ℕ × List ConfEntry). CanPrint part.1) lvs → volumes_in pvs lvs ≡ Ok found → found.0 ≡ group.pvs → found.1 ≡ group.lvs → ArePrintable group
 volumes_are group pvs lvs found pvs_good lvs_good h same_pvs same_lvs =
     bound {x = named pv_of [] pvs} h (λ pvs_read pvs_is h1.
     bound {x = named (lv_of (record { pvs = part_names pvs; lvs = part_names lvs })) [] lvs} h1 (λ lvs_read lvs_is e.
@@ -173,14 +173,14 @@ group_from name keys group named_well good h =
 
 -- ---- the whole tree
 
-one_section : (parts : List (List ℕ × List Entry)) (part : List ℕ × List Entry) → Each (λ (part : List ℕ × List Entry). CanPrint part.1) parts → only_section parts ≡ Ok part
+one_section : (parts : List (List ℕ × List ConfEntry)) (part : List ℕ × List ConfEntry) → Each (λ (part : List ℕ × List ConfEntry). CanPrint part.1) parts → only_section parts ≡ Ok part
     → CanPrint part.1 × (is_none (group_name_refusal part.0) ≡ true)
 one_section [] part good h = absurd cc
 one_section (found ∷ second ∷ more) part good h = absurd cc
 one_section (found ∷ []) part good h =
-    let parts : (is_none (group_name_refusal found.0) ≡ true) × (◌≡◌ {A = Read (List ℕ × List Entry)} (Ok found) (Ok part)) = not_refused (BadName found.0) h in
+    let parts : (is_none (group_name_refusal found.0) ≡ true) × (◌≡◌ {A = Read (List ℕ × List ConfEntry)} (Ok found) (Ok part)) = not_refused (BadName found.0) h in
     let same : found ≡ part = same_Ok parts.1 in
-    (subst (λ (p : List ℕ × List Entry). CanPrint p.1) same good.0, subst (λ (p : List ℕ × List Entry). is_none (group_name_refusal p.0) ≡ true) same parts.0)
+    (subst (λ (p : List ℕ × List ConfEntry). CanPrint p.1) same good.0, subst (λ (p : List ℕ × List ConfEntry). is_none (group_name_refusal p.0) ≡ true) same parts.0)
 
 tree_from : (tree : Conf) (group : Group) → CanPrint tree → group_of tree ≡ Ok group → IsPrintable group
 unfolding group_of

@@ -4,7 +4,7 @@ use Rattle.std.specs.Prelude.{codes}
 use Rattle.std.specs.List.{AllByRecursion as Each}
 use Rattle.std.proofs.lemmas.List.{length-map}
 use Rattle.lvm_id.specs.LvmId.{hyphen_form}
-use Rattle.conf_text.specs.Entries.{Entry}
+use Rattle.conf_text.specs.Entries.{ConfEntry}
 use Rattle.conf_text.specs.Items.{Body, items}
 use Rattle.meta_model.specs.Keys.{Items, each, counted}
 use Rattle.meta_model.specs.PassedOver.{path_in, in_segment, in_lv}
@@ -20,7 +20,7 @@ use Rattle.meta_print.proofs.WordsAgain.{texts_again, lv_known, lv_again}
 use Rattle.meta_print.proofs.SegmentAgain.{segment_body, segment_again, segment_known, segment_whole, counted_same}
 
 -- what stands in the section
-abbrev pub lv_body : Group → Lv → List Entry
+abbrev pub lv_body : Group → Lv → List ConfEntry
 lv_body group lv =
     text (codes "id") (hyphen_form lv.id)
     ∷ words (codes "status") (lv_words lv.status)
@@ -47,7 +47,7 @@ segments_items group at (segment ∷ segments) =
     section_item (numbered at) (segment_body group segment) (segments_entries group (at + 1) segments) (segment_whole group segment)
     ∙ ap (λ found. (numbered at, Body (segment_body group segment)) ∷ found) (segments_items group (at + 1) segments)
 
-one_segment : (name : List ℕ) (body : List Entry) (more : Items) → is_segment_name name ≡ true → segments_of ((name, Body body) ∷ more) ≡ body ∷ segments_of more
+one_segment : (name : List ℕ) (body : List ConfEntry) (more : Items) → is_segment_name name ≡ true → segments_of ((name, Body body) ∷ more) ≡ body ∷ segments_of more
 one_segment name body more named = rw named refl
 
 bodies_again : (group : Group) (at : ℕ) (segments : List Segment) → 0 < at → at + length segments ≤ 2 ^ 64 → segments_of (segment_items group at segments) ≡ map (segment_body group) segments
@@ -74,7 +74,7 @@ lv_read_again group lv h =
 
 -- ---- its keys are known
 
-one_known : (path name : List ℕ) (body : List Entry) (more : Items) → is_segment_name name ≡ true → in_segment (path_in path name) (items body) ≡ [] → in_lv path ((name, Body body) ∷ more) ≡ in_lv path more
+one_known : (path name : List ℕ) (body : List ConfEntry) (more : Items) → is_segment_name name ≡ true → in_segment (path_in path name) (items body) ≡ [] → in_lv path ((name, Body body) ∷ more) ≡ in_lv path more
 one_known path name body more named known = rw (named, known) refl
 
 segments_known : (group : Group) (path : List ℕ) (at : ℕ) (segments : List Segment) → 0 < at → at + length segments ≤ 2 ^ 64 → in_lv path (segment_items group at segments) ≡ []

@@ -2,7 +2,7 @@
 use Rattle.std.proofs.Common.{◌≡◌, ℕ, Bool, true, false, List, [], ◌∷◌, Some, Ok, refl}
 use Rattle.std.specs.Prelude.{codes}
 use Rattle.lvm_id.specs.LvmId.{hyphen_form}
-use Rattle.conf_text.specs.Entries.{Entry}
+use Rattle.conf_text.specs.Entries.{ConfEntry}
 use Rattle.conf_text.specs.Items.{items}
 use Rattle.meta_model.specs.Keys.{id_printed}
 use Rattle.meta_model.specs.PassedOver.{in_pv}
@@ -12,7 +12,7 @@ use Rattle.meta_print.specs.Layout.{text, words, number, word_if}
 use Rattle.meta_print.proofs.Sections.{IsWhole}
 
 -- what stands in the section
-abbrev pub pv_body : Pv → List Entry
+abbrev pub pv_body : Pv → List ConfEntry
 pv_body pv =
     text (codes "id") (hyphen_form pv.id)
     ∷ text (codes "device") pv.device

@@ -4,7 +4,7 @@ use Rattle.std.specs.Prelude.{◌||◌, ◌==◌, nat_lt, codes, flat_map, if◌
 use Rattle.std.proofs.lemmas.Bool.{eq-eqb, eqb-true}
 use Rattle.std.proofs.lemmas.List.{length-map}
 use Rattle.std.specs.List.{AllByRecursion as Each}
-use Rattle.conf_text.specs.Entries.{Entry, Scalar, Assign, Many}
+use Rattle.conf_text.specs.Entries.{ConfEntry, Scalar, Assign, Many}
 use Rattle.conf_text.specs.Items.{items}
 use Rattle.meta_model.specs.Keys.{pairs_of, counted, each}
 use Rattle.meta_model.specs.PassedOver.{in_segment}
@@ -19,11 +19,11 @@ use Rattle.meta_print.proofs.Sections.{IsWhole}
 use Rattle.meta_print.proofs.Printable.{names_of, IsLeg, IsKind, IsSegment}
 
 -- what stands in the section
-abbrev pub segment_body : Group → Segment → List Entry
+abbrev pub segment_body : Group → Segment → List ConfEntry
 segment_body group segment = number (codes "start_extent") segment.start ∷ number (codes "extent_count") segment.count ∷ kind_entries group segment.kind
 
 -- of a striped segment, whether its stripes' size is shown or not
-abbrev pub striped_body : ℕ → ℕ → ℕ → ℕ → List Scalar → Bool → List Entry
+abbrev pub striped_body : ℕ → ℕ → ℕ → ℕ → List Scalar → Bool → List ConfEntry
 striped_body start count said stripe legs shown =
     number (codes "start_extent") start
     ∷ number (codes "extent_count") count

@@ -6,7 +6,7 @@ use Rattle.std.specs.Cmp.Lexicographic.{pointwise, same_text}
 use Rattle.std.proofs.lemmas.Bool.{and_parts, ltb-true}
 use Rattle.std.proofs.lemmas.Option.{same_Some, cond_some}
 use Rattle.lvm_id.specs.LvmId.{is_id_char, hyphen_form}
-use Rattle.conf_text.specs.Entries.{Scalar, Number, Text, Value, One, Many, Entry, Open, Close, Assign, after_entry, keep_limits, keeps_limits, fits_scalar, scalars_of, is_given}
+use Rattle.conf_text.specs.Entries.{Scalar, Number, Text, Value, One, Many, ConfEntry, Open, Close, Assign, after_entry, keep_limits, keeps_limits, fits_scalar, scalars_of, is_given}
 use Rattle.conf_text.specs.Grammar.{IsContent, IsScalar, IsArray, BeginsWith, IsTextOf}
 use Rattle.conf_text.specs.Printed.{CanPrintScalar, CanPrintAll, CanPrint}
 use Rattle.conf_text.specs.Items.{Node, Leaf, Body, body_from, items_from, items, lookup}
@@ -33,7 +33,7 @@ array_can bytes (s ∷ t ∷ ss) h fits =
 fits_from : (given : List (List (List ℕ))) (name : List ℕ) (value : Value) → keeps_limits given (Assign name value) ≡ true → list_all fits_scalar (scalars_of value) ≡ true
 fits_from given name value h = (and_parts (not (is_given given name)) (list_all fits_scalar (scalars_of value)) h).1
 
-entries_can : (given : List (List (List ℕ))) (text : List ℕ) (es : List Entry) (gap : List ℕ) → BeginsWith text es gap → keep_limits given es ≡ true → CanPrint es
+entries_can : (given : List (List (List ℕ))) (text : List ℕ) (es : List ConfEntry) (gap : List ℕ) → BeginsWith text es gap → keep_limits given es ≡ true → CanPrint es
 entries_can given text [] gap h limits = tt
 entries_can given text (Open name ∷ es) gap h limits =
     let parts : (keeps_limits given (Open name) ≡ true) × (keep_limits (after_entry given (Open name)) es ≡ true) = and_parts (keeps_limits given (Open name)) (keep_limits (after_entry given (Open name)) es) limits in
@@ -50,7 +50,7 @@ entries_can given text (Assign name (Many ss) ∷ es) gap h limits =
     in
     ((h.3.2.4, array_can h.3.3.0 ss h.3.3.1 (fits_from given name (Many ss) parts.0)), entries_can (after_entry given (Assign name (Many ss))) h.1 es gap h.5 parts.1)
 
-pub text_can : (text : List ℕ) (es : List Entry) → IsTextOf text es → CanPrint es
+pub text_can : (text : List ℕ) (es : List ConfEntry) → IsTextOf text es → CanPrint es
 text_can text es h = entries_can ([] ∷ []) text es h.spelled.gap h.spelled.entries h.limits
 
 -- ---- items
@@ -61,7 +61,7 @@ IsGood (Leaf (One s)) = CanPrintScalar s
 IsGood (Leaf (Many ss)) = CanPrintAll ss
 IsGood (Body es) = CanPrint es
 
-body_can : (deep : ℕ) (es : List Entry) → CanPrint es → CanPrint (body_from deep es)
+body_can : (deep : ℕ) (es : List ConfEntry) → CanPrint es → CanPrint (body_from deep es)
 body_can deep [] h = tt
 body_can zero (Close ∷ es) h = tt
 body_can (suc deep) (Close ∷ es) h = (tt, body_can deep es h.1)
@@ -71,7 +71,7 @@ body_can deep (Assign name value ∷ es) h = (h.0, body_can deep es h.1)
 abbrev pub AreGood : Items → Type 0
 AreGood found = Each (λ (item : List ℕ × Node). IsGood item.1) found
 
-items_good : (deep : ℕ) (es : List Entry) → CanPrint es → AreGood (items_from deep es)
+items_good : (deep : ℕ) (es : List ConfEntry) → CanPrint es → AreGood (items_from deep es)
 items_good deep [] h = tt
 items_good zero (Open name ∷ es) h = (body_can 0 es h.1, items_good 1 es h.1)
 items_good zero (Assign name (One s) ∷ es) h = (h.0.1, items_good 0 es h.1)
@@ -81,7 +81,7 @@ items_good (suc deep) (Open name ∷ es) h = items_good (suc (suc deep)) es h.1
 items_good (suc deep) (Assign name value ∷ es) h = items_good (suc deep) es h.1
 items_good (suc deep) (Close ∷ es) h = items_good deep es h.1
 
-pub body_good : (es : List Entry) → CanPrint es → AreGood (items es)
+pub body_good : (es : List ConfEntry) → CanPrint es → AreGood (items es)
 body_good es h = items_good 0 es h
 
 -- ---- what is looked up
@@ -106,7 +106,7 @@ text_good (Leaf (One (Text t))) s good h = subst IsContent (same_Some t s h) goo
 text_good (Leaf (Many ss)) s good h = absurd cc
 text_good (Body es) s good h = absurd cc
 
-section_good : (node : Node) (es : List Entry) → IsGood node → section node ≡ Some es → CanPrint es
+section_good : (node : Node) (es : List ConfEntry) → IsGood node → section node ≡ Some es → CanPrint es
 section_good (Leaf (One (Number m))) es good h = absurd cc
 section_good (Leaf (One (Text t))) es good h = absurd cc
 section_good (Leaf (Many ss)) es good h = absurd cc
@@ -162,10 +162,10 @@ text_or key found s good h =
       | inr same ↦ subst IsContent same refl
     ]
 
-pub section_read : (key : List ℕ) (found : Items) (es : List Entry) → AreGood found → required section key found ≡ Ok es → CanPrint es
+pub section_read : (key : List ℕ) (found : Items) (es : List ConfEntry) → AreGood found → required section key found ≡ Ok es → CanPrint es
 section_read key found es good h = let (node, stands, is) = required_is section key found es h in section_good node es (lookup_good key found node good stands) is
 
-pub section_or : (key : List ℕ) (found : Items) (es : List Entry) → AreGood found → optional section [] key found ≡ Ok es → CanPrint es
+pub section_or : (key : List ℕ) (found : Items) (es : List ConfEntry) → AreGood found → optional section [] key found ≡ Ok es → CanPrint es
 section_or key found es good h =
     elim (optional_is section [] key found es h) [
       | inl stands ↦ section_good stands.0 es (lookup_good key found stands.0 good stands.1) stands.2
@@ -189,10 +189,10 @@ id_read key found x good h = bound h (λ printed stands is. id_from printed x (t
 
 -- ---- sections
 
-sections_by : (name : List ℕ) (node : Node) (more : Items) → IsGood node → Each (λ (part : List ℕ × List Entry). CanPrint part.1) (sections_of more) → Each (λ (part : List ℕ × List Entry). CanPrint part.1) (sections_of ((name, node) ∷ more))
+sections_by : (name : List ℕ) (node : Node) (more : Items) → IsGood node → Each (λ (part : List ℕ × List ConfEntry). CanPrint part.1) (sections_of more) → Each (λ (part : List ℕ × List ConfEntry). CanPrint part.1) (sections_of ((name, node) ∷ more))
 sections_by name (Leaf value) more good later = later
 sections_by name (Body es) more good later = (good, later)
 
-pub sections_good : (found : Items) → AreGood found → Each (λ (part : List ℕ × List Entry). CanPrint part.1) (sections_of found)
+pub sections_good : (found : Items) → AreGood found → Each (λ (part : List ℕ × List ConfEntry). CanPrint part.1) (sections_of found)
 sections_good [] good = tt
 sections_good (item ∷ more) good = sections_by item.0 item.1 more good.0 (sections_good more good.1)

@@ -3,7 +3,7 @@ use Rattle.std.proofs.Common.{◌≡◌, ℕ, true, List, [], ◌∷◌, Ok, ref
 use Rattle.std.proofs.lemmas.List.{append-nil}
 use Rattle.std.specs.Prelude.{codes, is_none}
 use Rattle.lvm_name.specs.Names.{group_name_refusal}
-use Rattle.conf_text.specs.Entries.{Conf, Entry, One, Number, Text}
+use Rattle.conf_text.specs.Entries.{Conf, ConfEntry, One, Number, Text}
 use Rattle.conf_text.specs.Items.{Leaf, Body, items}
 use Rattle.meta_model.specs.Keys.{Items}
 use Rattle.meta_model.specs.PassedOver.{in_group, passed_over}
@@ -32,21 +32,21 @@ backup_items : (group : Group) (now : ℕ) → items (backup_of group now) ≡ t
 backup_items group now =
     ap (trailer_items now) (ap items (sym (append-nil (section group.name (group_body group)))) ∙ section_item group.name (group_body group) [] (group_whole group))
 
-stands_by : (tree : Conf) (group : Group) (now : ℕ) (body : List Entry) → items tree ≡ (group.name, Body body) ∷ trailer_items now []
+stands_by : (tree : Conf) (group : Group) (now : ℕ) (body : List ConfEntry) → items tree ≡ (group.name, Body body) ∷ trailer_items now []
     → is_none (group_name_refusal group.name) ≡ true → IsBeside group.name → group_in group.name (items body) ≡ Ok group → group_of tree ≡ Ok group
 unfolding group_of
 stands_by tree group now body found name beside read = rw (found, name, beside.no_contents, beside.no_version, read) refl
 
-backup_stands_by : (tree : Conf) (group : Group) (now : ℕ) (body : List Entry) → items tree ≡ trailer_items now ((group.name, Body body) ∷ [])
+backup_stands_by : (tree : Conf) (group : Group) (now : ℕ) (body : List ConfEntry) → items tree ≡ trailer_items now ((group.name, Body body) ∷ [])
     → is_none (group_name_refusal group.name) ≡ true → group_in group.name (items body) ≡ Ok group → group_of tree ≡ Ok group
 unfolding group_of
 backup_stands_by tree group now body found name read = rw (found, name, read) refl
 
-known_by : (tree : Conf) (name : List ℕ) (now : ℕ) (body : List Entry) → items tree ≡ (name, Body body) ∷ trailer_items now [] → in_group name (items body) ≡ [] → passed_over tree ≡ []
+known_by : (tree : Conf) (name : List ℕ) (now : ℕ) (body : List ConfEntry) → items tree ≡ (name, Body body) ∷ trailer_items now [] → in_group name (items body) ≡ [] → passed_over tree ≡ []
 unfolding passed_over
 known_by tree name now body found known = rw (found, known) refl
 
-backup_known_by : (tree : Conf) (name : List ℕ) (now : ℕ) (body : List Entry) → items tree ≡ trailer_items now ((name, Body body) ∷ []) → in_group name (items body) ≡ [] → passed_over tree ≡ []
+backup_known_by : (tree : Conf) (name : List ℕ) (now : ℕ) (body : List ConfEntry) → items tree ≡ trailer_items now ((name, Body body) ∷ []) → in_group name (items body) ≡ [] → passed_over tree ≡ []
 unfolding passed_over
 backup_known_by tree name now body found known = rw (found, known) refl
 

@@ -1,7 +1,7 @@
 -- The metadata text of a group, as its tree: one layout, which lvm2 reads.
 use Rattle.std.specs.Prelude.{ℕ, ◌+◌, Bool, true, false, not, ◌||◌, ◌==◌, nat_lt, if◌then◌else◌, List, [], ◌∷◌, ◌++◌, length, map, flat_map, Option, Some, None, codes, decimal, slice_index_or}
 use Rattle.lvm_id.specs.LvmId.{hyphen_form}
-use Rattle.conf_text.specs.Entries.{Conf, Entry, Open, Close, Assign, One, Many, Scalar, Number, Text}
+use Rattle.conf_text.specs.Entries.{Conf, ConfEntry, Open, Close, Assign, One, Many, Scalar, Number, Text}
 use Rattle.meta_model.specs.declared.group.Group.{Group}
 use Rattle.meta_model.specs.declared.pv.Pv.{Pv}
 use Rattle.meta_model.specs.declared.lv.Lv.{Lv}
@@ -17,19 +17,19 @@ use Rattle.meta_model.specs.declared.status.LvStatus.{LvStatus}
 -- ---- items
 
 -- a key with a number
-abbrev pub number : List ℕ → ℕ → Entry
+abbrev pub number : List ℕ → ℕ → ConfEntry
 number key n = Assign key (One (Number n))
 
 -- a key with a string
-abbrev pub text : List ℕ → List ℕ → Entry
+abbrev pub text : List ℕ → List ℕ → ConfEntry
 text key s = Assign key (One (Text s))
 
 -- a key with a list of words
-abbrev pub words : List ℕ → List (List ℕ) → Entry
+abbrev pub words : List ℕ → List (List ℕ) → ConfEntry
 words key ws = Assign key (Many (map Text ws))
 
 -- a section with these entries
-abbrev pub section : List ℕ → List Entry → List Entry
+abbrev pub section : List ℕ → List ConfEntry → List ConfEntry
 section name entries = Open name ∷ entries ++ Close ∷ []
 
 -- the word, where it is set
@@ -40,7 +40,7 @@ word_if false word = []
 -- ---- a physical volume
 
 -- the section of a physical volume
-abbrev pub pv_entries : List ℕ × Pv → List Entry
+abbrev pub pv_entries : List ℕ × Pv → List ConfEntry
 pv_entries pv = section pv.0 (
     text (codes "id") (hyphen_form pv.1.id)
     ∷ text (codes "device") pv.1.device
@@ -63,7 +63,7 @@ abbrev pub pair_of : Group → Leg → List Scalar
 pair_of group leg = Text (name_of group leg.on) ∷ Number leg.first ∷ []
 
 -- the keys of a segment's kind
-abbrev pub kind_entries : Group → SegKind → List Entry
+abbrev pub kind_entries : Group → SegKind → List ConfEntry
 kind_entries group (Striped stripe legs) =
     text (codes "type") (codes "striped")
     ∷ number (codes "stripe_count") (length legs)
@@ -78,19 +78,19 @@ kind_entries group (Mirror region moved legs) =
     ++ Assign (codes "mirrors") (Many (flat_map (pair_of group) legs))
     ∷ []
   where
-    moved_entries : Option ℕ → List Entry
+    moved_entries : Option ℕ → List ConfEntry
     moved_entries None = []
     moved_entries (Some extents) = number (codes "extents_moved") extents ∷ []
 
 -- the segment with this number
-abbrev pub segment_entries : Group → ℕ → Segment → List Entry
+abbrev pub segment_entries : Group → ℕ → Segment → List ConfEntry
 segment_entries group at segment = section (codes "segment" ++ decimal at) (
     number (codes "start_extent") segment.start
     ∷ number (codes "extent_count") segment.count
     ∷ kind_entries group segment.kind)
 
 -- the segments, numbered from this one on
-abbrev pub segments_entries : Group → ℕ → List Segment → List Entry
+abbrev pub segments_entries : Group → ℕ → List Segment → List ConfEntry
 segments_entries group at [] = []
 segments_entries group at (segment ∷ segments) = segment_entries group at segment ++ segments_entries group (at + 1) segments
 
@@ -106,7 +106,7 @@ lv_words status =
     ++ word_if status.notsynced (codes "NOTSYNCED")
 
 -- the section of a logical volume
-abbrev pub lv_entries : Group → List ℕ × Lv → List Entry
+abbrev pub lv_entries : Group → List ℕ × Lv → List ConfEntry
 lv_entries group lv = section lv.0 (
     text (codes "id") (hyphen_form lv.1.id)
     ∷ words (codes "status") (lv_words lv.1.status)
@@ -123,12 +123,12 @@ abbrev pub vg_words : VgStatus → List (List ℕ)
 vg_words status = word_if status.resizeable (codes "RESIZEABLE") ++ word_if status.read (codes "READ") ++ word_if status.write (codes "WRITE")
 
 -- the logical volumes, where there are any
-abbrev pub lvs_entries : Group → List (List ℕ × Lv) → List Entry
+abbrev pub lvs_entries : Group → List (List ℕ × Lv) → List ConfEntry
 lvs_entries group [] = []
 lvs_entries group (lv ∷ lvs) = section (codes "logical_volumes") (flat_map (lv_entries group) (lv ∷ lvs))
 
 -- the section of the group
-abbrev pub group_entries : Group → List Entry
+abbrev pub group_entries : Group → List ConfEntry
 group_entries group = section group.name (
     text (codes "id") (hyphen_form group.id)
     ∷ number (codes "seqno") group.seqno
@@ -143,7 +143,7 @@ group_entries group = section group.name (
     ++ lvs_entries group group.lvs)
 
 -- what stands beside the group, at this time in seconds since 1970
-abbrev pub trailer : ℕ → List Entry
+abbrev pub trailer : ℕ → List ConfEntry
 trailer now =
     text (codes "contents") (codes "Text Format Volume Group")
     ∷ number (codes "version") 1

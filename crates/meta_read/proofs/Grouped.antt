@@ -1,6 +1,6 @@
 -- A group read in parts is the group read key by key.
 use Rattle.std.proofs.Common.{◌≡◌, ℕ, List, [], ◌∷◌, ◌++◌, Ok, Err, codes, refl}
-use Rattle.conf_text.specs.Entries.{Entry}
+use Rattle.conf_text.specs.Entries.{ConfEntry}
 use Rattle.conf_text.specs.Items.{items}
 use Rattle.meta_model.specs.Keys.{Items, Read, ◌>>=◌, number, words, section, required, optional, only_text, id, status}
 use Rattle.meta_model.specs.Standing.{group_in, sections_of, vg_words, vg_status}
@@ -30,7 +30,7 @@ made name head copies volumes = record {
 }
 
 -- steps one after the other are the same in three parts
-in_parts : (name : List ℕ) (one : Read (List ℕ)) (two three four five : Read ℕ) (six : Read (List (List ℕ))) (seven eight nine : Read (Unit {0})) (ten : Read (List (List ℕ))) (eleven : Read ℕ) (twelve thirteen : Read (List Entry)) (last : List Entry → List Entry → Read Volumes)
+in_parts : (name : List ℕ) (one : Read (List ℕ)) (two three four five : Read ℕ) (six : Read (List (List ℕ))) (seven eight nine : Read (Unit {0})) (ten : Read (List (List ℕ))) (eleven : Read ℕ) (twelve thirteen : Read (List ConfEntry)) (last : List ConfEntry → List ConfEntry → Read Volumes)
     → (one >>= λ id. two >>= λ seqno. three >>= λ extent_size. four >>= λ max_lv. five >>= λ max_pv. six >>= λ status.
     seven >>= λ _. eight >>= λ _. nine >>= λ _. ten >>= λ _. eleven >>= λ copies.
     twelve >>= λ pvs. thirteen >>= λ lvs. last pvs lvs >>= λ volumes.

@@ -2,7 +2,7 @@
 use Rattle.std.proofs.Common.{◌≡◌, ℕ, nat_eq, not, true, false, List, [], ◌∷◌, ◌++◌, map, filter, Option, Some, None, Ok, Err, codes, refl}
 use Rattle.std.specs.Cmp.Lexicographic.{pointwise}
 use Rattle.lvm_id.specs.LvmId.{hyphen_form}
-use Rattle.conf_text.specs.Entries.{Entry, Open, Close, Assign, One, Many, Number, Text, Scalar}
+use Rattle.conf_text.specs.Entries.{ConfEntry, Open, Close, Assign, One, Many, Number, Text, Scalar}
 use Rattle.conf_text.specs.Items.{Node, Leaf, Body}
 use Rattle.meta_model.specs.Keys.{Items, Read}
 use Rattle.meta_model.specs.PassedOver.{in_group, in_lv, in_pv, in_segment, passed_over}
@@ -33,7 +33,7 @@ abbrev words : List (List ℕ) → Node
 words ws = many (map Text ws)
 
 -- a key of a section inside
-abbrev key : List ℕ → Scalar → Entry
+abbrev key : List ℕ → Scalar → ConfEntry
 key name scalar = Assign name (One scalar)
 
 -- the keys but this one
@@ -145,7 +145,7 @@ first_of_the_table = refl
 -- ---- the top level
 
 -- keys, and a section with nothing in it
-abbrev top_refusal : List ℕ → List Entry → Option GroupRefusal
+abbrev top_refusal : List ℕ → List ConfEntry → Option GroupRefusal
 top_refusal name keys = refusal (group_of (keys ++ Open name ∷ Close ∷ []))
 
 -- where nothing else is wrong, the section's first key is missing
@@ -415,7 +415,7 @@ stripes_of_mirror : in_segment (codes "p") ((codes "stripes", number 1) ∷ mirr
 stripes_of_mirror = refl
 
 -- one unknown key
-abbrev one_key : List ℕ → List Entry
+abbrev one_key : List ℕ → List ConfEntry
 one_key name = key name (Number 1) ∷ []
 
 -- a section that is no segment is passed over whole, and a segment is looked through
@@ -445,7 +445,7 @@ unknown_in_group : in_group (codes "vg-a") group_unknowns
 unknown_in_group = refl
 
 -- a key of the top level stands by itself
-abbrev top_unknown : List Entry
+abbrev top_unknown : List ConfEntry
 top_unknown = one_key (codes "x") ++ one_key (codes "version") ++ Open (codes "vg-a") ∷ one_key (codes "seqno") ++ Close ∷ []
 
 unknown_at_top : passed_over top_unknown ≡ codes "x" ∷ []

@@ -1,7 +1,7 @@
 -- Trees and what they stand for.
 use Rattle.std.proofs.Common.{◌≡◌, ℕ, true, false, List, [], ◌∷◌, ◌++◌, map, Ok, Err, codes, refl}
 use Rattle.lvm_id.specs.LvmId.{hyphen_form}
-use Rattle.conf_text.specs.Entries.{Conf, Entry, Open, Close, Assign, One, Many, Number, Text}
+use Rattle.conf_text.specs.Entries.{Conf, ConfEntry, Open, Close, Assign, One, Many, Number, Text}
 use Rattle.meta_model.specs.PassedOver.{passed_over}
 use Rattle.meta_model.specs.Standing.{group_of}
 use Rattle.meta_model.specs.declared.group.Group.{Group}
@@ -10,17 +10,17 @@ use Rattle.meta_model.specs.declared.refusal.GroupRefusal.TheVariants.{Missing, 
 use Rattle.meta_model.specs.declared.segment.On.TheVariants as on
 use Rattle.meta_model.specs.declared.segment.SegKind.TheVariants.{Striped}
 
-abbrev number : List ℕ → ℕ → Entry
+abbrev number : List ℕ → ℕ → ConfEntry
 number key n = Assign key (One (Number n))
 
-abbrev text : List ℕ → List ℕ → Entry
+abbrev text : List ℕ → List ℕ → ConfEntry
 text key s = Assign key (One (Text s))
 
-abbrev words : List ℕ → List (List ℕ) → Entry
+abbrev words : List ℕ → List (List ℕ) → ConfEntry
 words key ws = Assign key (Many (map Text ws))
 
 -- a group with one physical volume; these status words, these keys behind its number, and these entries at its end
-abbrev tree : List (List ℕ) → List Entry → List Entry → Conf
+abbrev tree : List (List ℕ) → List ConfEntry → List ConfEntry → Conf
 tree status keys end =
     Open (codes "vg0") ∷ text (codes "id") (codes "400000-0050-0000-0060-0000-0070-000000") ∷ number (codes "seqno") 1 ∷ keys
     ++ text (codes "format") (codes "lvm2") ∷ words (codes "status") status ∷ words (codes "flags") []
@@ -66,13 +66,13 @@ colour_is_unknown = refl
 
 -- ---- a logical volume with one segment
 
-abbrev volume : ℕ → List Entry → List Entry
+abbrev volume : ℕ → List ConfEntry → List ConfEntry
 volume said keys =
     Open (codes "logical_volumes") ∷ Open (codes "data") ∷ text (codes "id") (codes "500000-0050-0000-0060-0000-0070-000000") ∷ words (codes "status") (codes "READ" ∷ codes "VISIBLE" ∷ [])
     ∷ words (codes "flags") (codes "ACTIVATION_SKIP" ∷ []) ∷ text (codes "allocation_policy") (codes "inherit") ∷ number (codes "segment_count") said
     ∷ Open (codes "segment1") ∷ number (codes "start_extent") 0 ∷ number (codes "extent_count") 4 ∷ keys ++ Close ∷ Close ∷ Close ∷ []
 
-abbrev linear : List ℕ → List Entry
+abbrev linear : List ℕ → List ConfEntry
 linear name = text (codes "type") (codes "striped") ∷ number (codes "stripe_count") 1 ∷ Assign (codes "stripes") (Many (Text name ∷ Number 7 ∷ [])) ∷ []
 
 -- `PVMOVE` of the group and an unknown flag decide nothing, and a policy is passed over

@@ -2,7 +2,7 @@
 use Rattle.std.specs.Prelude.{◌≡◌, ℕ, if◌then◌else◌, List, map, filter_map, Option, Some, None, Result, Ok, Err, Vec}
 use Rattle.std.specs.Borrow.{Bor}
 use Rattle.std.specs.declared.alloc.Global.{Global}
-use Rattle.conf_text.specs.Entries.{Conf, Entry}
+use Rattle.conf_text.specs.Entries.{Conf, ConfEntry}
 use Rattle.meta_model.specs.Keys.{Read}
 use Rattle.meta_model.specs.Standing.{is_segment_name}
 use Rattle.meta_model.specs.declared.refusal.GroupRefusal.{GroupRefusal}
@@ -40,17 +40,17 @@ abbrev pub as_pairs : Vec (Bor (List ℕ) × ℕ) Global → List (List ℕ × �
 as_pairs pairs = map as_pair pairs.items
 
 -- sections with names that are referred to
-abbrev pub as_sections : List (Bor (List ℕ) × Conf) → List (List ℕ × List Entry)
+abbrev pub as_sections : List (Bor (List ℕ) × Conf) → List (List ℕ × List ConfEntry)
 as_sections sections = map (λ found. (found.0.now, found.1)) sections
 
 -- the entries of a segment's section, where it is one
-abbrev pub segment_body : List ℕ × List Entry → Option (List Entry)
+abbrev pub segment_body : List ℕ × List ConfEntry → Option (List ConfEntry)
 segment_body found = if is_segment_name found.0 then Some found.1 else None
 
 -- those of a vector that are segments
-abbrev pub as_segments : Vec (Bor (List ℕ) × Conf) Global → List (List Entry)
+abbrev pub as_segments : Vec (Bor (List ℕ) × Conf) Global → List (List ConfEntry)
 as_segments sections = filter_map segment_body (as_sections sections.items)
 
 -- a name, and a section that is referred to
-abbrev pub as_named : List ℕ × Bor Conf → List ℕ × List Entry
+abbrev pub as_named : List ℕ × Bor Conf → List ℕ × List ConfEntry
 as_named found = (found.0, found.1.now)

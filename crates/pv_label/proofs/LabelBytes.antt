@@ -9,9 +9,9 @@ use Rattle.pv_label.specs.LabelBytes.{summed_bytes, with_label}
 pub IsLabel-with_label : (contents : List ℕ) (number : ℕ) → number < 256 ^ 8 → checksum lvm_crc_start (summed_bytes contents) < 256 ^ 4 → IsLabel (with_label contents number) number
 IsLabel-with_label contents number fits sum_fits = record {
   id = refl;
-  sector_xl = field-front 8 number (little_bytes 4 (checksum lvm_crc_start (summed_bytes contents)) ++ summed_bytes contents) fits;
-  crc_xl = field-front 4 (checksum lvm_crc_start (summed_bytes contents)) (summed_bytes contents) sum_fits;
-  offset_xl = refl;
+  sector_is = field-front 8 number (little_bytes 4 (checksum lvm_crc_start (summed_bytes contents)) ++ summed_bytes contents) fits;
+  crc_is = field-front 4 (checksum lvm_crc_start (summed_bytes contents)) (summed_bytes contents) sum_fits;
+  offset_is = refl;
   kind = refl;
 }
 

@@ -7,9 +7,9 @@ use Rattle.pv_label.specs.Label.{BeginsLikeLabel, IsFirstRefusal, IsLabel, IsRef
 
 pub IsRefused-no_label : (sector : List ℕ) (number : ℕ) (refusal : LabelRefusal) → IsRefused sector number refusal → ¬ IsLabel sector number
 IsRefused-no_label sector number NoLabel h label = h label.id
-IsRefused-no_label sector number (WrongSector said found) h label = h.3 (sym h.1 ∙ label.sector_xl)
-IsRefused-no_label sector number (BadSum at) h label = h.3 label.crc_xl
-IsRefused-no_label sector number (BadOffset said) h label = h.4 (sym h.3 ∙ label.offset_xl)
+IsRefused-no_label sector number (WrongSector said found) h label = h.3 (sym h.1 ∙ label.sector_is)
+IsRefused-no_label sector number (BadSum at) h label = h.3 label.crc_is
+IsRefused-no_label sector number (BadOffset said) h label = h.4 (sym h.3 ∙ label.offset_is)
 IsRefused-no_label sector number BadType h label = h.4 label.kind
 
 -- a sector that begins like a label is the first where none did

@@ -8,9 +8,9 @@ use Rattle.pv_label.specs.declared.refusal.LabelRefusal.TheVariants.{NoLabel, Wr
 -- lvm2's label header stands in the sector, for the sector of this number
 pub record IsLabel (sector : List ℕ) (number : ℕ) : Type 0 where
   pub id : take 8 sector ≡ codes "LABELONE"
-  pub sector_xl : field 8 sector 8 ≡ number
-  pub crc_xl : field 4 sector 16 ≡ checksum lvm_crc_start (drop 20 sector)
-  pub offset_xl : field 4 sector 20 ≡ 32
+  pub sector_is : field 8 sector 8 ≡ number
+  pub crc_is : field 4 sector 16 ≡ checksum lvm_crc_start (drop 20 sector)
+  pub offset_is : field 4 sector 20 ≡ 32
   pub kind : take 8 (drop 24 sector) ≡ codes "LVM2 001"
 
 -- the sector begins as a label does

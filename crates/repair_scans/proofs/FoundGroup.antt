@@ -10,7 +10,7 @@ use Rattle.vg_found.specs.declared.found.Found.{Found}
 use Rattle.vg_scan.specs.Scans.{IsFoundBy, IsScanOf}
 use Rattle.vg_scan.specs.Texts.{IsCopyOf}
 use Rattle.image_scans.proofs.Decided.{IsFoundWith, found_parts}
-use Rattle.image_scans.proofs.Given.{CopyHas, DisksGive, best_copy_has}
+use Rattle.image_scans.proofs.AreaReadings.{CopyHas, DisksGive, best_copy_has}
 use Rattle.image_scans.proofs.SettledBase.{IsItsCopy, copies_are, copy_tree}
 
 by_answer : (readings : List Reading) (found : Found) → DisksGive (λ disk. CopyHas IsItsCopy) readings → (group : Group) → found.group ≡ Some group → (answer : ScanAnswer) → decide_scan readings ≡ answer → IsFoundBy answer found → IsAccepted group × HasTree group

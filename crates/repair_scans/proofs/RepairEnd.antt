@@ -29,7 +29,7 @@ use Rattle.image_scans.proofs.Again.{Finds}
 use Rattle.image_scans.proofs.CommitLine.{all_written}
 use Rattle.image_scans.proofs.Decided.{IsFoundWith, found_parts}
 use Rattle.image_scans.proofs.DiskAgain.{AllAgain}
-use Rattle.image_scans.proofs.Given.{best_copy_has}
+use Rattle.image_scans.proofs.AreaReadings.{best_copy_has}
 use Rattle.image_scans.proofs.SettledBase.{IsItsCopy, copies_are}
 use Rattle.repair_scans.proofs.RepairFound.{again, copy, finds, none_away, text_is, unlisted}
 use Rattle.repair_scans.proofs.RepairOnTheWay.{may_be_lost}
@@ -44,7 +44,7 @@ OneReading = (image : Image) (sizes : List ℕ) (unread : set.FinSet nat_cmp) (d
 one_passed : (text other : List ℕ) (a b : Group) (p q : List (List ℕ)) → other ≡ text → IsCopyOf text a p → IsCopyOf other b q → p ≡ q
 one_passed text other a b p q same is is' =
     let tree : is.tree ≡ is'.tree = one_tree text is.tree is'.tree is.is_text (subst (λ (t : List ℕ). IsTextOf t is'.tree) same is'.is_text) in
-    is.passed_xl ∙ ap passed_over tree ∙ sym is'.passed_xl
+    is.passed_is ∙ ap passed_over tree ∙ sym is'.passed_is
 
 module _ (one_reading : OneReading) (base : Image) (sizes : List ℕ) (found : Found) (p : CanRepair base sizes found) where
   abbrev readings : List Reading
@@ -79,7 +79,7 @@ module _ (one_reading : OneReading) (base : Image) (sizes : List ℕ) (found : F
     are = disks_repaired base sizes found p held.group held.passed own_copy (unlisted base sizes found p held stale strays missing is by.4)
 
     same_readings : there.read ≡ after
-    same_readings = one_reading last sizes found.unread there.there (repaired_of found).disks there.read after (record { sizes_xl = there.sizes_xl ∙ p.scan.are.sizes_xl; each = there.are }) are
+    same_readings = one_reading last sizes found.unread there.there (repaired_of found).disks there.read after (record { sizes_is = there.sizes_is ∙ p.scan.are.sizes_is; each = there.are }) are
 
     decides : decide_scan after ≡ FoundGroup answer.held answer.stale answer.strays answer.missing
     decides = ap decide_scan (sym same_readings) ∙ answer.is
@@ -104,21 +104,21 @@ module _ (one_reading : OneReading) (base : Image) (sizes : List ℕ) (found : F
         (λ area has.
         let s : IsStale answer.held.group answer.held.text after area.0 area.1 = (stale_exact after answer.held answer.stale answer.strays answer.missing decides area.0 area.1).0 has in
         none_stale found.stale found.strays new held.group held.text readings gives_new are_stale strays by.4 are_strays area.0 area.1
-        (subst (λ (t : List ℕ). IsStale held.group t after area.0 area.1) answer.text_xl (subst (λ (g : Group). IsStale g answer.held.text after area.0 area.1) answer.group_xl s)))
+        (subst (λ (t : List ℕ). IsStale held.group t after area.0 area.1) answer.text_is (subst (λ (g : Group). IsStale g answer.held.text after area.0 area.1) answer.group_is s)))
 
     strays_none : answer.strays ≡ []
     strays_none =
         no_member answer.strays
         (λ disk has.
         let s : IsStray answer.held.group after disk = (strays_exact after answer.held answer.stale answer.strays answer.missing decides disk).0 has in
-        none_stray found.stale found.strays new held.group held.text readings gives_new are_stale strays by.4 are_strays disk (subst (λ (g : Group). IsStray g after disk) answer.group_xl s))
+        none_stray found.stale found.strays new held.group held.text readings gives_new are_stale strays by.4 are_strays disk (subst (λ (g : Group). IsStray g after disk) answer.group_is s))
 
     missing_none : answer.missing ≡ []
-    missing_none = sym parts.missing_are ∙ ap (λ (g : Group). missing_of there.read g.pvs) answer.group_xl ∙ none_away base sizes found p held stale strays missing is by last whole
+    missing_none = sym parts.missing_are ∙ ap (λ (g : Group). missing_of there.read g.pvs) answer.group_is ∙ none_away base sizes found p held stale strays missing is by last whole
 
     passed_same : held.passed ≡ answer.held.passed
     passed_same =
-        one_passed (text_of found) answer.held.text held.group answer.held.group held.passed answer.held.passed (answer.text_xl ∙ sym text_same) own_copy
+        one_passed (text_of found) answer.held.text held.group answer.held.group held.passed answer.held.passed (answer.text_is ∙ sym text_same) own_copy
         (best_copy_has IsItsCopy there.read (copies_are last found.unread 0 there.there there.read there.are) answer.held parts.best_is)
 
     of_group : IsScanOf last sizes (repaired_of found)
@@ -127,8 +127,8 @@ module _ (one_reading : OneReading) (base : Image) (sizes : List ℕ) (found : F
       are = are;
       answer =
           subst (λ (a : ScanAnswer). IsFoundBy a (repaired_of found)) (sym decides) (
-            by.0 ∙ ap (λ (g : Group). Some g) (sym answer.group_xl),
-            by.1 ∙ ap (λ (t : List ℕ). Some t) (sym answer.text_xl),
+            by.0 ∙ ap (λ (g : Group). Some g) (sym answer.group_is),
+            by.1 ∙ ap (λ (t : List ℕ). Some t) (sym answer.text_is),
             by.2 ∙ passed_same,
             sym stale_none,
             ap (λ (l : List ℕ). set.from_list l) (sym strays_none),

@@ -33,7 +33,7 @@ use Rattle.image_scans.proofs.Again.{AreasAgain, DisksAgain, Finds, GivesAgain, 
 use Rattle.image_scans.proofs.CommitScans.{disks_by_ids, none_unread}
 use Rattle.image_scans.proofs.Decided.{IsFoundWith, found_parts}
 use Rattle.image_scans.proofs.DiskAgain.{AllAgain, DiskAgain, all_again}
-use Rattle.image_scans.proofs.Given.{CopyHas, DisksGive, best_copy_has}
+use Rattle.image_scans.proofs.AreaReadings.{CopyHas, DisksGive, best_copy_has}
 use Rattle.image_scans.proofs.NoLater.{none_later_given}
 use Rattle.image_scans.proofs.ReadingShapes.{pv_shaped}
 use Rattle.image_scans.proofs.SettledBase.{IsItsCopy, copies_are}
@@ -123,7 +123,7 @@ module _ (base : Image) (sizes : List ℕ) (found : Found) (p : CanRepair base s
       let r = reading_at base found.unread 0 found.disks readings p.scan.are.each pv disk there in
       let read : IsDiskReading pv (base pv) disk r.0 = subst (λ (n : ℕ). IsDiskReading n (base n) disk r.0) (omega arith) r.2 in
       let own : r.0.pv ≡ Some s.pv = sym (ap (λ (o : Option Reading). option_and_then (λ (x : Reading). x.pv) o) r.1) ∙ s.on_disk in
-      let id : s.pv.id ≡ header.id = same_id header (header_on disk.contents) s.pv r.0.pv has own (pv_shaped pv disk.sectors (base pv) disk.contents r.0.pv read.contents read.pv_xl) in
+      let id : s.pv.id ≡ header.id = same_id header (header_on disk.contents) s.pv r.0.pv has own (pv_shaped pv disk.sectors (base pv) disk.contents r.0.pv read.contents read.pv_is) in
       ap (lists held.group) (sym id) ∙ s.is_unlisted
 
   -- ---- a group was found
@@ -172,7 +172,7 @@ module _ (base : Image) (sizes : List ℕ) (found : Found) (p : CanRepair base s
     still_held : is_held held.group held.text again.read ≡ true
     still_held =
         subst (λ (t : List ℕ). is_held held.group t again.read ≡ true) text_is
-        (held_still held.group text held.passed readings again.read again.again (subst (λ (t : List ℕ). is_held held.group t readings ≡ true) (sym text_is) parts.is_held_xl))
+        (held_still held.group text held.passed readings again.read again.again (subst (λ (t : List ℕ). is_held held.group t readings ≡ true) (sym text_is) parts.is_held_is))
 
     -- the same group and text are found again
     pub finds : Finds again.read held.group held.text
@@ -206,18 +206,18 @@ module _ (base : Image) (sizes : List ℕ) (found : Found) (p : CanRepair base s
             found = found_again;
             scan = record {
               readings = again.read;
-              are = record { sizes_xl = again.sizes_xl ∙ p.scan.are.sizes_xl; each = again.are };
+              are = record { sizes_is = again.sizes_is ∙ p.scan.are.sizes_is; each = again.are };
               answer = subst (λ (answer : ScanAnswer). IsFoundBy answer found_again) (sym finds.is) (refl, refl, refl, refl, refl, refl);
               areas = refl;
               disk_of = refl;
             };
             left = λ pv within. none_unread found p.whole pv;
-            whole = sym own.missing_are ∙ ap (λ (g : Group). missing_of again.read g.pvs) finds.group_xl ∙ none_away;
-            version_xl =
-                ap (λ (g : Group). Some (version g)) finds.group_xl ∙ ap (λ (l : List ℕ). Some (record { group = held.group; disk_of = l })) (disks_by_ids held.group found.disks again.there again.ids)
+            whole = sym own.missing_are ∙ ap (λ (g : Group). missing_of again.read g.pvs) finds.group_is ∙ none_away;
+            version_is =
+                ap (λ (g : Group). Some (version g)) finds.group_is ∙ ap (λ (l : List ℕ). Some (record { group = held.group; disk_of = l })) (disks_by_ids held.group found.disks again.there again.ids)
                 ∙ sym (ap (λ (o : Option Group). option_map (λ (g : Group). record { group = g; disk_of = disks_of g found.disks }) o) by.0);
           };
-          text = ap (λ (t : List ℕ). Some t) finds.text_xl ∙ sym by.1;
+          text = ap (λ (t : List ℕ). Some t) finds.text_is ∙ sym by.1;
         }
 
   -- ---- no group was found, and nothing is written
@@ -227,7 +227,7 @@ module _ (base : Image) (sizes : List ℕ) (found : Found) (p : CanRepair base s
       let nothing : repair_batches found ≡ [] = (leaves_all found p.shape by.3 by.4).0 in
       let same : IsSame image base = none_front base image (subst (λ (l : List (List Put)). HasFirstBatches l base image) nothing h) in
       subst (λ (i : Image). FindsAgain sizes i found) (λ i pv sector. sym (same pv sector) i)
-      (record { finds = record { found = found; scan = p.scan; left = λ pv within. none_unread found p.whole pv; whole = p.whole.there; version_xl = refl }; text = refl })
+      (record { finds = record { found = found; scan = p.scan; left = λ pv within. none_unread found p.whole pv; whole = p.whole.there; version_is = refl }; text = refl })
 
   by_answer : (answer : ScanAnswer) → decide_scan readings ≡ answer → IsFoundBy answer found → (image : Image) → HasFirstBatches (repair_batches found) base image → FindsAgain sizes image found
   by_answer (FoundGroup held stale strays missing) is by image h = found_text held stale strays missing is by image h

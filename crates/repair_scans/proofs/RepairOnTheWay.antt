@@ -56,7 +56,7 @@ use Rattle.image_scans.proofs.CommitWrites.{IsAreaWrite, commit_writes}
 use Rattle.image_scans.proofs.DiskAgain.{DiskAgain, LabelStands, PvMayBeRefused, disk_again, pv_same}
 use Rattle.image_scans.proofs.FoundAreas.{IsHeldOn, IsPlaced, all_held, entry_kept, of_held}
 use Rattle.image_scans.proofs.Front.{AnyWrites, any_append, any_if, batches_or, front_or}
-use Rattle.image_scans.proofs.Given.{AreasGive, GivenHas}
+use Rattle.image_scans.proofs.AreaReadings.{AreasGive, GivenHas}
 use Rattle.image_scans.proofs.Labels.{IsSameHeader, four_same}
 use Rattle.image_scans.proofs.MetAreas.{all_placed, area_met, header_met}
 use Rattle.image_scans.proofs.ClearWrites.{IsClearWrite, clear_write}
@@ -467,8 +467,8 @@ module _ (base : Image) (sizes : List ℕ) (found : Found) (p : CanRepair base s
 
         with_header : (passed : List (List ℕ)) → IsCopyOf text group passed → (reading : Reading) → IsDiskReading pv (base pv) disk reading → DiskAgain pv (image pv) (λ id. true) lost (Copy group text passed) disk reading
         with_header passed copy reading read =
-            subst (λ (n : ℕ). DiskAgain pv (image pv) (λ id. true) lost (Copy group text passed) disk (record { sectors = n; pv = reading.pv })) (sym read.sectors_xl)
-            (disk_again text group passed copy (λ id. true) lost pv base image disk.sectors disk.contents reading.pv read.contents read.pv_xl (fine_pv group text reading.pv) label header areas is label_stands
+            subst (λ (n : ℕ). DiskAgain pv (image pv) (λ id. true) lost (Copy group text passed) disk (record { sectors = n; pv = reading.pv })) (sym read.sectors_is)
+            (disk_again text group passed copy (λ id. true) lost pv base image disk.sectors disk.contents reading.pv read.contents read.pv_is (fine_pv group text reading.pv) label header areas is label_stands
             (recursion_from_All (IsKnown text pv base image true (lost header.id)) areas (λ k d within. known k d within)))
 
       -- without a header nothing of the disk's first sectors is written
@@ -496,14 +496,14 @@ module _ (base : Image) (sizes : List ℕ) (found : Found) (p : CanRepair base s
       bare_disk passed none reading read = record {
         there = disk;
         read = reading;
-        sectors_xl = refl;
+        sectors_is = refl;
         unread = λ is. is;
         unread_there = λ is. is;
-        is = record { contents = without_header disk.contents refl none reading read.contents; sectors_xl = read.sectors_xl; pv_xl = bare_pv disk.contents none reading.pv read.pv_xl };
+        is = record { contents = without_header disk.contents refl none reading read.contents; sectors_is = read.sectors_is; pv_is = bare_pv disk.contents none reading.pv read.pv_is };
         same_sectors = refl;
         again = pv_same (λ id. true) lost (Copy group text passed) reading.pv;
         ids = λ id. refl;
-        areas_xl = refl;
+        areas_is = refl;
       }
 
       whole_of : (contents : Option PvFound) (pair : ℕ × PvHeader) → option_and_then pv_in contents ≡ Some pair → (areas : List AreaFound) × (contents ≡ Some (Whole pair.0 pair.1 areas))

@@ -7,8 +7,8 @@ use Rattle.disk_model.specs.Steps.{Image}
 use Rattle.pv_header.specs.declared.header.PvHeader.{PvHeader}
 use Rattle.mda_header.specs.Header.{IsEntry, IsHeader}
 use Rattle.mda_header.specs.HeaderBytes.{header_bytes}
-use Rattle.mda_header.specs.declared.entry.Entry.{Entry}
-use Rattle.mda_header.specs.declared.entry.Entry.TheVariants.{Ignored, Nothing, Text, Refused as RefusedFor}
+use Rattle.mda_header.specs.declared.entry.HeaderEntry.{HeaderEntry}
+use Rattle.mda_header.specs.declared.entry.HeaderEntry.TheVariants.{Ignored, Nothing, Text, Refused as RefusedFor}
 use Rattle.mda_header.specs.declared.header.Locn.{Locn}
 use Rattle.mda_ring.specs.declared.area.Area.{Area}
 use Rattle.mda_ring.specs.Areas.{CanTake}
@@ -50,13 +50,13 @@ use Rattle.repair_scans.proofs.RepairedReadings.{area_after, given_after}
 use Rattle.repair_scans.proofs.UnwrittenAreas.{IsUnwritten, area_at, sectors_kept}
 
 -- an area that isn't ignored gives something, and one that is ignored gives nothing
-some_given : (sector_at : ℕ → List ℕ) (area : Area) (entry : Entry) (held : Area × Option Locn) (reading : Option AreaReading) → held_by area entry ≡ Some held → IsGiven sector_at area entry reading → (r : AreaReading) × (reading ≡ Some r)
+some_given : (sector_at : ℕ → List ℕ) (area : Area) (entry : HeaderEntry) (held : Area × Option Locn) (reading : Option AreaReading) → held_by area entry ≡ Some held → IsGiven sector_at area entry reading → (r : AreaReading) × (reading ≡ Some r)
 some_given sector_at area Ignored held reading is given = absurd cc
 some_given sector_at area Nothing held reading is given = (HoldsNone, given)
 some_given sector_at area (Text locn) held reading is given = (given.0, given.1)
 some_given sector_at area (RefusedFor refusal) held reading is given = (Refused (HeaderRefused refusal), given)
 
-none_given : (sector_at : ℕ → List ℕ) (area : Area) (entry : Entry) (reading : Option AreaReading) → held_by area entry ≡ None → IsGiven sector_at area entry reading → reading ≡ None
+none_given : (sector_at : ℕ → List ℕ) (area : Area) (entry : HeaderEntry) (reading : Option AreaReading) → held_by area entry ≡ None → IsGiven sector_at area entry reading → reading ≡ None
 none_given sector_at area Ignored reading is given = given
 none_given sector_at area Nothing reading is given = absurd cc
 none_given sector_at area (Text locn) reading is given = absurd cc
@@ -162,7 +162,7 @@ module _ (base : Image) (sizes : List ℕ) (found : Found) (p : CanRepair base s
         in
         stays.ring
 
-    given_kept : IsOther → (entry : Entry) → area.entry ≡ entry → IsGiven (base pv) own entry before.reading → IsGiven (last pv) own entry before.reading
+    given_kept : IsOther → (entry : HeaderEntry) → area.entry ≡ entry → IsGiven (base pv) own entry before.reading → IsGiven (last pv) own entry before.reading
     given_kept other Ignored named given = given
     given_kept other Nothing named given = given
     given_kept other (Text locn) named given = (
@@ -209,5 +209,5 @@ module _ (base : Image) (sizes : List ℕ) (found : Found) (p : CanRepair base s
         let all : IsThere then given = by_held (held_area pv area) refl in
         let place : then.area ≡ area.area = area_kept found.stale found.strays text pv n area in (
           all.0,
-          record { start_xl = reads.start_xl ∙ ap (λ e. e.offset / 512) (sym place); sectors_xl = reads.sectors_xl ∙ ap (λ e. e.size / 512) (sym place); given = all.1 },
+          record { start_is = reads.start_is ∙ ap (λ e. e.offset / 512) (sym place); sectors_is = reads.sectors_is ∙ ap (λ e. e.size / 512) (sym place); given = all.1 },
         )

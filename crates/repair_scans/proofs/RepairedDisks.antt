@@ -76,7 +76,7 @@ module _ (base : Image) (sizes : List ℕ) (found : Found) (p : CanRepair base s
     module _ (disk : Disk) (there : slice_get found.disks pv ≡ Some disk) where
       -- ---- a disk with a header
 
-      module _ (label : ℕ) (header : PvHeader) (areas : List AreaFound) (is : disk.contents ≡ Some (Whole label header areas)) (stood : IsFound (base pv) disk.sectors (Whole label header areas)) (own : PvOf) (id_xl : own.id ≡ header.id)
+      module _ (label : ℕ) (header : PvHeader) (areas : List AreaFound) (is : disk.contents ≡ Some (Whole label header areas)) (stood : IsFound (base pv) disk.sectors (Whole label header areas)) (own : PvOf) (id_is : own.id ≡ header.id)
           (reads : AreAreaReadings pv (base pv) areas own.areas) where
         one_area : (n : ℕ) (area : AreaFound) (one : AreaOf) → slice_get areas n ≡ Some area → IsAreaFound (base pv) area → IsAreaReading pv (base pv) area one → IsArea n area one
         one_area n area one at stands read =
@@ -108,7 +108,7 @@ module _ (base : Image) (sizes : List ℕ) (found : Found) (p : CanRepair base s
             mapped_same area_then (λ (a : AreaFound). a.area) (λ (a : AreaFound). a.area) (λ n area. area_kept found.stale found.strays (text_of found) pv n area) 0 areas
             in (
               (labelled.0, labelled.1, record { in_order = order ∙ stood.2.in_order ∙ same_areas (set.contains found.strays pv); each = All-from_recursion (IsAreaFound (last pv)) list both.0 }),
-              (id_xl ∙ same_id (set.contains found.strays pv), both.1),
+              (id_is ∙ same_id (set.contains found.strays pv), both.1),
             )
 
       -- ---- any disk
@@ -129,8 +129,8 @@ module _ (base : Image) (sizes : List ℕ) (found : Found) (p : CanRepair base s
 
       disk_repaired : (reading : Reading) → IsDiskReading pv (base pv) disk reading → IsDiskReading pv (last pv) (disk_then (pv, disk)) (read_then (pv, reading))
       disk_repaired reading is =
-          let stands : Stands disk.contents reading.pv = by_contents disk.contents refl reading is.contents reading.pv is.pv_xl in
-          record { contents = stands.0; sectors_xl = is.sectors_xl; pv_xl = stands.1 }
+          let stands : Stands disk.contents reading.pv = by_contents disk.contents refl reading is.contents reading.pv is.pv_is in
+          record { contents = stands.0; sectors_is = is.sectors_is; pv_is = stands.1 }
 
   -- ---- all disks
 
@@ -152,6 +152,6 @@ module _ (base : Image) (sizes : List ℕ) (found : Found) (p : CanRepair base s
   -- they read so
   pub disks_repaired : AreReadings last sizes found.unread (repaired_disks found.stale found.strays (text_of found) found.disks) (readings_after found.stale found.strays new p.scan.readings)
   disks_repaired = record {
-    sizes_xl = mapped_same disk_then (λ (disk : Disk). disk.sectors) (λ (disk : Disk). disk.sectors) (λ k disk. refl) 0 found.disks ∙ p.scan.are.sizes_xl;
+    sizes_is = mapped_same disk_then (λ (disk : Disk). disk.sectors) (λ (disk : Disk). disk.sectors) (λ k disk. refl) 0 found.disks ∙ p.scan.are.sizes_is;
     each = disks_from 0 found.disks p.scan.readings p.scan.are.each (λ k disk there. subst (λ (n : ℕ). slice_get found.disks n ≡ Some disk) (omega arith) there);
   }

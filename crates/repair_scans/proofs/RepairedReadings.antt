@@ -117,13 +117,13 @@ module _ (stale : List (ℕ × ℕ)) (strays : set.FinSet nat_cmp) (new : AreaRe
   -- ---- nothing is stale, and there is no stray
 
   module _ (group : Group) (text : List ℕ) (readings : List Reading) (gives_new : gives text new ≡ true) (are_stale : (disk area : ℕ) → Contains stale (disk, area) ↔ IsStale group text readings disk area)
-      (numbers : List ℕ) (strays_xl : strays ≡ set.from_list numbers) (are_strays : (disk : ℕ) → Contains numbers disk ↔ IsStray group readings disk) where
+      (numbers : List ℕ) (strays_is : strays ≡ set.from_list numbers) (are_strays : (disk : ℕ) → Contains numbers disk ↔ IsStray group readings disk) where
     is_stray : (disk : ℕ) → set.contains strays disk ≡ true → IsStray group readings disk
-    is_stray disk has = (are_strays disk).0 (in_set numbers disk (ap (λ (s : set.FinSet nat_cmp). set.contains s disk) (sym strays_xl) ∙ has))
+    is_stray disk has = (are_strays disk).0 (in_set numbers disk (ap (λ (s : set.FinSet nat_cmp). set.contains s disk) (sym strays_is) ∙ has))
 
     has_stray : (disk : ℕ) → IsStray group readings disk → set.contains strays disk ≡ true
     has_stray disk is =
-        ap (λ (s : set.FinSet nat_cmp). set.contains s disk) strays_xl ∙ set.contains-from_list_nat numbers disk ∙ any_in numbers disk (in_list numbers disk ((are_strays disk).1 is))
+        ap (λ (s : set.FinSet nat_cmp). set.contains s disk) strays_is ∙ set.contains-from_list_nat numbers disk ∙ any_in numbers disk (in_list numbers disk ((are_strays disk).1 is))
 
     is_old : (disk area : ℕ) → is_among stale disk area ≡ true → IsStale group text readings disk area
     is_old disk area among = (are_stale disk area).0 (has_member stale (disk, area) (among_in stale disk area among))

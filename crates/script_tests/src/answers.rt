@@ -1,5 +1,5 @@
 //! Answers as they print, where the disks are named `sda` and `sdb`. What each prints is told by rows on the definition.
-use byte_streams::{Sink, TextSink};
+use byte_streams::{Sink, TextBuffer};
 use line_answers::{Answer, DiskNames, OpRefusal};
 use sector_base::{Bytes512, ItemList, Sectors, Text};
 use std::alloc::{AllocError, Global};
@@ -15,7 +15,7 @@ fn names_of(alloc: Global) -> Result<DiskNames, AllocError> {
 
 // What the answer prints.
 fn printed(alloc: Global, answer: &Answer) -> Result<Text, Fail> {
-    let mut sink = TextSink::new(alloc);
+    let mut sink = TextBuffer::new(alloc);
     answer.write(&mut sink, &names_of(alloc)?)?;
     Ok(sink.into_text())
 }
@@ -61,7 +61,7 @@ fn sectors_print(rt: HostRuntime) -> Result<(), Fail> {
 
 #[test]
 fn a_text_is_collected(rt: HostRuntime) -> Result<(), Fail> {
-    let mut sink = TextSink::new(rt.alloc());
+    let mut sink = TextBuffer::new(rt.alloc());
     assert_eq!(rt; sink.write(b"data"), Ok(4));
     assert_eq!(rt; sink.write(b""), Ok(0));
     assert_eq!(rt; sink.write(b"=8"), Ok(2));

@@ -1,5 +1,5 @@
 //! Words of a command line: each command has its request, and one command is a line.
-use command_table::{CommandName, Given, LineFault, OptionKey, request_by_name};
+use command_table::{CommandName, GivenOptions, LineFault, OptionKey, request_by_name};
 use lvm_id::{MemWords, Words64};
 use lvm_script::{LineRefusal, line_of, read_request};
 use std::alloc::{AllocError, Global};
@@ -50,7 +50,7 @@ fn each_command_has_its_request(rt: HostRuntime) -> Result<(), Fail> {
 fn options_and_arguments_are_a_request(rt: HostRuntime) -> Result<(), Fail> {
     let vg: &[u8] = b"vg0";
     let workers: &'static [u8] = b"8";
-    let given = Given {
+    let given = GivenOptions {
         pairs: &[(OptionKey::Workers, workers)],
     };
     let session = request_by_name(rt.alloc(), CommandName::Session, &given, &[vg])?;

@@ -5,9 +5,9 @@ ghost use Rattle.std.specs.Prelude.{List};
 pub trait Grows {
     type Origin;
 
-    type Entry;
+    type LogEntry;
 
     ghost origin: { Self → Self.Origin };
 
-    ghost story: { Self → List Self.Entry };
+    ghost story: { Self → List Self.LogEntry };
 }

@@ -15,7 +15,7 @@ const TURNS: u32 = 100_000;
 
 // Who wrote an entry, and how many it wrote before.
 #[derive(Clone, Copy, Drop)]
-struct Entry {
+struct LogEntry {
     worker: u32,
     number: u32,
 }
@@ -24,13 +24,13 @@ struct Entry {
 #[derive(Drop)]
 struct Tally {
     name: u64,
-    entries: Vec<Entry>,
+    entries: Vec<LogEntry>,
 }
 
 impl Grows for Tally {
     type Origin = u64;
 
-    type Entry = Entry;
+    type LogEntry = LogEntry;
 
     ghost origin = { λ t. t.name };
 
@@ -43,7 +43,7 @@ impl Tally {
         ensures name { self.new.name ≡ self.old.name }
         ensures longer { IsPrefix self.old.entries.items self.new.entries.items }
     {
-        let _ = self.entries.push(Entry { worker, number });
+        let _ = self.entries.push(LogEntry { worker, number });
     }
 
     // How many entries in a row each worker wrote, counted from 0 on in the order of the tally.

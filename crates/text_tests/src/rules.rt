@@ -1,26 +1,26 @@
 //! Runs in order, and the numbers of rules.
-use meta_model::Run;
+use meta_model::ExtentSpan;
 use volume_rules::{Rule, lie_apart};
 
-const EARLY: Run = Run {
+const EARLY: ExtentSpan = ExtentSpan {
     on: 1,
     first: 0,
     count: 8,
 };
 
-const LATE: Run = Run {
+const LATE: ExtentSpan = ExtentSpan {
     on: 1,
     first: 8,
     count: 4,
 };
 
-const ACROSS: Run = Run {
+const ACROSS: ExtentSpan = ExtentSpan {
     on: 1,
     first: 7,
     count: 2,
 };
 
-const ELSEWHERE: Run = Run {
+const ELSEWHERE: ExtentSpan = ExtentSpan {
     on: 0,
     first: 7,
     count: 2,

@@ -1,6 +1,6 @@
 //! A text that is read, and looked into; one that is refused; tokens; and what is printed into each sink.
 use conf_text::{
-    ConfRefusal, CountedBytes, Entry, Item, Section, TextSink, Tree, begin_list, end_list,
+    ConfEntry, ConfRefusal, CountedBytes, Item, Section, TextSink, Tree, begin_list, end_list,
     list_number, list_pair, list_text, read_conf, tokens, write_close, write_number,
     write_numbered_open, write_open, write_text, write_words,
 };
@@ -44,7 +44,7 @@ fn sections_are_gone_over(rt: HostRuntime) {
 
 #[test]
 fn a_tree_is_its_entries(rt: HostRuntime) -> Result<(), AllocError> {
-    let tree = Tree::from_vec(vec![in rt.alloc(); Entry::Open(b"a"), Entry::Close]?);
+    let tree = Tree::from_vec(vec![in rt.alloc(); ConfEntry::Open(b"a"), ConfEntry::Close]?);
     assert!(rt; tree.as_slice().len() == 2);
     Ok(())
 }

@@ -17,14 +17,14 @@ use Rattle.vg_found.specs.Shape.{ContentsCanStand, IsDisk}
 use Rattle.group_plan.proofs.Passed.{DiskApart, DisksApart}
 use Rattle.group_plan.specs.Added.{added_at, added_named, added_of, added_on, disks_added, label_of, pv_in}
 use Rattle.group_plan.specs.State.{IsState}
-use Rattle.group_plan.specs.declared.added.Added.{Added}
+use Rattle.group_plan.specs.declared.added.AddedPv.{AddedPv}
 use Rattle.group_plan.specs.declared.state.GroupState.{GroupState}
 use Rattle.group_plan.specs.declared.state.NewLabel.{NewLabel}
 use Rattle.change_batches.proofs.HeldInDisks.{HasSize, has_size}
 use Rattle.change_batches.specs.Sound.{sizes_of, CanLabel, LabelLies}
 
 -- it stands on one of the disks, its label in one of the first four sectors, and its lists fit behind that
-pub record StandsOn (disks : List Disk) (added : Added) : Type 0 where
+pub record StandsOn (disks : List Disk) (added : AddedPv) : Type 0 where
   pub disk : Disk
   pub there : slice_get disks added.disk ≡ Some disk
   pub least : 8 ≤ disk.sectors
@@ -54,11 +54,11 @@ fits_in pv sectors (Some found) label header stands is = fits_by pv sectors foun
 
 -- ---- one of them
 
-abbrev added_with : List ℕ → ℕ → ℕ → ℕ × PvHeader → Added
+abbrev added_with : List ℕ → ℕ → ℕ → ℕ × PvHeader → AddedPv
 added_with name number sectors pv = record { disk = number; name = name; sectors = sectors; label = pv.0; header = pv.1 }
 
 stands_with : (state : GroupState) → IsState state → (name : List ℕ) (number : ℕ) (disk : Disk) → slice_get state.disks number ≡ Some disk
-    → (o : Option (ℕ × PvHeader)) → option_and_then pv_in disk.contents ≡ o → (added : Added) → option_map (added_with name number disk.sectors) o ≡ Some added → StandsOn state.disks added
+    → (o : Option (ℕ × PvHeader)) → option_and_then pv_in disk.contents ≡ o → (added : AddedPv) → option_map (added_with name number disk.sectors) o ≡ Some added → StandsOn state.disks added
 stands_with state is name number disk there None found added has = absurd (none-some added has)
 stands_with state is name number disk there (Some (label, header)) found added has =
     let whole : IsDisk number disk = is.disks number disk there in
@@ -66,7 +66,7 @@ stands_with state is name number disk there (Some (label, header)) found added h
     subst (StandsOn state.disks) (same_Some (added_with name number disk.sectors (label, header)) added has)
     (record { disk = disk; there = there; least = whole.least; sector = fits.sector; fits = fits.fits })
 
-stands_on : (state : GroupState) → IsState state → (name : List ℕ) (added : Added) → added_named state name ≡ Some added → StandsOn state.disks added
+stands_on : (state : GroupState) → IsState state → (name : List ℕ) (added : AddedPv) → added_named state name ≡ Some added → StandsOn state.disks added
 unfolding added_named
 stands_on state is name added found =
     option_and_then_some {P = StandsOn state.disks added} (added_at state name) (number_named state.names name) added found
@@ -81,7 +81,7 @@ all_stand state is names =
 
 -- ---- their labels
 
-module _ (disks : List Disk) (all : List Added) (stand : All (StandsOn disks) all) where
+module _ (disks : List Disk) (all : List AddedPv) (stand : All (StandsOn disks) all) where
   pub can_label : length disks ≤ 64 → All CanLabel (map label_of all)
   can_label few =
       All-map CanLabel label_of all
@@ -102,18 +102,18 @@ module _ (disks : List Disk) (all : List Added) (stand : All (StandsOn disks) al
 
   pub added_there : All (λ n. n < length disks) (disks_added all)
   added_there =
-      All-map (λ n. n < length disks) (λ (added : Added). added.disk) all
-      (All-weaker (StandsOn disks) (λ (added : Added). added.disk < length disks) (λ added stands. slice_get_within disks added.disk stands.disk stands.there) all stand)
+      All-map (λ n. n < length disks) (λ (added : AddedPv). added.disk) all
+      (All-weaker (StandsOn disks) (λ (added : AddedPv). added.disk < length disks) (λ added stands. slice_get_within disks added.disk stands.disk stands.there) all stand)
 
 -- on disks that differ
 abbrev LabelsApart : NewLabel → NewLabel → Type 0
 LabelsApart a b = a.disk ≢ b.disk
 
-first_apart : (added : Added) (more : List Added) → Each (DiskApart added) more → Each (LabelsApart (label_of added)) (map label_of more)
+first_apart : (added : AddedPv) (more : List AddedPv) → Each (DiskApart added) more → Each (LabelsApart (label_of added)) (map label_of more)
 first_apart added [] apart = tt
 first_apart added (other ∷ more) apart = ((λ same. apart.0 (sym same)), first_apart added more apart.1)
 
-pub labels_differ : (all : List Added) → DisksApart all → AllPairs LabelsApart (map label_of all)
+pub labels_differ : (all : List AddedPv) → DisksApart all → AllPairs LabelsApart (map label_of all)
 labels_differ [] apart = λ i j d before within. absurd (omega (arith, before, within))
 labels_differ (added ∷ more) apart =
     AllPairs-cons LabelsApart (label_of added) (map label_of more) (All-from_recursion (LabelsApart (label_of added)) (map label_of more) (first_apart added more apart.0)) (labels_differ more apart.1)

@@ -6,9 +6,9 @@ use Rattle.lvm_script.specs.declared.line.Line.{Line}
 use Rattle.disk_model.specs.Calls.{Reserves}
 use Rattle.disk_model.specs.Faults.{HasSameFaults}
 use Rattle.disk_model.specs.Idle.{IsIdleAgain}
-use Rattle.disk_model.specs.Since.{BetweenTold}
+use Rattle.disk_model.specs.Since.{BetweenRecords}
 use Rattle.disk_model.specs.State.{IsLawful, State}
-use Rattle.disk_model.specs.Steps.{Told}
+use Rattle.disk_model.specs.Steps.{Record}
 use Rattle.extent_alloc.specs.declared.part.Part.{Part}
 use Rattle.disk_batch.specs.InTurn.{Put, WritesInTurn}
 use Rattle.group_plan.specs.Cleared.{unused_labels}
@@ -93,11 +93,11 @@ module _ (state : GroupState) (line : Line) (now : ℕ) where
       same_clears : clears ≡ clears_of state line now passed.0
       same_clears = clears_are ∙ ap (λ (c : Change). clear_batches c.cleared state.disks state.areas) passed.3
 
-      written : (well : Bool) (after : Option Told) → BetweenTold (WritesBoth zeros puts well) mid.told after → BetweenTold (WritesBoth (zeros_of state line now passed.0) (batches_of state line now passed.0) well) old.told after
+      written : (well : Bool) (after : Option Record) → BetweenRecords (WritesBoth zeros puts well) mid.told after → BetweenRecords (WritesBoth (zeros_of state line now passed.0) (batches_of state line now passed.0) well) old.told after
       written well after told =
-          subst (λ (o : Option Told). BetweenTold (WritesBoth (zeros_of state line now passed.0) (batches_of state line now passed.0) well) o after) (ap (λ (s : State). s.told) reserves.same)
-          (subst (λ (l : List (List Put)). BetweenTold (WritesBoth l (batches_of state line now passed.0) well) mid.told after) same_zeros
-          (subst (λ (l : List (List Put)). BetweenTold (WritesBoth zeros l well) mid.told after) same_puts told))
+          subst (λ (o : Option Record). BetweenRecords (WritesBoth (zeros_of state line now passed.0) (batches_of state line now passed.0) well) o after) (ap (λ (s : State). s.told) reserves.same)
+          (subst (λ (l : List (List Put)). BetweenRecords (WritesBoth l (batches_of state line now passed.0) well) mid.told after) same_zeros
+          (subst (λ (l : List (List Put)). BetweenRecords (WritesBoth zeros l well) mid.told after) same_puts told))
 
       faults_kept : HasSameFaults old mid
       faults_kept pv = ap (λ (s : State). s.faults pv) reserves.same
@@ -106,7 +106,7 @@ module _ (state : GroupState) (line : Line) (now : ℕ) where
       images_kept = keeps_images state line now passed.0 is planned passed.1 passed.2 change passed.3 again fields
 
       -- an operation of its zeros or batches failed
-      pub failed : (pv : ℕ) → mid.faults pv < new.faults pv → BetweenTold (WritesBoth zeros puts false) mid.told new.told → IsCarried state line now old (Err (Failed pv)) new
+      pub failed : (pv : ℕ) → mid.faults pv < new.faults pv → BetweenRecords (WritesBoth zeros puts false) mid.told new.told → IsCarried state line now old (Err (Failed pv)) new
       failed pv risen told = record {
         given = passed.0;
         takes = λ judged. passed.1;
@@ -116,8 +116,8 @@ module _ (state : GroupState) (line : Line) (now : ℕ) where
       }
 
       -- all of these were carried out, and the disks cleared, as far as that came
-      module _ (lawful : IsLawful made_state) (again_made : IsIdleAgain mid made_state) (again_cleared : IsIdleAgain made_state new) (faults : HasSameFaults mid made_state) (first : BetweenTold (WritesBoth zeros puts true) mid.told made_state.told) where
-        abbrev behind : (well : Bool) → BetweenTold (λ before after. WritesInTurn before clears well after) made_state.told new.told
+      module _ (lawful : IsLawful made_state) (again_made : IsIdleAgain mid made_state) (again_cleared : IsIdleAgain made_state new) (faults : HasSameFaults mid made_state) (first : BetweenRecords (WritesBoth zeros puts true) mid.told made_state.told) where
+        abbrev behind : (well : Bool) → BetweenRecords (λ before after. WritesInTurn before clears well after) made_state.told new.told
             → ClearsBehind (zeros_of state line now passed.0) (batches_of state line now passed.0) (clears_of state line now passed.0) well old new
         behind well told = record {
           made = made_state;
@@ -125,7 +125,7 @@ module _ (state : GroupState) (line : Line) (now : ℕ) where
           later = subst (λ (n : ℕ). n ≤ made_state.steps) (ap (λ (s : State). s.steps) reserves.same) again_made.later;
           sooner = again_cleared.later;
           first = written true made_state.told first;
-          behind = subst (λ (l : List (List Put)). BetweenTold (λ before after. WritesInTurn before l well after) made_state.told new.told) same_clears told;
+          behind = subst (λ (l : List (List Put)). BetweenRecords (λ before after. WritesInTurn before l well after) made_state.told new.told) same_clears told;
         }
 
         commits_is : (commits : Bool) → commits ≡ is_some change.group → is_some (change_of state line now passed.0).group ≡ commits
@@ -134,7 +134,7 @@ module _ (state : GroupState) (line : Line) (now : ℕ) where
         faults_until : HasSameFaults old made_state
         faults_until pv = faults pv ∙ faults_kept pv
 
-        done : (commits : Bool) → is_some (change_of state line now passed.0).group ≡ commits → (moment : ℕ) → IsMade commits made_state new moment → BetweenTold (λ before after. WritesInTurn before clears true after) made_state.told new.told
+        done : (commits : Bool) → is_some (change_of state line now passed.0).group ≡ commits → (moment : ℕ) → IsMade commits made_state new moment → BetweenRecords (λ before after. WritesInTurn before clears true after) made_state.told new.told
             → IsCarried state line now old (Ok moment) new
         done commits same moment made_then told = record {
           given = passed.0;
@@ -144,7 +144,7 @@ module _ (state : GroupState) (line : Line) (now : ℕ) where
           told = (behind true told, made_then.1 ∙ ap (λ (b : Bool). made_at b made_state.steps new.steps) (sym same));
         }
 
-        uncleared : (commits : Bool) → is_some (change_of state line now passed.0).group ≡ commits → (pv : ℕ) → made_state.faults pv < new.faults pv → BetweenTold (λ before after. WritesInTurn before clears false after) made_state.told new.told
+        uncleared : (commits : Bool) → is_some (change_of state line now passed.0).group ≡ commits → (pv : ℕ) → made_state.faults pv < new.faults pv → BetweenRecords (λ before after. WritesInTurn before clears false after) made_state.told new.told
             → IsCarried state line now old (Err (clear_fault commits pv made_state.steps)) new
         uncleared true same pv risen told = record {
           given = passed.0;
@@ -162,7 +162,7 @@ module _ (state : GroupState) (line : Line) (now : ℕ) where
         }
 
         pub cleared : (commits : Bool) → commits ≡ is_some change.group → (result : Result ℕ ChangeFault) → MatchResult result (IsMade commits made_state new) (IsUnclearedBy commits made_state new)
-            → BetweenTold (λ before after. WritesInTurn before clears (is_ok result) after) made_state.told new.told → IsCarried state line now old result new
+            → BetweenRecords (λ before after. WritesInTurn before clears (is_ok result) after) made_state.told new.told → IsCarried state line now old result new
         cleared commits same (Ok moment) made_then told = done commits (commits_is commits same) moment made_then told
         cleared commits same (Err fault) why told =
             subst (λ (f : ChangeFault). IsCarried state line now old (Err f) new) (sym why.2) (uncleared commits (commits_is commits same) why.0 why.1 told)

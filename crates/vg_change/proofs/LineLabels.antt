@@ -32,7 +32,7 @@ use Rattle.group_plan.specs.Added.{added_of, label_of}
 use Rattle.group_plan.specs.Committing.{no_change}
 use Rattle.group_plan.specs.Members.{pv_named}
 use Rattle.group_plan.specs.State.{IsState}
-use Rattle.group_plan.specs.declared.added.Added.{Added}
+use Rattle.group_plan.specs.declared.added.AddedPv.{AddedPv}
 use Rattle.group_plan.specs.declared.state.GroupState.{GroupState}
 use Rattle.group_plan.specs.declared.state.NewLabel.{NewLabel}
 use Rattle.pv_plans.specs.Pvcreate.{label_sector, new_label}
@@ -202,7 +202,7 @@ reads_on pv sectors (Some (NoLabel refusal)) header stands is = absurd cc
 reads_on pv sectors (Some (NoHeader label refusal)) header stands is = absurd cc
 reads_on pv sectors (Some (Whole label own areas)) header stands is = subst (λ (h : PvHeader). (sector : List ℕ) × Reads sector (sectors * 512) h) (same_Some own header is) stands.1
 
-found_added : (state : GroupState) → IsState state → (added : Added) → IsFoundOn state added → HeaderIsFound (label_of added)
+found_added : (state : GroupState) → IsState state → (added : AddedPv) → IsFoundOn state added → HeaderIsFound (label_of added)
 found_added state is added found =
     let disk : IsDisk added.disk found.has.disk = is.disks added.disk found.has.disk found.has.there in
     let most : found.has.disk.sectors ≤ 2 ^ 40 = disk.most in

@@ -123,7 +123,7 @@ version_sound state is next now listed has_area fits = version_sound_on state is
 
 next_sound : (state : GroupState) → IsState state → (change : Change) (now : ℕ) → CommitsNext state change now → IsSound state change now
 next_sound state is change now made =
-    subst (λ (c : Change). IsSound state c now) (sym made.change_xl)
+    subst (λ (c : Change). IsSound state c now) (sym made.change_is)
     (with_zeros state (version_change state made.next) made.zero now (version_sound state is made.next now (listed_there state made.old is made.there) made.has_area made.fits))
 
 -- ---- vgreduce and vgremove
@@ -132,7 +132,7 @@ leaves_sound : (state : GroupState) → IsState state → (change : Change) (now
 leaves_sound state is change now left =
     let rest : List ℕ = remove state.disk_of left.number in
     let next : Group = reduced_group left.old left.number in
-    subst (λ (c : Change). IsSound state c now) (sym left.change_xl)
+    subst (λ (c : Change). IsSound state c now) (sym left.change_is)
     (with_cleared state (version_change_on rest next) (set_of (slice_index state.disk_of left.number ∷ [])) now
     (version_sound_on state is rest next now (all_without (λ (n : ℕ). n < length state.disks) state.disk_of left.number (listed_there state left.old is left.there)) left.has_area left.fits))
 
@@ -152,7 +152,7 @@ none_sound state cleared disks now = (
 
 restores_sound : (state : GroupState) → IsState state → (change : Change) (now : ℕ) → Restores state change now → IsSound state change now
 restores_sound state is change now made =
-    subst (λ (c : Change). IsSound state c now) (sym made.change_xl)
+    subst (λ (c : Change). IsSound state c now) (sym made.change_is)
     (version_sound_on state is (disks_of made.said state.disks) (restored_group made.old made.said) now (made.listed is) (made.has_area is) made.fits)
 
 -- nothing changes where nothing is known of a text

@@ -2,9 +2,9 @@
 use Rattle.std.specs.Prelude.{◌≡◌, ◌≤◌, ◌<◌, ◌⊎◌, ℕ, Bool, true, false, is_some, List, length, take, All, None, Some, Result, Ok, Err, MatchResult}
 use Rattle.lvm_script.specs.declared.line.Line.{Line}
 use Rattle.disk_model.specs.Faults.{HasSameFaults}
-use Rattle.disk_model.specs.Since.{BetweenTold}
+use Rattle.disk_model.specs.Since.{BetweenRecords}
 use Rattle.disk_model.specs.State.{IsLawful, State}
-use Rattle.disk_model.specs.Steps.{Image, Told}
+use Rattle.disk_model.specs.Steps.{Image, Record}
 use Rattle.meta_model.specs.declared.group.Group.{Group}
 use Rattle.extent_alloc.specs.declared.part.Part.{Part}
 use Rattle.disk_batch.specs.InTurn.{HasFirstBatches, Put, WritesInTurn, with_batches}
@@ -50,13 +50,13 @@ HasBegun (Err (Uncleared pv made)) = Unit {0}
 HasBegun (Err _) = ⊥
 
 -- all zeros were written, and then the batches, as far as these came
-pub record WritesBehind (zeros batches : List (List Put)) (well : Bool) (old new : Told) : Type 0 where
-  pub zeroed : Told
+pub record WritesBehind (zeros batches : List (List Put)) (well : Bool) (old new : Record) : Type 0 where
+  pub zeroed : Record
   pub first : WritesInTurn old zeros true zeroed
   pub behind : WritesInTurn zeroed batches well new
 
 -- the zeros were carried out, and then the batches; where an operation failed, a front of them
-abbrev pub WritesBoth : List (List Put) → List (List Put) → Bool → Told → Told → Type 0
+abbrev pub WritesBoth : List (List Put) → List (List Put) → Bool → Record → Record → Type 0
 WritesBoth zeros batches true old new = WritesBehind zeros batches true old new
 WritesBoth zeros batches false old new = WritesInTurn old zeros false new ⊎ WritesBehind zeros batches false old new
 
@@ -67,8 +67,8 @@ pub record ClearsBehind (zeros batches clears : List (List Put)) (well : Bool) (
   pub lawful : IsLawful made
   pub later : old.steps ≤ made.steps
   pub sooner : made.steps ≤ new.steps
-  pub first : BetweenTold (WritesBoth zeros batches true) old.told made.told
-  pub behind : BetweenTold (λ before after. WritesInTurn before clears well after) made.told new.told
+  pub first : BetweenRecords (WritesBoth zeros batches true) old.told made.told
+  pub behind : BetweenRecords (λ before after. WritesInTurn before clears well after) made.told new.told
 
 -- the moment at which the change was made: where a group is committed that at which it was, and else once disks are cleared
 abbrev pub made_at : Bool → ℕ → ℕ → ℕ
@@ -92,9 +92,9 @@ IsUnclearedBy commits old new fault = (pv : ℕ) × (old.faults pv < new.faults 
 -- none was, and no operation was submitted
 abbrev pub Carries : Bool → List (List Put) → List (List Put) → List (List Put) → Result ℕ ChangeFault → State → State → Type 0
 Carries commits zeros batches clears (Ok moment) old new = (w : ClearsBehind zeros batches clears true old new) × (moment ≡ made_at commits w.made.steps new.steps)
-Carries commits zeros batches clears (Err (Failed pv)) old new = BetweenTold (WritesBoth zeros batches false) old.told new.told ⊎ ((commits ≡ false) × ClearsBehind zeros batches clears false old new)
+Carries commits zeros batches clears (Err (Failed pv)) old new = BetweenRecords (WritesBoth zeros batches false) old.told new.told ⊎ ((commits ≡ false) × ClearsBehind zeros batches clears false old new)
 Carries commits zeros batches clears (Err (Uncleared pv moment)) old new = (w : ClearsBehind zeros batches clears false old new) × (moment ≡ w.made.steps) × (commits ≡ true)
-Carries commits zeros batches clears (Err _) old new = BetweenTold (λ before after. after ≡ before) old.told new.told
+Carries commits zeros batches clears (Err _) old new = BetweenRecords (λ before after. after ≡ before) old.told new.told
 
 -- memory sufficed to judge the line
 abbrev pub HasJudged : Result ℕ ChangeFault → Type 0

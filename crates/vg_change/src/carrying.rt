@@ -2,7 +2,7 @@
 ghost use Rattle.std.specs.Prelude.{◌≡◌, ◌≤◌, ◌<◌, ◌+◌, ◌^◌, [], is_ok, map, sum_by, All, MatchResult};
 ghost use Rattle.disk_model.specs.Faults.{HasSameFaults};
 ghost use Rattle.disk_model.specs.Idle.{IsIdleAgain};
-ghost use Rattle.disk_model.specs.Since.{BetweenTold};
+ghost use Rattle.disk_model.specs.Since.{BetweenRecords};
 ghost use Rattle.disk_batch.specs.Batches.{writes_of};
 ghost use Rattle.disk_batch.specs.InTurn.{CanRun, WritesInTurn, ops_of, sectors_of};
 ghost use Rattle.group_plan.specs.State.{IsState};
@@ -65,7 +65,7 @@ fn write_both<S: Shelf>(zeros: Vec<Batch>, batches: Vec<Batch>, shelf: &mut S) -
     ensures ops { (S.state shelf.old).spare_ops ≤ (S.state shelf.new).spare_ops + sum_by ops_of zeros.items + sum_by ops_of batches.items }
     ensures sectors { (S.state shelf.old).spare_sectors ≤ (S.state shelf.new).spare_sectors + sum_by sectors_of zeros.items + sum_by sectors_of batches.items }
     ensures fault { MatchResult result (λ _. HasSameFaults (S.state shelf.old) (S.state shelf.new)) (λ pv. (S.state shelf.old).faults pv < (S.state shelf.new).faults pv) }
-    ensures told { BetweenTold (WritesBoth (map writes_of zeros.items) (map writes_of batches.items) (is_ok result)) (S.state shelf.old).told (S.state shelf.new).told }
+    ensures told { BetweenRecords (WritesBoth (map writes_of zeros.items) (map writes_of batches.items) (is_ok result)) (S.state shelf.old).told (S.state shelf.new).told }
 {
     if let Err(pv) = write_in_turn(zeros, shelf) {
         return Err(pv);
@@ -81,7 +81,7 @@ fn clear<S: Shelf>(clears: Vec<Batch>, commits: bool, shelf: &mut S) -> Result<u
     requires sectors { sum_by sectors_of clears.items ≤ (S.state shelf.old).spare_sectors }
     ensures again { IsIdleAgain (S.state shelf.old) (S.state shelf.new) }
     ensures cause { MatchResult result (IsMade commits (S.state shelf.old) (S.state shelf.new)) (IsUnclearedBy commits (S.state shelf.old) (S.state shelf.new)) }
-    ensures told { BetweenTold (λ old new. WritesInTurn old (map writes_of clears.items) (is_ok result) new) (S.state shelf.old).told (S.state shelf.new).told }
+    ensures told { BetweenRecords (λ old new. WritesInTurn old (map writes_of clears.items) (is_ok result) new) (S.state shelf.old).told (S.state shelf.new).told }
 {
     let committed = shelf.steps();
     match write_in_turn(clears, shelf) {

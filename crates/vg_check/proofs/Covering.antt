@@ -5,30 +5,30 @@ use Rattle.std.proofs.lemmas.Bool.{cases_lt, cases_order}
 use Rattle.std.proofs.lemmas.Bool.Decides.{nat_tests}
 use Rattle.std.proofs.lemmas.List.{take_more, take_all, get_or-take, length-take}
 use Rattle.std.proofs.lemmas.List.Elements.{All-more, All-contains, Contains-append_left, Contains-push}
-use Rattle.meta_model.specs.declared.run.Run.{Run}
+use Rattle.meta_model.specs.declared.extent_span.ExtentSpan.{ExtentSpan}
 use Rattle.volume_rules.specs.Sorting.{CanBeSorted, EndsBefore}
 use Rattle.vg_check.proofs.Fronts.{same_read}
 use Rattle.vg_check.specs.Covers.{CoversTo, EndsWithin, IsCovered}
 
 -- before the first run
-pub covers_none : (runs : List Run) (on : ℕ) → CoversTo runs on 0 0
+pub covers_none : (runs : List ExtentSpan) (on : ℕ) → CoversTo runs on 0 0
 covers_none runs on = record { covers = λ extent lt. absurd (omega arith); ends = λ k d lt. absurd (omega arith) }
 
-step : (runs : List Run) (n : ℕ) (d : Run) → n < length runs → take (n + 1) runs ≡ take n runs ++ get_or runs n d ∷ []
+step : (runs : List ExtentSpan) (n : ℕ) (d : ExtentSpan) → n < length runs → take (n + 1) runs ≡ take n runs ++ get_or runs n d ∷ []
 step runs n d lt = take_more runs n d lt
 
-still : (runs : List Run) (on n extent : ℕ) (d : Run) → n < length runs → IsCovered (take n runs) on extent → IsCovered (take (n + 1) runs) on extent
+still : (runs : List ExtentSpan) (on n extent : ℕ) (d : ExtentSpan) → n < length runs → IsCovered (take n runs) on extent → IsCovered (take (n + 1) runs) on extent
 still runs on n extent d lt is = (is.0, subst (λ xs. Contains xs is.0) (sym (step runs n d lt)) (Contains-append_left (take n runs) (get_or runs n d ∷ []) is.0 is.1), is.2, is.3, is.4)
 
 -- a run on another volume
-pub covers_other : (runs : List Run) (on n end : ℕ) (d : Run) → n < length runs → ((get_or runs n d).on ≡ on → ⊥) → CoversTo runs on n end → CoversTo runs on (n + 1) end
+pub covers_other : (runs : List ExtentSpan) (on n end : ℕ) (d : ExtentSpan) → n < length runs → ((get_or runs n d).on ≡ on → ⊥) → CoversTo runs on n end → CoversTo runs on (n + 1) end
 covers_other runs on n end d lt other has = record {
   covers = λ extent less. still runs on n extent d lt (has.covers extent less);
   ends = All-more (EndsWithin on end) runs n d lt has.ends (λ same. absurd (other same));
 }
 
 -- one that follows
-pub covers_more : (runs : List Run) (on n end : ℕ) (d : Run) → n < length runs → (get_or runs n d).on ≡ on → (get_or runs n d).first ≡ end → CoversTo runs on n end → CoversTo runs on (n + 1) ((get_or runs n d).first + (get_or runs n d).count)
+pub covers_more : (runs : List ExtentSpan) (on n end : ℕ) (d : ExtentSpan) → n < length runs → (get_or runs n d).on ≡ on → (get_or runs n d).first ≡ end → CoversTo runs on n end → CoversTo runs on (n + 1) ((get_or runs n d).first + (get_or runs n d).count)
 covers_more runs on n end d lt same follows has = record {
   covers = λ extent less. elim (cases_lt extent end) [
     | inl before ↦ still runs on n extent d lt (has.covers extent before)
@@ -38,12 +38,12 @@ covers_more runs on n end d lt same follows has = record {
 }
 
 -- of two runs of which one ends before the other, on the same volume
-ends_first : (a b : Run) → EndsBefore a b → a.on ≡ b.on → a.first + a.count ≤ b.first
+ends_first : (a b : ExtentSpan) → EndsBefore a b → a.on ≡ b.on → a.first + a.count ≤ b.first
 ends_first a b (inl p) same = absurd (omega arith)
 ends_first a b (inr p) same = p.1
 
 -- one that begins too early overlaps an earlier one
-below : (runs : List Run) (on n : ℕ) (d : Run) → n < length runs → AllPairs EndsBefore runs → (get_or runs n d).on ≡ on → IsCovered (take n runs) on (get_or runs n d).first → ⊥
+below : (runs : List ExtentSpan) (on n : ℕ) (d : ExtentSpan) → n < length runs → AllPairs EndsBefore runs → (get_or runs n d).on ≡ on → IsCovered (take n runs) on (get_or runs n d).first → ⊥
 below runs on n d lt apart same is =
     let k : ℕ = is.1.0 in
     let before : k < n = omega (arith, is.1.1, length-take n runs) in
@@ -53,13 +53,13 @@ below runs on n d lt apart same is =
     omega (arith, ends_first is.0 (get_or runs n d) ends (is.2 ∙ sym same), is.4)
 
 -- before one that begins too late there is a gap
-above : (runs : List Run) (on n end : ℕ) (d : Run) → n < length runs → AllPairs EndsBefore runs → (get_or runs n d).on ≡ on → All (EndsWithin on end) (take n runs) → end < (get_or runs n d).first → IsCovered runs on end → ⊥
+above : (runs : List ExtentSpan) (on n end : ℕ) (d : ExtentSpan) → n < length runs → AllPairs EndsBefore runs → (get_or runs n d).on ≡ on → All (EndsWithin on end) (take n runs) → end < (get_or runs n d).first → IsCovered runs on end → ⊥
 above runs on n end d lt apart same ended high is =
     let k : ℕ = is.1.0 in
     elim (cases_order k n) [
       | inl here ↦
           let run : get_or runs n d ≡ is.0 = sym (same_read runs n is.0 d lt) ∙ ap (λ (m : ℕ). get_or runs m is.0) (sym here) ∙ is.1.2 in
-          let first : (get_or runs n d).first ≡ is.0.first = ap (λ (r : Run). r.first) run in
+          let first : (get_or runs n d).first ≡ is.0.first = ap (λ (r : ExtentSpan). r.first) run in
           omega (arith, is.3)
       | inr rest ↦ elim rest [
         | inl before ↦
@@ -74,10 +74,10 @@ above runs on n end d lt apart same ended high is =
     ]
 
 -- where one doesn't follow, an extent isn't covered
-pub gap : (runs : List Run) (on n end extents : ℕ) (d : Run) → n < length runs → All CanBeSorted runs → AllPairs EndsBefore runs → All (EndsWithin on extents) runs → (get_or runs n d).on ≡ on → ((get_or runs n d).first ≡ end → ⊥) → CoversTo runs on n end
+pub gap : (runs : List ExtentSpan) (on n end extents : ℕ) (d : ExtentSpan) → n < length runs → All CanBeSorted runs → AllPairs EndsBefore runs → All (EndsWithin on extents) runs → (get_or runs n d).on ≡ on → ((get_or runs n d).first ≡ end → ⊥) → CoversTo runs on n end
     → ((extent : ℕ) → extent < extents → IsCovered runs on extent) → ⊥
 gap runs on n end extents d lt can apart within same differs has all =
-    let run : Run = get_or runs n d in
+    let run : ExtentSpan = get_or runs n d in
     let some : 1 ≤ run.count = (can n d lt).count.0 in
     let inside : run.first + run.count ≤ extents = within n d lt same in
     elim (cases_order run.first end) [
@@ -89,7 +89,7 @@ gap runs on n end extents d lt can apart within same differs has all =
     ]
 
 -- all were walked
-pub covers_all : (runs : List Run) (on n end extents : ℕ) (answer : Bool) → length runs ≤ n → All (EndsWithin on extents) runs → CoversTo runs on n end → answer ≡ (end == extents)
+pub covers_all : (runs : List ExtentSpan) (on n end extents : ℕ) (answer : Bool) → length runs ≤ n → All (EndsWithin on extents) runs → CoversTo runs on n end → answer ≡ (end == extents)
     → IsTrue answer ↔ ((extent : ℕ) → extent < extents → IsCovered runs on extent)
 covers_all runs on n end extents answer past within has is = (
   λ yes extent lt. subst (λ xs. IsCovered xs on extent) (take_all n runs past) (has.covers extent (let same : end ≡ extents = grind (arith, nat_tests) in omega arith)),

@@ -32,7 +32,7 @@ hide_all group each lv below volume lies there =
     let is : IsRunOf group.lvs 0 lies.0 = run_is group lies.0 lies.1 in
     let legs : LegsAreHidden group is.segment = all_at (LegsAreHidden group) is.volume.1.segments lies.0.segment is.segment (each is.nth is.volume is.is_volume) is.is_segment in
     let leg : OnIsHidden group is.leg.on = all_at (λ (l : Leg). OnIsHidden group l.on) (legs_of is.segment.kind) lies.0.leg is.leg legs is.is_leg in
-    let hidden : LvIsHidden group below = subst (OnIsHidden group) (sym is.on_xl ∙ lies.3) leg in
+    let hidden : LvIsHidden group below = subst (OnIsHidden group) (sym is.on_is ∙ lies.3) leg in
     hidden volume there
 
 pub hide_each : (group : Group) (n : ℕ) (lv : Lv) → IsLv group n lv → VolumesBelowAreHidden group → All (LegsAreHidden group) lv.segments

@@ -6,7 +6,7 @@ use Rattle.std.proofs.lemmas.Bool.{cases_eq}
 use Rattle.std.proofs.lemmas.Option.{same_Some, slice_get_within, slice_get-get_or}
 use Rattle.meta_model.specs.declared.group.Group.{Group}
 use Rattle.meta_model.specs.declared.lv.Lv.{Lv}
-use Rattle.meta_model.specs.declared.run.Run.{Run}
+use Rattle.meta_model.specs.declared.extent_span.ExtentSpan.{ExtentSpan}
 use Rattle.volume_rules.specs.Depths.{greatest}
 use Rattle.volume_rules.specs.Moving.{has_pvmove, leads_to_pvmove, named_by}
 use Rattle.volume_rules.specs.Rules.{IsLv, DepthIsAtMostThree, LockedVolumesMove}
@@ -48,7 +48,7 @@ marked : (is : Bool) → 1 ≤ mark is → is ≡ true
 marked true high = refl
 marked false high = absurd (omega arith)
 
-pub locked_tell : (group : Group) (numbers : List Run) (answer : Bool) → DepthIsAtMostThree group → length numbers ≡ length group.lvs → HasClimbed group Moves 5 numbers
+pub locked_tell : (group : Group) (numbers : List ExtentSpan) (answer : Bool) → DepthIsAtMostThree group → length numbers ≡ length group.lvs → HasClimbed group Moves 5 numbers
     → IsTrue answer ↔ LockedAreMarked group numbers (length numbers) → IsTrue answer ↔ LockedVolumesMove group
 locked_tell group numbers answer depth long has tells = (
   λ is number lv there locked.
@@ -61,7 +61,7 @@ locked_tell group numbers answer depth long has tells = (
 )
 
 -- one volume more
-pub marked_more : (group : Group) (numbers : List Run) (n : ℕ) (lv : Lv) → IsLv group n lv → (lv.status.locked ≡ true → 1 ≤ told numbers n) → LockedAreMarked group numbers n → LockedAreMarked group numbers (n + 1)
+pub marked_more : (group : Group) (numbers : List ExtentSpan) (n : ℕ) (lv : Lv) → IsLv group n lv → (lv.status.locked ≡ true → 1 ≤ told numbers n) → LockedAreMarked group numbers n → LockedAreMarked group numbers (n + 1)
 marked_more group numbers n lv is here before k volume lt there locked =
     elim (cases_eq k n) [
       | inl same ↦
@@ -72,5 +72,5 @@ marked_more group numbers n lv is here before k volume lt there locked =
     ]
 
 -- the number of a volume, as it is read
-pub told_at : (numbers : List Run) (n : ℕ) (d : Run) → n < length numbers → told numbers n ≡ (get_or numbers n d).first
-told_at numbers n d lt = ap (λ (o : Option Run). unwrap_or (option_map (λ (run : Run). run.first) o) 0) (slice_get-get_or numbers n d lt)
+pub told_at : (numbers : List ExtentSpan) (n : ℕ) (d : ExtentSpan) → n < length numbers → told numbers n ≡ (get_or numbers n d).first
+told_at numbers n d lt = ap (λ (o : Option ExtentSpan). unwrap_or (option_map (λ (run : ExtentSpan). run.first) o) 0) (slice_get-get_or numbers n d lt)

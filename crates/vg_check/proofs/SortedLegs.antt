@@ -10,7 +10,7 @@ use Rattle.std.proofs.lemmas.Option.{slice_get_within}
 use Rattle.std.proofs.Math.Nat.{div-le_self}
 use Rattle.meta_model.specs.declared.group.Group.{Group}
 use Rattle.meta_model.specs.declared.lv.Lv.{Lv}
-use Rattle.meta_model.specs.declared.run.Run.{Run}
+use Rattle.meta_model.specs.declared.extent_span.ExtentSpan.{ExtentSpan}
 use Rattle.meta_model.specs.declared.segment.Leg.{Leg}
 use Rattle.meta_model.specs.declared.segment.On.{On}
 use Rattle.meta_model.specs.declared.segment.On.TheVariants as on
@@ -32,21 +32,21 @@ use Rattle.vg_check.proofs.Fronts.{all_at}
 
 of_legs : (lv segment count number : ℕ) (legs : List Leg) → map run_to_sort (runs_of_legs lv segment count number legs) ≡ map (leg_run count) legs
 of_legs lv segment count number [] = refl
-of_legs lv segment count number (leg ∷ legs) = ap (λ (runs : List Run). leg_run count leg ∷ runs) (of_legs lv segment count (number + 1) legs)
+of_legs lv segment count number (leg ∷ legs) = ap (λ (runs : List ExtentSpan). leg_run count leg ∷ runs) (of_legs lv segment count (number + 1) legs)
 
 of_segments : (lv number : ℕ) (segments : List Segment) → map run_to_sort (runs_of_segments lv number segments) ≡ volume_runs segments
 of_segments lv number [] = refl
 of_segments lv number (s ∷ segments) =
     map-append run_to_sort (runs_of_legs lv number (leg_share s.count s.kind) 0 (legs_of s.kind)) (runs_of_segments lv (number + 1) segments)
-    ∙ ap (λ (runs : List Run). runs ++ map run_to_sort (runs_of_segments lv (number + 1) segments)) (of_legs lv number (leg_share s.count s.kind) 0 (legs_of s.kind))
-    ∙ ap (λ (runs : List Run). segment_runs s ++ runs) (of_segments lv (number + 1) segments)
+    ∙ ap (λ (runs : List ExtentSpan). runs ++ map run_to_sort (runs_of_segments lv (number + 1) segments)) (of_legs lv number (leg_share s.count s.kind) 0 (legs_of s.kind))
+    ∙ ap (λ (runs : List ExtentSpan). segment_runs s ++ runs) (of_segments lv (number + 1) segments)
 
 of_volumes : (number : ℕ) (lvs : List (List ℕ × Lv)) → map run_to_sort (runs_of_volumes number lvs) ≡ flat_map (λ (row : List ℕ × Lv). volume_runs row.1.segments) lvs
 of_volumes number [] = refl
 of_volumes number (v ∷ lvs) =
     map-append run_to_sort (runs_of_segments number 0 v.1.segments) (runs_of_volumes (number + 1) lvs)
-    ∙ ap (λ (runs : List Run). runs ++ map run_to_sort (runs_of_volumes (number + 1) lvs)) (of_segments number 0 v.1.segments)
-    ∙ ap (λ (runs : List Run). volume_runs v.1.segments ++ runs) (of_volumes (number + 1) lvs)
+    ∙ ap (λ (runs : List ExtentSpan). runs ++ map run_to_sort (runs_of_volumes (number + 1) lvs)) (of_segments number 0 v.1.segments)
+    ∙ ap (λ (runs : List ExtentSpan). volume_runs v.1.segments ++ runs) (of_volumes (number + 1) lvs)
 
 -- the runs that are sorted are those of the rules
 pub sorted_are : (group : Group) → map run_to_sort (runs_of group) ≡ group_runs group
@@ -89,8 +89,8 @@ leg_sortable group run below is within =
     let share = small_share is.segment.count is.segment.kind whole.small.1 in
     record {
       on = small_on group run.on (run.first + run.count) (below Volumes (omega arith)) within;
-      first = omega (arith, is.first_xl);
-      count = (omega (arith, is.count_xl, whole.covers), omega (arith, is.count_xl));
+      first = omega (arith, is.first_is);
+      count = (omega (arith, is.count_is, whole.covers), omega (arith, is.count_is));
     }
 
 pub runs_sortable : (group : Group) → KeepsBelow 10 group → All CanBeSorted (group_runs group)
@@ -101,7 +101,7 @@ runs_sortable group below =
     (λ k d lt. let run : LegRun = get_or (runs_of group) k d in leg_sortable group run below (run_is group run (All-contains_itself (runs_of group) k d lt)) (within k d lt)))
 
 -- that they lie apart is the rule
-pub apart_tells : (group : Group) (answer : Bool) (runs : List Run) → runs ≡ group_runs group → IsTrue answer ↔ AllPairs NoExtentInBoth runs → IsTrue answer ↔ LegsLieApart group
+pub apart_tells : (group : Group) (answer : Bool) (runs : List ExtentSpan) → runs ≡ group_runs group → IsTrue answer ↔ AllPairs NoExtentInBoth runs → IsTrue answer ↔ LegsLieApart group
 apart_tells group answer runs same tells =
     let both = apart_in_order group in
     let are : runs ≡ map run_to_sort (runs_of group) = same ∙ sym (sorted_are group) in (
@@ -110,7 +110,7 @@ apart_tells group answer runs same tells =
     )
 
 -- a front that was sorted has them in order
-pub sorted_front : (group : Group) (count : ℕ) (before after : List Run) → count ≡ 0 + length (group_runs group) → take count before ≡ group_runs group
+pub sorted_front : (group : Group) (count : ℕ) (before after : List ExtentSpan) → count ≡ 0 + length (group_runs group) → take count before ≡ group_runs group
     → AllAdjacentBelow StandsBefore (take count after) count → IsPermutation (take count before) (take count after) → HasSortedRuns group after
 sorted_front group count before after counted front order moved =
     let same : count ≡ length (group_runs group) = omega arith in record {

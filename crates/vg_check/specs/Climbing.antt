@@ -1,7 +1,7 @@
 -- Numbers of volumes that grow in rounds over the legs.
 use Rattle.std.specs.Prelude.{◌≡◌, ℕ, zero, suc, ◌+◌, ◌<◌, ◌≤◌, max, cond, nat_eq, List, ◌∷◌, map, length, option_map, unwrap_or, slice_get, Contains}
 use Rattle.meta_model.specs.declared.group.Group.{Group}
-use Rattle.meta_model.specs.declared.run.Run.{Run}
+use Rattle.meta_model.specs.declared.extent_span.ExtentSpan.{ExtentSpan}
 use Rattle.meta_model.specs.declared.segment.Leg.{Leg}
 use Rattle.meta_model.specs.declared.segment.On.{On}
 use Rattle.meta_model.specs.declared.segment.On.TheVariants as on
@@ -15,24 +15,24 @@ use Rattle.vg_check.specs.declared.climb.Climb.{Climb}
 use Rattle.vg_check.specs.declared.climb.Climb.TheVariants.{Length, Load, Moves}
 
 -- the number of a volume, and the one beside it, 0 where there is none
-abbrev pub told : List Run → ℕ → ℕ
-told numbers lv = unwrap_or (option_map (λ (run : Run). run.first) (slice_get numbers lv)) 0
+abbrev pub told : List ExtentSpan → ℕ → ℕ
+told numbers lv = unwrap_or (option_map (λ (run : ExtentSpan). run.first) (slice_get numbers lv)) 0
 
 -- the number beside it, which a round is about to give it
-abbrev pub counted : List Run → ℕ → ℕ
-counted numbers lv = unwrap_or (option_map (λ (run : Run). run.count) (slice_get numbers lv)) 0
+abbrev pub counted : List ExtentSpan → ℕ → ℕ
+counted numbers lv = unwrap_or (option_map (λ (run : ExtentSpan). run.count) (slice_get numbers lv)) 0
 
 -- the number of what a leg lies on
-abbrev pub told_on : List Run → On → ℕ
+abbrev pub told_on : List ExtentSpan → On → ℕ
 told_on numbers (on.Pv pv) = 0
 told_on numbers (on.Lv lv) = told numbers lv
 
 -- the greatest number of what these legs lie on
-abbrev pub greatest_leg : List Run → List Leg → ℕ
+abbrev pub greatest_leg : List ExtentSpan → List Leg → ℕ
 greatest_leg numbers legs = greatest (map (λ (leg : Leg). told_on numbers leg.on) legs)
 
 -- the greatest number of what the legs of these segments lie on
-abbrev pub greatest_segment : List Run → List Segment → ℕ
+abbrev pub greatest_segment : List ExtentSpan → List Segment → ℕ
 greatest_segment numbers segments = greatest (map (λ (segment : Segment). greatest_leg numbers (legs_of segment.kind)) segments)
 
 -- what a volume weighs where one is light
@@ -51,11 +51,11 @@ climbed group climb zero lv = 0
 climbed group climb (suc rounds) lv = grown group climb lv (greatest (map (climbed group climb rounds) (named_by group lv)))
 
 -- each volume has its number after so many rounds
-abbrev pub HasClimbed : Group → Climb → ℕ → List Run → Type 0
+abbrev pub HasClimbed : Group → Climb → ℕ → List ExtentSpan → Type 0
 HasClimbed group climb rounds numbers = (lv : ℕ) → lv < length group.lvs → told numbers lv ≡ climbed group climb rounds lv
 
 -- beside the numbers stands what the first of them become, so many
-pub record HasGrown (group : Group) (climb : Climb) (old new : List Run) (many : ℕ) : Type 0 where
+pub record HasGrown (group : Group) (climb : Climb) (old new : List ExtentSpan) (many : ℕ) : Type 0 where
   pub kept : (lv : ℕ) → told new lv ≡ told old lv
   pub beside : (lv : ℕ) → lv < many → counted new lv ≡ grown group climb lv (greatest (map (told old) (named_by group lv)))
 

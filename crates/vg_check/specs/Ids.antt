@@ -6,7 +6,7 @@ use Rattle.std.specs.List.Sorted.{IsSortedByKey}
 use Rattle.meta_model.specs.declared.group.Group.{Group}
 use Rattle.meta_model.specs.declared.lv.Lv.{Lv}
 use Rattle.meta_model.specs.declared.pv.Pv.{Pv}
-use Rattle.meta_model.specs.declared.run.Run.{Run}
+use Rattle.meta_model.specs.declared.extent_span.ExtentSpan.{ExtentSpan}
 use Rattle.vg_check.specs.declared.kind.Kind.{Kind}
 use Rattle.vg_check.specs.declared.kind.Kind.TheVariants as kind
 
@@ -30,25 +30,25 @@ pub record IdsStandApart (group : Group) (kind : Kind) (from to : ℕ) : Type 0 
   pub before : (i : ℕ) (id : List ℕ) → from ≤ i → i < to → Contains (ids_before group kind) id → id_of group kind i ≢ id
 
 -- a block of the volumes from this number on, so many
-abbrev pub IsNumbered : ℕ → ℕ → List Run → Type 0
-IsNumbered from many block = (k : ℕ) (d : Run) → k < many → (slice_index_or block k d).on ≡ from + k
+abbrev pub IsNumbered : ℕ → ℕ → List ExtentSpan → Type 0
+IsNumbered from many block = (k : ℕ) (d : ExtentSpan) → k < many → (slice_index_or block k d).on ≡ from + k
 
 -- a block in the order of ids
-abbrev pub IsSortedById : Group → Kind → List Run → Type 0
-IsSortedById group kind block = IsSortedByKey (λ (run : Run). id_of group kind run.on) (slice_cmp nat_cmp) block
+abbrev pub IsSortedById : Group → Kind → List ExtentSpan → Type 0
+IsSortedById group kind block = IsSortedByKey (λ (run : ExtentSpan). id_of group kind run.on) (slice_cmp nat_cmp) block
 
 -- two volumes of a block differ
-abbrev pub IdsDifferAt : Group → Kind → Run → Run → Type 0
+abbrev pub IdsDifferAt : Group → Kind → ExtentSpan → ExtentSpan → Type 0
 IdsDifferAt group kind a b = id_of group kind a.on ≢ id_of group kind b.on
 
 -- one of a block has the id
-abbrev pub HasId : Group → Kind → List Run → List ℕ → Type 0
-HasId group kind block id = (run : Run) × Contains block run × (id_of group kind run.on ≡ id)
+abbrev pub HasId : Group → Kind → List ExtentSpan → List ℕ → Type 0
+HasId group kind block id = (run : ExtentSpan) × Contains block run × (id_of group kind run.on ≡ id)
 
 -- no volume of the kind has an id of the block, from this number on
-abbrev pub NoneHas : Group → Kind → List Run → Kind → ℕ → Type 0
+abbrev pub NoneHas : Group → Kind → List ExtentSpan → Kind → ℕ → Type 0
 NoneHas group kind block other from = (number : ℕ) → from ≤ number → number < length (kind_ids group other) → HasId group kind block (id_of group other number) → ⊥
 
 -- neither the group nor a volume of an earlier kind has one
-abbrev pub NoneBeforeHas : Group → Kind → List Run → Type 0
+abbrev pub NoneBeforeHas : Group → Kind → List ExtentSpan → Type 0
 NoneBeforeHas group kind block = (id : List ℕ) → Contains (ids_before group kind) id → HasId group kind block id → ⊥

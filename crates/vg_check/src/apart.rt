@@ -10,11 +10,11 @@ ghost use Rattle.vg_check.specs.Whole.{SegmentIsWhole};
 
 use crate::extents::share;
 use crate::open_group::OpenGroup;
-use meta_model::{Leg, On, Run, Segment};
+use meta_model::{ExtentSpan, Leg, On, Segment};
 use volume_rules::{lie_apart, sort_runs};
 
 // Whether no extent lies in two legs. Then the runs of the legs stand first, in order.
-pub(crate) fn legs_lie_apart(group: &OpenGroup, runs: &mut Vec<Run>) -> bool
+pub(crate) fn legs_lie_apart(group: &OpenGroup, runs: &mut Vec<ExtentSpan>) -> bool
     requires below { KeepsBelow 10 group.now }
     requires room { run_room group.now.lvs ≤ vec_len runs.old }
     ensures apart { IsTrue result ↔ LegsLieApart group.now }
@@ -24,7 +24,7 @@ pub(crate) fn legs_lie_apart(group: &OpenGroup, runs: &mut Vec<Run>) -> bool
     group_lies_apart(group, runs)
 }
 
-fn group_lies_apart(group: &OpenGroup, runs: &mut [Run]) -> bool
+fn group_lies_apart(group: &OpenGroup, runs: &mut [ExtentSpan]) -> bool
     requires below { KeepsBelow 10 group.now }
     requires room { run_room group.now.lvs ≤ length runs.old }
     ensures apart { IsTrue result ↔ LegsLieApart group.now }
@@ -35,7 +35,7 @@ fn group_lies_apart(group: &OpenGroup, runs: &mut [Run]) -> bool
 }
 
 // Puts the run of each leg first, in order, and tells how many they are.
-pub(crate) fn sort_legs(group: &OpenGroup, runs: &mut [Run]) -> usize
+pub(crate) fn sort_legs(group: &OpenGroup, runs: &mut [ExtentSpan]) -> usize
     requires below { KeepsBelow 10 group.now }
     requires room { run_room group.now.lvs ≤ length runs.old }
     ensures count { result ≡ length (group_runs group.now) }
@@ -47,7 +47,7 @@ pub(crate) fn sort_legs(group: &OpenGroup, runs: &mut [Run]) -> usize
 }
 
 // Puts the first runs, so many, in order.
-fn sort_front(runs: &mut [Run], count: usize)
+fn sort_front(runs: &mut [ExtentSpan], count: usize)
     requires within { count ≤ length runs.old }
     requires sortable { All CanBeSorted (take count runs.old) }
     ensures order { AllAdjacentBelow StandsBefore (take count runs.new) count }
@@ -57,7 +57,7 @@ fn sort_front(runs: &mut [Run], count: usize)
 }
 
 // Whether the first runs lie apart, so many of them, which are put in order.
-fn front_lies_apart(runs: &mut [Run], count: usize) -> bool
+fn front_lies_apart(runs: &mut [ExtentSpan], count: usize) -> bool
     requires within { count ≤ length runs.old }
     requires sortable { All CanBeSorted (take count runs.old) }
     ensures apart { IsTrue result ↔ AllPairs NoExtentInBoth (take count runs.old) }
@@ -68,7 +68,7 @@ fn front_lies_apart(runs: &mut [Run], count: usize) -> bool
 }
 
 // Puts the run of each leg of the group first, and tells how many they are.
-fn put_group(runs: &mut [Run], group: &OpenGroup) -> usize
+fn put_group(runs: &mut [ExtentSpan], group: &OpenGroup) -> usize
     requires below { KeepsBelow 10 group.now }
     requires room { length (group_runs group.now) ≤ length runs.old }
     ensures { Puts runs.old 0 (group_runs group.now) runs.new result }
@@ -82,7 +82,7 @@ fn put_group(runs: &mut [Run], group: &OpenGroup) -> usize
 }
 
 // Puts the run of each leg of these segments behind the first runs, so many, and tells how many they are then.
-fn put_volume(runs: &mut [Run], count: usize, segments: &[Segment]) -> usize
+fn put_volume(runs: &mut [ExtentSpan], count: usize, segments: &[Segment]) -> usize
     requires whole { All SegmentIsWhole segments.now }
     requires room { count + length (volume_runs segments.now) ≤ length runs.old }
     ensures { Puts runs.old count (volume_runs segments.now) runs.new result }
@@ -95,7 +95,7 @@ fn put_volume(runs: &mut [Run], count: usize, segments: &[Segment]) -> usize
 }
 
 // Puts the run of each leg of the segment there.
-fn put_segment(runs: &mut [Run], count: usize, segment: &Segment) -> usize
+fn put_segment(runs: &mut [ExtentSpan], count: usize, segment: &Segment) -> usize
     requires whole { SegmentIsWhole segment.now }
     requires room { count + length (segment_runs segment.now) ≤ length runs.old }
     ensures { Puts runs.old count (segment_runs segment.now) runs.new result }
@@ -106,7 +106,7 @@ fn put_segment(runs: &mut [Run], count: usize, segment: &Segment) -> usize
 }
 
 // Puts the run of each leg there, which covers so many extents.
-fn put_legs(runs: &mut [Run], count: usize, extents: u64, legs: &[Leg]) -> usize
+fn put_legs(runs: &mut [ExtentSpan], count: usize, extents: u64, legs: &[Leg]) -> usize
     requires { count + length legs.now ≤ length runs.old }
     ensures { Puts runs.old count (map (leg_run extents) legs.now) runs.new result }
 {
@@ -119,10 +119,10 @@ fn put_legs(runs: &mut [Run], count: usize, extents: u64, legs: &[Leg]) -> usize
 }
 
 // The run of a leg that covers so many extents.
-fn run_of(leg: &Leg, count: u64) -> Run
+fn run_of(leg: &Leg, count: u64) -> ExtentSpan
     ensures { result ≡ leg_run count leg.now }
 {
-    Run {
+    ExtentSpan {
         on: number_of(leg.on),
         first: leg.first,
         count,

@@ -7,10 +7,10 @@ ghost use Rattle.vg_check.specs.Ids.{id_of, HasId, IdsDifferAt, IsNumbered, IsSo
 use crate::kind::{Kind, id_at, key_at};
 use crate::open_group::OpenGroup;
 use lvm_id::LvmId;
-use meta_model::Run;
+use meta_model::ExtentSpan;
 
 // Names the volumes from this number on.
-pub(crate) fn number_block(block: &mut [Run], from: usize)
+pub(crate) fn number_block(block: &mut [ExtentSpan], from: usize)
     requires { from + length block.old < 2 ^ 64 }
     ensures { IsNumbered from (length block.old) block.new }
 {
@@ -20,26 +20,26 @@ pub(crate) fn number_block(block: &mut [Run], from: usize)
 }
 
 // Puts them in the order of their ids.
-pub(crate) fn sort_by_id(group: &OpenGroup, kind: Kind, block: &mut [Run])
+pub(crate) fn sort_by_id(group: &OpenGroup, kind: Kind, block: &mut [ExtentSpan])
     ensures order { IsSortedById group.now kind block.new }
     ensures moved { IsPermutation block.old block.new }
 {
     block.sort_unstable_by_key(
-        |run: &Run| -> [u8; 32]
+        |run: &ExtentSpan| -> [u8; 32]
             ensures { result ≡ id_of group.entry.now kind run.now.on }
         { key_at(group, kind, run.on) },
     );
 }
 
 // Whether one has the id. They are in order.
-pub(crate) fn has_id(group: &OpenGroup, kind: Kind, block: &[Run], id: &LvmId) -> bool
+pub(crate) fn has_id(group: &OpenGroup, kind: Kind, block: &[ExtentSpan], id: &LvmId) -> bool
     requires { IsSortedById group.now kind block.now }
     ensures { IsTrue result ↔ HasId group.now kind block.now id.now }
 {
     block
         .binary_search_by_key(
             &id.plain(),
-            |run: &Run| -> [u8; 32]
+            |run: &ExtentSpan| -> [u8; 32]
                 ensures { result ≡ id_of group.entry.now kind run.now.on }
             { key_at(group, kind, run.on) },
         )
@@ -47,7 +47,7 @@ pub(crate) fn has_id(group: &OpenGroup, kind: Kind, block: &[Run], id: &LvmId) -
 }
 
 // Whether the ids of neighbours differ.
-pub(crate) fn neighbours_differ(group: &OpenGroup, kind: Kind, block: &[Run]) -> bool
+pub(crate) fn neighbours_differ(group: &OpenGroup, kind: Kind, block: &[ExtentSpan]) -> bool
     ensures { IsTrue result ↔ AllAdjacentBelow (IdsDifferAt group.now kind) block.now (length block.now) }
 {
     for i in 1..block.len() {

@@ -5,7 +5,7 @@ ghost use Rattle.volume_rules.specs.Rules.{KeepsBelow};
 ghost use Rattle.vg_check.specs.Climbing.{counted, grown, greatest_leg, greatest_segment, told, told_on, weight_beside, HasClimbed, HasGrown};
 
 use crate::open_group::OpenGroup;
-use meta_model::{Leg, On, Run, Segment};
+use meta_model::{ExtentSpan, Leg, On, Segment};
 
 // What the numbers say of the ways down from a volume.
 #[derive(Clone, Copy)]
@@ -19,7 +19,7 @@ pub(crate) enum Climb {
 }
 
 // The numbers after five rounds, as the first numbers of the runs.
-pub(crate) fn climb_five(group: &OpenGroup, climb: Climb, numbers: &mut [Run])
+pub(crate) fn climb_five(group: &OpenGroup, climb: Climb, numbers: &mut [ExtentSpan])
     requires below { KeepsBelow 11 group.now }
     requires long { length numbers.old ≡ length group.now.lvs }
     ensures { HasClimbed group.now climb 5 numbers.new }
@@ -32,7 +32,7 @@ pub(crate) fn climb_five(group: &OpenGroup, climb: Climb, numbers: &mut [Run])
 }
 
 // Each number is 0.
-fn clear(numbers: &mut [Run])
+fn clear(numbers: &mut [ExtentSpan])
     ensures { (lv : ℕ) → told numbers.new lv ≡ 0 }
 {
     for i in 0..numbers.len() {
@@ -41,7 +41,7 @@ fn clear(numbers: &mut [Run])
 }
 
 // Puts what each number becomes beside it.
-fn grow(group: &OpenGroup, climb: Climb, numbers: &mut [Run])
+fn grow(group: &OpenGroup, climb: Climb, numbers: &mut [ExtentSpan])
     requires long { length numbers.old ≡ length group.now.lvs }
     requires low { (lv : ℕ) → told numbers.old lv ≤ 4 }
     ensures { HasGrown group.now climb numbers.old numbers.new (length numbers.old) }
@@ -54,7 +54,7 @@ fn grow(group: &OpenGroup, climb: Climb, numbers: &mut [Run])
 }
 
 // Each number is what stood beside it.
-fn settle(numbers: &mut [Run])
+fn settle(numbers: &mut [ExtentSpan])
     ensures { (lv : ℕ) → told numbers.new lv ≡ counted numbers.old lv }
 {
     for i in 0..numbers.len() {
@@ -89,7 +89,7 @@ fn flag(is: bool) -> u64
 }
 
 // The greatest number of the volumes that these segments lie on, 0 where there is none.
-pub(crate) fn greatest_below(segments: &[Segment], numbers: &[Run]) -> u64
+pub(crate) fn greatest_below(segments: &[Segment], numbers: &[ExtentSpan]) -> u64
     ensures { result ≡ greatest_segment numbers.now segments.now }
 {
     let mut best = 0;
@@ -100,7 +100,7 @@ pub(crate) fn greatest_below(segments: &[Segment], numbers: &[Run]) -> u64
     best
 }
 
-fn greatest_of_legs(legs: &[Leg], numbers: &[Run]) -> u64
+fn greatest_of_legs(legs: &[Leg], numbers: &[ExtentSpan]) -> u64
     ensures { result ≡ greatest_leg numbers.now legs.now }
 {
     let mut best = 0;
@@ -111,7 +111,7 @@ fn greatest_of_legs(legs: &[Leg], numbers: &[Run]) -> u64
 }
 
 // The number of a logical volume, and 0 for a physical one.
-fn number_on(on: On, numbers: &[Run]) -> u64
+fn number_on(on: On, numbers: &[ExtentSpan]) -> u64
     ensures { result ≡ told_on numbers.now on }
 {
     match on {

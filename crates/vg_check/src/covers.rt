@@ -3,10 +3,10 @@ ghost use Rattle.std.specs.Prelude.{◌<◌, ◌+◌, ◌↔◌, ℕ, IsTrue, Al
 ghost use Rattle.volume_rules.specs.Sorting.{CanBeSorted, EndsBefore};
 ghost use Rattle.vg_check.specs.Covers.{EndsWithin, IsCovered};
 
-use meta_model::Run;
+use meta_model::ExtentSpan;
 
 // Whether each of the first extents of a volume, so many, lies in one of these runs.
-pub(crate) fn cover(runs: &[Run], on: u64, extents: u64) -> bool
+pub(crate) fn cover(runs: &[ExtentSpan], on: u64, extents: u64) -> bool
     requires sortable { All CanBeSorted runs.now }
     requires apart { AllPairs EndsBefore runs.now }
     requires within { All (EndsWithin on extents) runs.now }

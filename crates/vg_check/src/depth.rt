@@ -9,11 +9,11 @@ ghost use Rattle.vg_check.specs.Hidden.{LegsAreHidden, OnIsHidden, VolumesBelowA
 
 use crate::climb::{Climb, climb_five, greatest_below};
 use crate::open_group::OpenGroup;
-use meta_model::{Leg, On, Run, Segment};
+use meta_model::{ExtentSpan, Leg, On, Segment};
 
 // Whether each volume that a leg names is hidden, and each way down from it ends: it has at most four volumes, and at most
 // three beside the PVMOVE volume.
-pub(crate) fn depth_is_allowed(group: &OpenGroup, runs: &mut Vec<Run>) -> bool
+pub(crate) fn depth_is_allowed(group: &OpenGroup, runs: &mut Vec<ExtentSpan>) -> bool
     requires below { KeepsBelow 11 group.now }
     requires room { run_room group.now.lvs ≤ vec_len runs.old }
     ensures depth { IsTrue result ↔ DepthIsAtMostThree group.now }
@@ -23,7 +23,7 @@ pub(crate) fn depth_is_allowed(group: &OpenGroup, runs: &mut Vec<Run>) -> bool
 }
 
 // Whether ways down from the volumes that legs name end.
-fn ways_are_short(group: &OpenGroup, runs: &mut [Run]) -> bool
+fn ways_are_short(group: &OpenGroup, runs: &mut [ExtentSpan]) -> bool
     requires below { KeepsBelow 11 group.now }
     requires room { run_room group.now.lvs ≤ length runs.old }
     ensures { IsTrue result ↔ WaysAreShort group.now }
@@ -34,7 +34,7 @@ fn ways_are_short(group: &OpenGroup, runs: &mut [Run]) -> bool
 }
 
 // Whether no number of a volume that a leg names is greater after five rounds.
-fn climbs_at_most(group: &OpenGroup, climb: Climb, most: u64, numbers: &mut [Run]) -> bool
+fn climbs_at_most(group: &OpenGroup, climb: Climb, most: u64, numbers: &mut [ExtentSpan]) -> bool
     requires below { KeepsBelow 11 group.now }
     requires long { length numbers.old ≡ length group.now.lvs }
     ensures { IsTrue result ↔ ClimbsAtMost group.now climb most }
@@ -43,7 +43,7 @@ fn climbs_at_most(group: &OpenGroup, climb: Climb, most: u64, numbers: &mut [Run
     named_are_at_most(group, numbers, most)
 }
 
-fn named_are_at_most(group: &OpenGroup, numbers: &[Run], most: u64) -> bool
+fn named_are_at_most(group: &OpenGroup, numbers: &[ExtentSpan], most: u64) -> bool
     ensures { IsTrue result ↔ ((lv : ℕ) → lv < length group.now.lvs → greatest (map (told numbers.now) (named_by group.now lv)) ≤ most) }
 {
     for number in 0..group.lv_count() {

@@ -11,19 +11,19 @@ ghost use Rattle.vg_check.specs.Ids.{kind_ids, IdsDifferAt, IdsStandApart, IsSor
 use crate::block::{has_id, neighbours_differ, number_block, sort_by_id};
 use crate::kind::{Kind, count, id_at};
 use crate::open_group::OpenGroup;
-use meta_model::Run;
+use meta_model::ExtentSpan;
 
 // The volumes of a block where there is little room.
 const FEW: usize = 64;
 
-const NO_RUN: Run = Run {
+const NO_RUN: ExtentSpan = ExtentSpan {
     on: 0,
     first: 0,
     count: 0,
 };
 
 // Whether no id of the group stands twice.
-pub(crate) fn ids_differ(group: &OpenGroup, runs: &mut Vec<Run>) -> bool
+pub(crate) fn ids_differ(group: &OpenGroup, runs: &mut Vec<ExtentSpan>) -> bool
     ensures differ { IsTrue result ↔ IdsDiffer group.now }
     ensures kept { vec_len runs.new ≡ vec_len runs.old }
 {
@@ -36,7 +36,7 @@ pub(crate) fn ids_differ(group: &OpenGroup, runs: &mut Vec<Run>) -> bool
 }
 
 // The same by blocks of this length.
-fn both_differ(group: &OpenGroup, block: &mut [Run]) -> bool
+fn both_differ(group: &OpenGroup, block: &mut [ExtentSpan]) -> bool
     requires { 1 ≤ length block.old }
     ensures { IsTrue result ↔ IdsDiffer group.now }
 {
@@ -44,7 +44,7 @@ fn both_differ(group: &OpenGroup, block: &mut [Run]) -> bool
 }
 
 // Whether the ids of the volumes of this kind differ from each other, and from those of the group and of an earlier kind.
-fn kind_differs(group: &OpenGroup, kind: Kind, block: &mut [Run]) -> bool
+fn kind_differs(group: &OpenGroup, kind: Kind, block: &mut [ExtentSpan]) -> bool
     requires { 1 ≤ length block.old }
     ensures { IsTrue result ↔ IdsStandApart group.now kind 0 (length (kind_ids group.now kind)) }
 {
@@ -66,7 +66,13 @@ fn kind_differs(group: &OpenGroup, kind: Kind, block: &mut [Run]) -> bool
 
 // Whether the ids of the volumes with these numbers differ from each other, from those of later ones, and from those of
 // the group and of an earlier kind.
-fn block_differs(group: &OpenGroup, kind: Kind, from: usize, to: usize, block: &mut [Run]) -> bool
+fn block_differs(
+    group: &OpenGroup,
+    kind: Kind,
+    from: usize,
+    to: usize,
+    block: &mut [ExtentSpan],
+) -> bool
     requires long { from + length block.old ≡ to }
     requires within { to ≤ length (kind_ids group.now kind) }
     ensures { IsTrue result ↔ IdsStandApart group.now kind from to }
@@ -77,7 +83,7 @@ fn block_differs(group: &OpenGroup, kind: Kind, from: usize, to: usize, block: &
 }
 
 // The same of a block in order, whose volumes end there.
-fn sorted_block_differs(group: &OpenGroup, kind: Kind, to: usize, block: &[Run]) -> bool
+fn sorted_block_differs(group: &OpenGroup, kind: Kind, to: usize, block: &[ExtentSpan]) -> bool
     requires { IsSortedById group.now kind block.now }
     ensures { IsTrue result ↔ (AllAdjacentBelow (IdsDifferAt group.now kind) block.now (length block.now) × NoneHas group.now kind block.now kind to × NoneBeforeHas group.now kind block.now) }
 {
@@ -87,7 +93,7 @@ fn sorted_block_differs(group: &OpenGroup, kind: Kind, to: usize, block: &[Run])
 }
 
 // Whether neither the group nor a volume of an earlier kind has an id of the block.
-fn none_before_has(group: &OpenGroup, kind: Kind, block: &[Run]) -> bool
+fn none_before_has(group: &OpenGroup, kind: Kind, block: &[ExtentSpan]) -> bool
     requires { IsSortedById group.now kind block.now }
     ensures { IsTrue result ↔ NoneBeforeHas group.now kind block.now }
 {
@@ -101,7 +107,7 @@ fn none_before_has(group: &OpenGroup, kind: Kind, block: &[Run]) -> bool
 }
 
 // Whether no volume of the other kind has an id of the block, from this number on.
-fn none_has(group: &OpenGroup, kind: Kind, block: &[Run], other: Kind, from: usize) -> bool
+fn none_has(group: &OpenGroup, kind: Kind, block: &[ExtentSpan], other: Kind, from: usize) -> bool
     requires { IsSortedById group.now kind block.now }
     ensures { IsTrue result ↔ NoneHas group.now kind block.now other from }
 {

@@ -11,10 +11,10 @@ use crate::extents::extents;
 use crate::move_segments::move_from_one;
 use crate::open_group::OpenGroup;
 use lvm_name::VolumeName;
-use meta_model::{Lv, Run};
+use meta_model::{ExtentSpan, Lv};
 
 // Whether there is one PVMOVE volume at most, and it is a move.
-pub(crate) fn move_is_allowed(group: &OpenGroup, runs: &mut Vec<Run>) -> bool
+pub(crate) fn move_is_allowed(group: &OpenGroup, runs: &mut Vec<ExtentSpan>) -> bool
     requires below { KeepsBelow 13 group.now }
     requires room { run_room group.now.lvs ≤ vec_len runs.old }
     ensures allowed { IsTrue result ↔ PvmoveIsAllowed group.now }
@@ -40,7 +40,7 @@ fn none_moves(group: &OpenGroup, from: usize) -> bool
 }
 
 // Whether the volume is a move.
-fn is_move(group: &OpenGroup, number: usize, runs: &mut [Run]) -> bool
+fn is_move(group: &OpenGroup, number: usize, runs: &mut [ExtentSpan]) -> bool
     requires below { KeepsBelow 13 group.now }
     requires room { run_room group.now.lvs ≤ length runs.old }
     requires within { number < length group.now.lvs }
@@ -60,7 +60,7 @@ fn looks_like_move(name: &VolumeName, lv: &Lv) -> bool
 }
 
 // Whether each extent of the volume lies in a leg.
-fn is_used_whole(group: &OpenGroup, number: usize, runs: &mut [Run]) -> bool
+fn is_used_whole(group: &OpenGroup, number: usize, runs: &mut [ExtentSpan]) -> bool
     requires below { KeepsBelow 13 group.now }
     requires room { run_room group.now.lvs ≤ length runs.old }
     requires within { number < length group.now.lvs }

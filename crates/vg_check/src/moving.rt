@@ -6,10 +6,10 @@ ghost use Rattle.vg_check.specs.Marks.{LockedAreMarked};
 
 use crate::climb::{Climb, climb_five};
 use crate::open_group::OpenGroup;
-use meta_model::Run;
+use meta_model::ExtentSpan;
 
 // Whether from each locked volume a way down meets the PVMOVE volume.
-pub(crate) fn locked_volumes_move(group: &OpenGroup, runs: &mut Vec<Run>) -> bool
+pub(crate) fn locked_volumes_move(group: &OpenGroup, runs: &mut Vec<ExtentSpan>) -> bool
     requires below { KeepsBelow 14 group.now }
     requires room { run_room group.now.lvs ≤ vec_len runs.old }
     ensures locked { IsTrue result ↔ LockedVolumesMove group.now }
@@ -18,7 +18,7 @@ pub(crate) fn locked_volumes_move(group: &OpenGroup, runs: &mut Vec<Run>) -> boo
     marks_tell(group, runs)
 }
 
-fn marks_tell(group: &OpenGroup, runs: &mut [Run]) -> bool
+fn marks_tell(group: &OpenGroup, runs: &mut [ExtentSpan]) -> bool
     requires below { KeepsBelow 14 group.now }
     requires room { run_room group.now.lvs ≤ length runs.old }
     ensures { IsTrue result ↔ LockedVolumesMove group.now }
@@ -29,7 +29,7 @@ fn marks_tell(group: &OpenGroup, runs: &mut [Run]) -> bool
 }
 
 // Whether the number of each locked volume isn't 0.
-fn locked_are_marked(group: &OpenGroup, numbers: &[Run]) -> bool
+fn locked_are_marked(group: &OpenGroup, numbers: &[ExtentSpan]) -> bool
     requires { length numbers.now ≡ length group.now.lvs }
     ensures { IsTrue result ↔ LockedAreMarked group.now numbers.now (length numbers.now) }
 {

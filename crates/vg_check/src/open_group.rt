@@ -4,7 +4,7 @@ ghost use Rattle.meta_model.specs.Runs.{run_room};
 
 use lvm_id::LvmId;
 use lvm_name::GroupName;
-use meta_model::{Group, LvRows, LvTable, PvTable, Run, VgStatus};
+use meta_model::{ExtentSpan, Group, LvRows, LvTable, PvTable, VgStatus};
 use std::marker::Model;
 
 // The parts of a group, so that a check can read its volumes while it sorts runs. Contracts see the group.
@@ -42,7 +42,7 @@ impl Model for OpenGroup {
 }
 
 // The parts of the group, and its room: a run for each leg and each logical volume. What the runs are isn't said.
-pub(crate) fn open(group: Group) -> (OpenGroup, Vec<Run>)
+pub(crate) fn open(group: Group) -> (OpenGroup, Vec<ExtentSpan>)
     ensures group { result.0 ≡ group }
     ensures room { run_room group.lvs ≤ vec_len result.1 }
 {
@@ -75,7 +75,7 @@ pub(crate) fn open(group: Group) -> (OpenGroup, Vec<Run>)
 }
 
 // The group of these parts, with that room.
-pub(crate) fn close(group: OpenGroup, runs: Vec<Run>) -> Group
+pub(crate) fn close(group: OpenGroup, runs: Vec<ExtentSpan>) -> Group
     requires { run_room group.lvs ≤ vec_len runs }
     ensures { result ≡ group }
 {

@@ -19,11 +19,11 @@ use crate::numbers::numbers_are_allowed;
 use crate::offence::{Offence, refused};
 use crate::open_group::OpenGroup;
 use crate::stripes::uneven_stripes;
-use meta_model::Run;
+use meta_model::ExtentSpan;
 use volume_rules::Rule;
 
 // Examines all rules in their order. An error is the first that the group breaks, with its places.
-pub(crate) fn examine(group: &OpenGroup, runs: &mut Vec<Run>) -> Result<(), Offence>
+pub(crate) fn examine(group: &OpenGroup, runs: &mut Vec<ExtentSpan>) -> Result<(), Offence>
     requires { run_room group.now.lvs ≤ vec_len runs.old }
     ensures first { MatchResult result (λ _. IsAccepted group.now) (IsFirstOffence group.now) }
     ensures kept { vec_len runs.new ≡ vec_len runs.old }
@@ -35,7 +35,7 @@ pub(crate) fn examine(group: &OpenGroup, runs: &mut Vec<Run>) -> Result<(), Offe
 }
 
 // Numbers, ids, and how many volumes and segments there are.
-fn examine_group(group: &OpenGroup, runs: &mut Vec<Run>) -> Result<(), Offence>
+fn examine_group(group: &OpenGroup, runs: &mut Vec<ExtentSpan>) -> Result<(), Offence>
     requires { run_room group.now.lvs ≤ vec_len runs.old }
     ensures first { MatchResult result (λ _. KeepsBelow 5 group.now) (IsFirstOffence group.now) }
     ensures kept { vec_len runs.new ≡ vec_len runs.old }
@@ -76,7 +76,7 @@ fn examine_volumes(group: &OpenGroup) -> Result<(), Offence>
 }
 
 // What legs lie on, and how deep volumes lie.
-fn examine_legs(group: &OpenGroup, runs: &mut Vec<Run>) -> Result<(), Offence>
+fn examine_legs(group: &OpenGroup, runs: &mut Vec<ExtentSpan>) -> Result<(), Offence>
     requires below { KeepsBelow 9 group.now }
     requires room { run_room group.now.lvs ≤ vec_len runs.old }
     ensures first { MatchResult result (λ _. KeepsBelow 13 group.now) (IsFirstOffence group.now) }
@@ -98,7 +98,7 @@ fn examine_legs(group: &OpenGroup, runs: &mut Vec<Run>) -> Result<(), Offence>
 }
 
 // The move, and the volumes that are locked for it.
-fn examine_moves(group: &OpenGroup, runs: &mut Vec<Run>) -> Result<(), Offence>
+fn examine_moves(group: &OpenGroup, runs: &mut Vec<ExtentSpan>) -> Result<(), Offence>
     requires below { KeepsBelow 13 group.now }
     requires room { run_room group.now.lvs ≤ vec_len runs.old }
     ensures first { MatchResult result (λ _. IsAccepted group.now) (IsFirstOffence group.now) }

@@ -45,7 +45,7 @@ touched_is size offset count whole aligned fits = omega arith
 
 pub is_placed : (text : List ℕ) (a : Area × Option Locn) → CanTake a → need (length text + 1) ≤ room a.0.size a.1 → IsPlaced text a
 is_placed text a take has_room =
-    let next : IsNext a.0.size a.1 (length text + 1) (place_of text a) = record { offset_xl = refl; sectors_xl = refl; has_room = has_room } in
+    let next : IsNext a.0.size a.1 (length text + 1) (place_of text a) = record { offset_is = refl; sectors_is = refl; has_room = has_room } in
     let inside : IsNoneOrInside a.0.size a.1 = none_or_inside a.0.size a.1 take.1 in
     let r : IsInRing a.0.size (place_of text a) = in_ring a.0.size a.1 (length text + 1) (place_of text a) take.0.size_is_whole take.0.has_ring inside (omega arith) next in
     record {

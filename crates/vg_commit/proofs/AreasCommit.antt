@@ -160,7 +160,7 @@ header_covers a pv sector good h =
 names_committed : (a : Area) (committed precommitted : Option Locn) (value : List ℕ) → IsHeader value (header_of a committed precommitted) → Names a committed value
 names_committed a None precommitted value h = inl (record { sound = h.sound; none = h.committed }, λ bit. true≢false (sym (h.ignored.1 bit)))
 names_committed a (Some locn) precommitted value h = (
-  record { of_area = record { sound = h.sound; start_xl = h.start; size_xl = h.size }; inside = subst (IsInside a.size) h.committed.0 h.committed.1 },
+  record { of_area = record { sound = h.sound; start_is = h.start; size_is = h.size }; inside = subst (IsInside a.size) h.committed.0 h.committed.1 },
   λ bit. true≢false (sym (h.ignored.1 bit)),
   h.committed.0,
 )

@@ -2,7 +2,7 @@
 use Rattle.std.proofs.Common.{ℕ, List, All, Option, Some, None, IfSome, arith}
 use Rattle.disk_model.specs.Durability.{AllLeave}
 use Rattle.disk_model.specs.State.{State}
-use Rattle.disk_model.specs.Steps.{Step, Told, steps_on}
+use Rattle.disk_model.specs.Steps.{Step, Record, steps_on}
 use Rattle.disk_model.proofs.WhereTold.{told_after, told_weaker}
 use Rattle.disk_batch.specs.declared.batch.Batch.{Batch}
 use Rattle.disk_batch.specs.Along.{AllAlong, GoesElsewhere}
@@ -20,11 +20,11 @@ module _ (c : Commit) where
   Sized = AreSized (old_reading c.bytes) c.areas
 
   -- before it is published a crash leaves the old reading
-  before_leaves : (headers : Option Batch) (view : View) (told : Told) → HoldsBefore c headers view told → AllLeave (is_own c) (IsOld c) told
+  before_leaves : (headers : Option Batch) (view : View) (told : Record) → HoldsBefore c headers view told → AllLeave (is_own c) (IsOld c) told
   before_leaves (Some headers) view told h = h.0.leaves
   before_leaves None view told h = weaker c (IsOldWithTexts c) (IsOld c) (with_texts_old c) told h.0.leaves
 
-  before_steps : (headers : Option Batch) (view : View) (newer : List Step) (told : Told) → All (IsElsewhere (is_own c) view.tags) newer → HoldsBefore c headers view told → HoldsBefore c headers view (steps_on newer told)
+  before_steps : (headers : Option Batch) (view : View) (newer : List Step) (told : Record) → All (IsElsewhere (is_own c) view.tags) newer → HoldsBefore c headers view told → HoldsBefore c headers view (steps_on newer told)
   before_steps (Some headers) view newer told else h = (
     batch_steps (is_own c) (is_text c) (IsOld c) (IsNew c) view newer told else h.0,
     λ k d within. flushes_steps (is_own c) view c.from _ newer told else (h.1 k d within),
@@ -34,14 +34,14 @@ module _ (c : Commit) where
     λ k d within. flushed_steps (is_own c) c.from _ newer told (h.1 k d within),
   )
 
-  rest_steps : (Now : ℕ → ℕ → List ℕ → Type 0) (tags : List ℕ) (newer : List Step) (told : Told) → All (IsElsewhere (is_own c) tags) newer → Rests c Now told → Rests c Now (steps_on newer told)
+  rest_steps : (Now : ℕ → ℕ → List ℕ → Type 0) (tags : List ℕ) (newer : List Step) (told : Record) → All (IsElsewhere (is_own c) tags) newer → Rests c Now told → Rests c Now (steps_on newer told)
   rest_steps Now tags newer told else h = record { sized = h.sized; leaves = leave_steps (is_own c) Now tags newer told else h.leaves; still = still_steps (is_own c) tags newer told else h.still }
 
-  flushed_more : (newer : List Step) (told : Told) → HaveFlushed c told.steps → HaveFlushed c (steps_on newer told).steps
+  flushed_more : (newer : List Step) (told : Record) → HaveFlushed c told.steps → HaveFlushed c (steps_on newer told).steps
   flushed_more newer told h k d within = flushed_steps (is_own c) c.from _ newer told (h k d within)
 
   -- what is told, once the shelf has gone on elsewhere
-  told_on : (P : Told → Type 0) (tags : List ℕ) (old new : State) (else : GoesElsewhere (is_own c) tags old new) → ((t : Told) → P t → P (steps_on else.newer t)) → IfSome old.told P → IfSome new.told P
+  told_on : (P : Record → Type 0) (tags : List ℕ) (old new : State) (else : GoesElsewhere (is_own c) tags old new) → ((t : Record) → P t → P (steps_on else.newer t)) → IfSome old.told P → IfSome new.told P
   told_on P tags old new else step h = told_after (steps_on else.newer) P P old.told new.told else.told (λ t is p. step t p) h
 
   module _ (sound : IsSound c) (tags : List ℕ) (old new : State) (else : GoesElsewhere (is_own c) tags old new) where

@@ -5,7 +5,7 @@ use Rattle.disk_model.specs.Calls.{Completes}
 use Rattle.disk_model.specs.Durability.{AllLeave}
 use Rattle.disk_model.specs.InFlight.{IsAmong}
 use Rattle.disk_model.specs.State.{IsLawful, State}
-use Rattle.disk_model.specs.Steps.{Told, steps_on}
+use Rattle.disk_model.specs.Steps.{Record, steps_on}
 use Rattle.disk_model.proofs.WhereTold.{told_after, told_weaker}
 use Rattle.disk_batch.specs.declared.batching.BatchStep.{BatchStep}
 use Rattle.disk_batch.specs.Alone.{lost_of}
@@ -23,7 +23,7 @@ use Rattle.vg_commit.specs.CommitHolds.{Commit, HaveFlushed, is_own}
 use Rattle.vg_commit.specs.SectorReading.{AreSized, old_reading}
 
 -- the disks that were flushed were so once the shelf has gone on
-pub flushed_along : (c : Commit) (P : Told → Type 0) (old new : State) → AllAlong P old new → IfSome old.told (λ told. HaveFlushed c told.steps) → IfSome new.told (λ told. HaveFlushed c told.steps)
+pub flushed_along : (c : Commit) (P : Record → Type 0) (old new : State) → AllAlong P old new → IfSome old.told (λ told. HaveFlushed c told.steps) → IfSome new.told (λ told. HaveFlushed c told.steps)
 flushed_along c P old new h flushed =
     told_after (steps_on h.newer) (λ told. HaveFlushed c told.steps) (λ told. HaveFlushed c told.steps) old.told new.told h.told (λ t is f k d within. flushed_steps (is_own c) c.from _ h.newer t (f k d within)) flushed
 
@@ -37,10 +37,10 @@ pub record Took (c : Commit) (target : ℕ → ℕ → Bool) (Now Goal : ℕ →
   pub flush_stays : KeepsFlush flush came
 
 module _ (c : Commit) (target : ℕ → ℕ → Bool) (Now Goal : ℕ → ℕ → List ℕ → Type 0) (before old mid : State) (view : View) (done : Done) (lawful : IsLawful old) (completes : Completes before done old) where
-  abbrev Leaves : Told → Type 0
+  abbrev Leaves : Record → Type 0
   Leaves = AllLeave (is_own c) Now
 
-  abbrev Sized : Told → Type 0
+  abbrev Sized : Record → Type 0
   Sized told = AreSized (old_reading c.bytes) c.areas
 
   leaves_before : (state : State) (v : View) → Holds (is_own c) target Now Goal v state → IfSome state.told Leaves

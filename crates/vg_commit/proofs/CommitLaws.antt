@@ -7,7 +7,7 @@ use Rattle.disk_model.specs.InFlight.{IsAmong}
 use Rattle.disk_model.specs.Moments.{EachImage}
 use Rattle.disk_model.specs.Record.{IsRecord}
 use Rattle.disk_model.specs.State.{IsLawful, State}
-use Rattle.disk_model.specs.Steps.{Told}
+use Rattle.disk_model.specs.Steps.{Record}
 use Rattle.disk_model.proofs.WhereTold.{told_both, told_weaker}
 use Rattle.disk_batch.specs.declared.batch.Batch.{Batch}
 use Rattle.disk_batch.specs.declared.batching.BatchStep.{BatchStep}
@@ -50,11 +50,11 @@ started_as old new view puts puts' disks disks' same_puts same_disks starts =
 as_it_was : {V : Type 0} (P : V → State → Type 0) (old new : State) (before after : V) → (new ≡ old) × (after ≡ before) → P before old → P after new
 as_it_was {V} P old new before after same h = subst (λ (s : State). P after s) (sym same.0) (subst (λ (v : V). P v old) (sym same.1) h)
 
-along_to : (P : Told → Type 0) (old mid new : State) → new ≡ mid → AllAlong P old mid → AllAlong P old new
+along_to : (P : Record → Type 0) (old mid new : State) → new ≡ mid → AllAlong P old mid → AllAlong P old new
 along_to P old mid new same h = subst (λ (s : State). AllAlong P old s) (sym same) h
 
 -- three things that are told
-told_three : (P Q R : Told → Type 0) (o : Option Told) → IfSome o P → IfSome o Q → IfSome o R → IfSome o (λ told. P told × (Q told × R told))
+told_three : (P Q R : Record → Type 0) (o : Option Record) → IfSome o P → IfSome o Q → IfSome o R → IfSome o (λ told. P told × (Q told × R told))
 told_three P Q R o p q r = told_both P (λ told. Q told × R told) o p (told_both Q R o q r)
 
 -- ---- it begins
@@ -63,8 +63,8 @@ pub begins : BeginsHolding
 begins prepared text areas bytes flush old new view lawful prep starts h =
     let c : Commit = begun_in old text areas bytes flush in
     let sound : IsSound c = record { committed = prep.committed; room = prep.room; read = prep.read } in
-    let Sized : Told → Type 0 = λ told. AreSized (old_reading bytes) areas in
-    let Leaves : Told → Type 0 = AllLeave (is_own c) (IsOld c) in
+    let Sized : Record → Type 0 = λ told. AreSized (old_reading bytes) areas in
+    let Leaves : Record → Type 0 = AllLeave (is_own c) (IsOld c) in
     let some = texts_some text areas prep.committed.some in
     let texts : Starts old (texts_in c) (disks_in flush) view.batch new = started_as old new view.batch _ _ _ _ prep.texts prep.text_disks starts.0 in
     let facts = told_both (λ told. IsRecord told.steps) (λ told. EachImage (AllShow (old_reading bytes) areas) told × AreStill (in_areas areas) told) old.told lawful.follows h in
@@ -91,13 +91,13 @@ begins prepared text areas bytes flush old new view lawful prep starts h =
     (subst (λ (v : PreView). PreHolds c v new) (sym starts.1) pre, along_where (AreSized (old_reading bytes) areas) Leaves (ShowsOld c) old new (λ is t leaves. shows_old c sound t is leaves) sized along)
 
 module _ (c : Commit) where
-  abbrev Sized : Told → Type 0
+  abbrev Sized : Record → Type 0
   Sized told = AreSized (old_reading c.bytes) c.areas
 
-  abbrev Leaves : (ℕ → ℕ → List ℕ → Type 0) → Told → Type 0
+  abbrev Leaves : (ℕ → ℕ → List ℕ → Type 0) → Record → Type 0
   Leaves Now = AllLeave (is_own c) Now
 
-  abbrev Flushed : Told → Type 0
+  abbrev Flushed : Record → Type 0
   Flushed told = HaveFlushed c told.steps
 
   -- all shows the old entries, all along

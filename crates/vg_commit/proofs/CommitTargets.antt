@@ -3,7 +3,7 @@ use Rattle.std.proofs.Common.{◌≡◌, ◌<◌, ℕ, zero, suc, true, false, I
 use Rattle.std.proofs.lemmas.Bool.{cases_Bool, false_from_ne_true, or_left, or_right, true≢false}
 use Rattle.sector_base.specs.Spans.{covers}
 use Rattle.disk_model.specs.Durability.{AllLeave, EachOnlyLeaves, OnlyLeaves}
-use Rattle.disk_model.specs.Steps.{Told}
+use Rattle.disk_model.specs.Steps.{Record}
 use Rattle.disk_model.specs.Submitting.{BringAt}
 use Rattle.disk_batch.specs.InTurn.{Put}
 use Rattle.disk_batch.specs.Rounds.{WriteTargets}
@@ -35,14 +35,14 @@ outside reading areas pv sector value out k d within inside = absurd (true≢fal
 
 module _ (c : Commit) where
   -- so what is asked of the areas' sectors is asked of all
-  each_leaves : (Now : ℕ → ℕ → List ℕ → Type 0) → ((pv sector : ℕ) (value : List ℕ) → is_own c pv sector ≡ false → Now pv sector value) → (told : Told) → AllLeave (is_own c) Now told → EachOnlyLeaves Now told
+  each_leaves : (Now : ℕ → ℕ → List ℕ → Type 0) → ((pv sector : ℕ) (value : List ℕ) → is_own c pv sector ≡ false → Now pv sector value) → (told : Record) → AllLeave (is_own c) Now told → EachOnlyLeaves Now told
   each_leaves Now free told leaves pv sector =
       elim (cases_Bool (is_own c pv sector)) [
         | inl own ↦ leaves pv sector own
         | inr out ↦ record { each = λ write value may. free pv sector value out }
       ]
 
-  pub weaker : (P Q : ℕ → ℕ → List ℕ → Type 0) → ((pv sector : ℕ) (value : List ℕ) → P pv sector value → Q pv sector value) → (told : Told) → AllLeave (is_own c) P told → AllLeave (is_own c) Q told
+  pub weaker : (P Q : ℕ → ℕ → List ℕ → Type 0) → ((pv sector : ℕ) (value : List ℕ) → P pv sector value → Q pv sector value) → (told : Record) → AllLeave (is_own c) P told → AllLeave (is_own c) Q told
   weaker P Q w told leaves pv sector own = record { each = λ write value may. w pv sector value ((leaves pv sector own).each write value may) }
 
   pub with_texts_old : (pv sector : ℕ) (value : List ℕ) → IsOldWithTexts c pv sector value → IsOld c pv sector value
@@ -94,7 +94,7 @@ module _ (c : Commit) where
     }
 
     -- once the texts are there
-    pub texts_there : (told : Told) → AllLeave (is_own c) (IsOld c) told → ((pv sector : ℕ) → IsTrue (is_own c pv sector) → IsTrue (is_text c pv sector) → OnlyLeaves told pv sector (IsNew c pv sector)) → AllLeave (is_own c) (IsOldWithTexts c) told
+    pub texts_there : (told : Record) → AllLeave (is_own c) (IsOld c) told → ((pv sector : ℕ) → IsTrue (is_own c pv sector) → IsTrue (is_text c pv sector) → OnlyLeaves told pv sector (IsNew c pv sector)) → AllLeave (is_own c) (IsOldWithTexts c) told
     texts_there told leaves brought pv sector own = record {
       each = λ write value may. (
         (leaves pv sector own).each write value may,
@@ -107,7 +107,7 @@ module _ (c : Commit) where
     }
 
     -- and once the new headers are
-    pub headers_there : (told : Told) → AllLeave (is_own c) (IsEither c) told → ((pv sector : ℕ) → IsTrue (is_own c pv sector) → IsTrue (is_header c pv sector) → OnlyLeaves told pv sector (IsNew c pv sector)) → AllLeave (is_own c) (IsNew c) told
+    pub headers_there : (told : Record) → AllLeave (is_own c) (IsEither c) told → ((pv sector : ℕ) → IsTrue (is_own c pv sector) → IsTrue (is_header c pv sector) → OnlyLeaves told pv sector (IsNew c pv sector)) → AllLeave (is_own c) (IsNew c) told
     headers_there told leaves brought pv sector own = record {
       each = λ write value may.
           elim (cases_Bool (is_header c pv sector)) [
@@ -124,15 +124,15 @@ module _ (c : Commit) where
     one : HasOneHeader (is_header c) c.areas
     one k d within sector inside is = one_header c.text c.areas c.bytes sound.committed.take sound.committed.apart sound.room sound.read k d within sector inside is
 
-    pub shows_old : (told : Told) → AreSized (old_reading c.bytes) c.areas → AllLeave (is_own c) (IsOld c) told → ShowsOld c told
+    pub shows_old : (told : Record) → AreSized (old_reading c.bytes) c.areas → AllLeave (is_own c) (IsOld c) told → ShowsOld c told
     shows_old told sized leaves =
         images_show (old_reading c.bytes) c.areas sound.committed.take sized told (each_leaves (IsOld c) (λ pv sector value out. outside (old_reading c.bytes) c.areas pv sector value out) told leaves)
 
-    pub shows_new : (told : Told) → AllLeave (is_own c) (IsNew c) told → ShowsNew c told
+    pub shows_new : (told : Record) → AllLeave (is_own c) (IsNew c) told → ShowsNew c told
     shows_new told leaves =
         images_show (new_reading c.text) c.areas sound.committed.take sized_new told (each_leaves (IsNew c) (λ pv sector value out. outside (new_reading c.text) c.areas pv sector value out) told leaves)
 
-    pub shows_either : (told : Told) → AreSized (old_reading c.bytes) c.areas → AllLeave (is_own c) (IsEither c) told → ShowsEither c told
+    pub shows_either : (told : Record) → AreSized (old_reading c.bytes) c.areas → AllLeave (is_own c) (IsEither c) told → ShowsEither c told
     shows_either told sized leaves =
         images_show_either (old_reading c.bytes) (new_reading c.text) c.areas (is_header c) sound.committed.take sized sized_new one told
         (each_leaves (IsEither c)

@@ -57,7 +57,7 @@ adds_area text area committed place count sum old new bytes same_bytes count_is 
     let long : count ≡ length text + 1 = count_is ∙ ap (λ (l : List ℕ). length l + 1) same_bytes in
     let entry : Locn = record { offset = place.offset; size = count; sum = sum } in
     let same : entry ≡ new_entry text (area, committed) =
-    ap (λ (o : ℕ). record { offset = o; size = count; sum = sum }) next.offset_xl
+    ap (λ (o : ℕ). record { offset = o; size = count; sum = sum }) next.offset_is
     ∙ ap (λ (n : ℕ). record { offset = next_offset area.size committed; size = n; sum = sum }) long
     ∙ ap (λ (s : ℕ). record { offset = next_offset area.size committed; size = length text + 1; sum = s }) sum_is
     in
@@ -65,8 +65,8 @@ adds_area text area committed place count sum old new bytes same_bytes count_is 
     let in_area : IsInside area.size (new_entry text (area, committed)) = (entry_inside text (area, committed) (is_placed text (area, committed) (good, if_inside area.size committed inside) has_room)).0 in
     record {
       texts =
-          texts ∙ ap (λ (o : ℕ). old.texts.items ++ puts_on (ring_spans area o (length text + 1)) (text_sectors text place.sectors)) next.offset_xl
-          ∙ ap (λ (s : ℕ). old.texts.items ++ puts_on (ring_spans area (next_offset area.size committed) (length text + 1)) (text_sectors text s)) (next.sectors_xl ∙ ap need long);
+          texts ∙ ap (λ (o : ℕ). old.texts.items ++ puts_on (ring_spans area o (length text + 1)) (text_sectors text place.sectors)) next.offset_is
+          ∙ ap (λ (s : ℕ). old.texts.items ++ puts_on (ring_spans area (next_offset area.size committed) (length text + 1)) (text_sectors text s)) (next.sectors_is ∙ ap need long);
       headers = headers ∙ ap (λ (e : Locn). old.headers.items ++ (header_span area, header_bytes (header_of area committed (Some e)) ∷ []) ∷ []) same;
       publish = publish ∙ ap (λ (e : Locn). old.publish.items ++ (header_span area, header_bytes (header_of area (Some e) None) ∷ []) ∷ []) same;
       entries = entries ∙ ap (λ (e : Locn). old.areas.items ++ (area, Some e) ∷ []) same;

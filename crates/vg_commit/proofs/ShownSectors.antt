@@ -4,7 +4,7 @@ use Rattle.std.specs.Prelude.{All}
 use Rattle.std.proofs.Math.Nat.{mod-lt}
 use Rattle.std.proofs.lemmas.List.FromFn.{fill_by_all, get_or-map-range_with_len, length-map-range_with_len}
 use Rattle.sector_base.specs.Spans.{covers}
-use Rattle.disk_model.specs.Steps.{Image, Told, now_after}
+use Rattle.disk_model.specs.Steps.{Image, Record, now_after}
 use Rattle.disk_model.specs.Record.{IsRecord}
 use Rattle.disk_model.specs.Durability.{EachOnlyLeaves}
 use Rattle.disk_model.specs.Moments.{EachImage}
@@ -49,7 +49,7 @@ reads_shows area (Some locn) bytes image good sized reads =
     }
 
 -- what every image shows is read in each sector, whatever a crash leaves
-pub images_read : (reading : Reading) (areas : List (Area × Option Locn)) (told : Told) → IsRecord told.steps → EachImage (AllShow reading areas) told → EachOnlyLeaves (AllRead reading areas) told
+pub images_read : (reading : Reading) (areas : List (Area × Option Locn)) (told : Record) → IsRecord told.steps → EachImage (AllShow reading areas) told → EachOnlyLeaves (AllRead reading areas) told
 images_read reading areas told is shows pv sector =
     leaves_by_images told pv sector (AllRead reading areas pv sector) is
     (λ image im k d within inside.
@@ -77,7 +77,7 @@ image_shows reading areas image take sized reads k d within =
     area_shows reading a image (take k d within).0 (sized k d within) (λ sector inside. reads a.0.pv sector k d within inside)
 
 -- in every image
-pub images_show : (reading : Reading) (areas : List (Area × Option Locn)) → All CanTake areas → AreSized reading areas → (told : Told) → EachOnlyLeaves (AllRead reading areas) told → EachImage (AllShow reading areas) told
+pub images_show : (reading : Reading) (areas : List (Area × Option Locn)) → All CanTake areas → AreSized reading areas → (told : Record) → EachOnlyLeaves (AllRead reading areas) told → EachImage (AllShow reading areas) told
 images_show reading areas take sized told leaves image im = image_shows reading areas image take sized (λ pv sector. (leaves pv sector).each (im pv sector).0 (image pv sector) (im pv sector).1)
 
 -- of an area only the header's sector is written by headers
@@ -109,7 +109,7 @@ module _ (old new : Reading) (areas : List (Area × Option Locn)) (header : ℕ 
     decides (inr h) = inr (area_shows new a image (take k d within).0 (fits_new k d within) (λ sector inside. at_new (h k d within own) sector inside (header a.0.pv sector) refl))
 
   -- each area shows one of the readings, whole
-  pub images_show_either : (told : Told) → EachOnlyLeaves (Published header (AllRead old areas) (AllRead new areas)) told → EachImage (EachShows old new areas) told
+  pub images_show_either : (told : Record) → EachOnlyLeaves (Published header (AllRead old areas) (AllRead new areas)) told → EachImage (EachShows old new areas) told
   images_show_either told leaves image im k d within =
       let reads : (pv sector : ℕ) → Published header (AllRead old areas) (AllRead new areas) pv sector (image pv sector) = λ pv sector. (leaves pv sector).each (im pv sector).0 (image pv sector) (im pv sector).1 in
       decides image reads k d within (reads (get_or areas k d).0.pv ((get_or areas k d).0.start / 512)).0
@@ -119,7 +119,7 @@ sized_shown : (area : Area) (entry : Option Locn) (bytes : List ℕ) (image : Im
 sized_shown area None bytes image inside s = tt
 sized_shown area (Some locn) bytes image inside s = (inside, sym (ap length s.ring) ∙ length-map-range_with_len (text_byte (sectors_of area image) area.size locn.offset) 0 locn.size)
 
-pub sized_old : (bytes : Area × Option Locn → List ℕ) (areas : List (Area × Option Locn)) (told : Told) → IsRecord told.steps → All CanTake areas → EachImage (AllShow (λ (a : Area × Option Locn). (a.1, bytes a)) areas) told → AreSized (λ (a : Area × Option Locn). (a.1, bytes a)) areas
+pub sized_old : (bytes : Area × Option Locn → List ℕ) (areas : List (Area × Option Locn)) (told : Record) → IsRecord told.steps → All CanTake areas → EachImage (AllShow (λ (a : Area × Option Locn). (a.1, bytes a)) areas) told → AreSized (λ (a : Area × Option Locn). (a.1, bytes a)) areas
 sized_old bytes areas told is take shows k d within =
     let a : Area × Option Locn = get_or areas k d in
     sized_shown a.0 a.1 (bytes a) (now_after told.opened told.steps) (take k d within).1 (shows (now_after told.opened told.steps) (now_image told is) k d within)

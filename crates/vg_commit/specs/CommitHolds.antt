@@ -4,7 +4,7 @@ use Rattle.std.specs.Ordering.{nat_cmp}
 use Rattle.std.specs.FinSet as set
 use Rattle.disk_model.specs.Durability.{AllLeave}
 use Rattle.disk_model.specs.State.{State}
-use Rattle.disk_model.specs.Steps.{Step, Told}
+use Rattle.disk_model.specs.Steps.{Step, Record}
 use Rattle.disk_batch.specs.declared.batch.Batch.{Batch}
 use Rattle.disk_batch.specs.Batches.{disks_of, writes_of}
 use Rattle.disk_batch.specs.Faults.{FaultsSince}
@@ -93,13 +93,13 @@ abbrev pub IsAhead : Commit → List Put → Batch → Type 0
 IsAhead commit puts batch = (writes_of batch ≡ puts) × (disks_of batch ≡ disks_in (area_disks commit.areas))
 
 -- while the texts are on their way, and while the headers are that name them
-abbrev pub HoldsBefore : Commit → Option Batch → View → Told → Type 0
+abbrev pub HoldsBefore : Commit → Option Batch → View → Record → Type 0
 HoldsBefore commit (Some headers) batch told = BatchHolds (is_own commit) (is_text commit) (IsOld commit) (IsNew commit) batch told
     × All (λ (pv : ℕ). FlushesSince batch told commit.from pv) (disks_in commit.flush)
 HoldsBefore commit None batch told = BatchHolds (is_own commit) (is_header commit) (IsOldWithTexts commit) (IsOld commit) batch told × HaveFlushed commit told.steps
 
 -- and while the headers are that publish it
-abbrev pub HoldsSince : Commit → View → Told → Type 0
+abbrev pub HoldsSince : Commit → View → Record → Type 0
 HoldsSince commit batch told = BatchHolds (is_own commit) (is_header commit) (IsEither commit) (IsNew commit) batch told × HaveFlushed commit told.steps
 
 -- the disks that the batch on its way flushes
@@ -119,7 +119,7 @@ pub record PreHolds (commit : Commit) (view : PreView) (state : State) : Type 0 
   pub faults : FaultsSince commit.faults view.batch.lost state
 
 -- no write to the areas is in flight, and a crash may leave only this in them
-pub record Rests (commit : Commit) (Now : ℕ → ℕ → List ℕ → Type 0) (told : Told) : Type 0 where
+pub record Rests (commit : Commit) (Now : ℕ → ℕ → List ℕ → Type 0) (told : Record) : Type 0 where
   pub sized : AreSized (old_reading commit.bytes) commit.areas
   pub leaves : AllLeave (is_own commit) Now told
   pub still : AreStill (is_own commit) told

@@ -10,7 +10,7 @@ use Rattle.disk_model.specs.InFlight.{IsAmong}
 use Rattle.disk_model.specs.Moments.{EachImage}
 use Rattle.disk_model.specs.Operations.{work_of}
 use Rattle.disk_model.specs.State.{IsLawful, State}
-use Rattle.disk_model.specs.Steps.{Told, Work}
+use Rattle.disk_model.specs.Steps.{Record, Work}
 use Rattle.disk_model.specs.Submitting.{writes_at}
 use Rattle.disk_batch.specs.Along.{AllAlong, GoesElsewhere}
 use Rattle.disk_batch.specs.Rounds.{AreStill}
@@ -34,15 +34,15 @@ use Rattle.vg_commit.specs.SectorReading.{AllShow, EachShows, new_reading, old_r
 use Rattle.vg_commit.specs.Written.{in_areas}
 
 -- in every image each area shows its old entry and the bytes that stood there
-abbrev pub ShowsOld : Commit → Told → Type 0
+abbrev pub ShowsOld : Commit → Record → Type 0
 ShowsOld commit = EachImage (AllShow (old_reading commit.bytes) commit.areas)
 
 -- each by itself shows, whole, these or the new entry with the text
-abbrev pub ShowsEither : Commit → Told → Type 0
+abbrev pub ShowsEither : Commit → Record → Type 0
 ShowsEither commit = EachImage (EachShows (old_reading commit.bytes) (new_reading commit.text) commit.areas)
 
 -- each shows the new entry with the text
-abbrev pub ShowsNew : Commit → Told → Type 0
+abbrev pub ShowsNew : Commit → Record → Type 0
 ShowsNew commit = EachImage (AllShow (new_reading commit.text) commit.areas)
 
 -- the commit that begins in this state

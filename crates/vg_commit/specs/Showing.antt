@@ -1,7 +1,7 @@
 -- What a metadata area shows in an image: which text its header names, and the text's bytes in its ring.
 use Rattle.std.specs.Prelude.{◌≡◌, ◌⊎◌, ℕ, ◌+◌, ◌/◌, List, Option, None, Some}
 use Rattle.disk_model.specs.Steps.{Image}
-use Rattle.mda_header.specs.declared.entry.Entry.TheVariants.{Nothing, Text, Refused}
+use Rattle.mda_header.specs.declared.entry.HeaderEntry.TheVariants.{Nothing, Text, Refused}
 use Rattle.mda_header.specs.declared.header.Locn.{Locn}
 use Rattle.mda_header.specs.declared.refusal.MdaRefusal.{MdaRefusal}
 use Rattle.mda_header.specs.Header.{IsEntry}

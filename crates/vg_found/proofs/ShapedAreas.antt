@@ -9,8 +9,8 @@ use Rattle.std.proofs.lemmas.List.Elements.{All-nil, All-cons, All-head, All-tai
 use Rattle.std.proofs.lemmas.List.Folds.{find-append}
 use Rattle.std.proofs.lemmas.List.Kept.{AllPairs-cons}
 use Rattle.std.proofs.lemmas.Option.{same_Some}
-use Rattle.mda_header.specs.declared.entry.Entry.{Entry}
-use Rattle.mda_header.specs.declared.entry.Entry.TheVariants.{Ignored, Nothing, Text, Refused}
+use Rattle.mda_header.specs.declared.entry.HeaderEntry.{HeaderEntry}
+use Rattle.mda_header.specs.declared.entry.HeaderEntry.TheVariants.{Ignored, Nothing, Text, Refused}
 use Rattle.mda_header.specs.declared.header.Locn.{Locn}
 use Rattle.mda_header.specs.Header.{IsInside}
 use Rattle.mda_ring.specs.declared.area.Area.{Area}
@@ -72,13 +72,13 @@ module _ (p : Extent × Extent → Bool) where
 
 -- ---- the areas of one disk
 
-entry_kept : (area : Area) (entry : Entry) (kept : Area × Option Locn) → held_by area entry ≡ Some kept → kept.0 ≡ area
+entry_kept : (area : Area) (entry : HeaderEntry) (kept : Area × Option Locn) → held_by area entry ≡ Some kept → kept.0 ≡ area
 entry_kept area Ignored kept is = cc
 entry_kept area Nothing kept is = ap (λ (a : Area × Option Locn). a.0) (sym (same_Some (area, None) kept is))
 entry_kept area (Text locn) kept is = ap (λ (a : Area × Option Locn). a.0) (sym (same_Some (area, Some locn) kept is))
 entry_kept area (Refused refusal) kept is = ap (λ (a : Area × Option Locn). a.0) (sym (same_Some (area, None) kept is))
 
-can_take : (area : Area) (entry : Entry) (kept : Area × Option Locn) → IsArea area → LiesInside area.size entry → held_by area entry ≡ Some kept → CanTake kept
+can_take : (area : Area) (entry : HeaderEntry) (kept : Area × Option Locn) → IsArea area → LiesInside area.size entry → held_by area entry ≡ Some kept → CanTake kept
 can_take area Ignored kept usable inside is = absurd cc
 can_take area Nothing kept usable inside is = subst CanTake (same_Some (area, None) kept is) (usable, tt)
 can_take area (Text locn) kept usable inside is = subst CanTake (same_Some (area, Some locn) kept is) (usable, inside)

@@ -1,7 +1,7 @@
 -- The disks of a scan: their metadata areas, and what of them a scan decides over whatever the areas give.
 use Rattle.std.specs.Prelude.{ℕ, ◌+◌, ◌/◌, Bool, false, if◌then◌else◌, Option, Some, None, option_map, unwrap_or, List, [], ◌∷◌, ◌++◌, map, filter_map}
-use Rattle.mda_header.specs.declared.entry.Entry.{Entry}
-use Rattle.mda_header.specs.declared.entry.Entry.TheVariants.{Ignored, Nothing, Text, Refused}
+use Rattle.mda_header.specs.declared.entry.HeaderEntry.{HeaderEntry}
+use Rattle.mda_header.specs.declared.entry.HeaderEntry.TheVariants.{Ignored, Nothing, Text, Refused}
 use Rattle.mda_header.specs.declared.header.Locn.{Locn}
 use Rattle.mda_ring.specs.declared.area.Area.{Area}
 use Rattle.pv_header.specs.declared.extent_list.Extent.{Extent}
@@ -36,7 +36,7 @@ areas_on (Some contents) = areas_in contents
 -- ---- the areas of all disks
 
 -- the area with the entry of its committed text, where it isn't ignored
-abbrev pub held_by : Area → Entry → Option (Area × Option Locn)
+abbrev pub held_by : Area → HeaderEntry → Option (Area × Option Locn)
 held_by area Ignored = None
 held_by area Nothing = Some (area, None)
 held_by area (Text locn) = Some (area, Some locn)

@@ -4,7 +4,7 @@ ghost use Rattle.vg_found.specs.Disks.{held_area, held_areas};
 
 use crate::Disk;
 use disk_contents::{AreaFound, PvFound};
-use mda_header::{Entry, Locn};
+use mda_header::{HeaderEntry, Locn};
 use mda_ring::{Area, Areas};
 use std::alloc::{AllocError, Global};
 
@@ -52,8 +52,8 @@ fn held_area(pv: u32, found: &AreaFound) -> Option<(Area, Option<Locn>)>
         size: found.area.size,
     };
     match found.entry {
-        Entry::Ignored => None,
-        Entry::Text(locn) => Some((area, Some(locn))),
-        Entry::Nothing | Entry::Refused(_) => Some((area, None)),
+        HeaderEntry::Ignored => None,
+        HeaderEntry::Text(locn) => Some((area, Some(locn))),
+        HeaderEntry::Nothing | HeaderEntry::Refused(_) => Some((area, None)),
     }
 }

@@ -39,7 +39,7 @@ use Rattle.group_plan.specs.Ids.{has_lv_id, has_other_id}
 use Rattle.group_plan.specs.Judging.{area_row, first_refusal, lies_on, many_row, refused_if, set_of, small_row, stands_on_disk, used_row}
 use Rattle.group_plan.specs.NewGroup.{extended}
 use Rattle.group_plan.specs.State.{IsState}
-use Rattle.group_plan.specs.declared.added.Added.{Added}
+use Rattle.group_plan.specs.declared.added.AddedPv.{AddedPv}
 use Rattle.group_plan.specs.declared.state.GroupState.{GroupState}
 use Rattle.vg_plans.proofs.EmptyGroup.{empty_base, empty_printable}
 use Rattle.vg_plans.specs.Vgcreate.{IsEmptyGroup, create_rows, empty_group}
@@ -52,27 +52,27 @@ not_refused true refusal none = absurd cc
 not_refused false refusal none = refl
 
 -- none of the rows of a new group holds
-record CreatePasses (state : GroupState) (base : Group) (all : List Added) : Type 0 where
+record CreatePasses (state : GroupState) (base : Group) (all : List AddedPv) : Type 0 where
   used : used_row [] all ≡ None
   areas : area_row state.areas (disks_added all) ≡ None
   sizes : small_row base.extent_size all ≡ None
   many : many_row 64 0 (length all) ≡ None
   ids : stands_on_disk base.id state.disks ≡ false
 
-create_passes : (state : GroupState) (base : Group) (all : List Added) → first_refusal (create_rows state base all) ≡ None → CreatePasses state base all
+create_passes : (state : GroupState) (base : Group) (all : List AddedPv) → first_refusal (create_rows state base all) ≡ None → CreatePasses state base all
 create_passes state base all none =
     let parts = five_none (used_row [] all) (area_row state.areas (disks_added all)) (small_row base.extent_size all) (many_row 64 0 (length all)) (refused_if (stands_on_disk base.id state.disks) (IdTaken base.id)) none in
     record { used = parts.0; areas = parts.1; sizes = parts.2; many = parts.3; ids = not_refused (stands_on_disk base.id state.disks) (IdTaken base.id) parts.4 }
 
 -- none of those of a group that is extended does
-record ExtendPasses (state : GroupState) (group : Group) (all : List Added) : Type 0 where
+record ExtendPasses (state : GroupState) (group : Group) (all : List AddedPv) : Type 0 where
   used : used_row state.disk_of all ≡ None
   sizes : small_row group.extent_size all ≡ None
   many : many_row 64 group.max_pv (length group.pvs + length all) ≡ None
   seqno : (group.seqno == 4294967295) ≡ false
   ids : other_id_row group all ≡ None
 
-extend_passes : (state : GroupState) (group : Group) (all : List Added) → first_refusal (extend_rows state group all) ≡ None → ExtendPasses state group all
+extend_passes : (state : GroupState) (group : Group) (all : List AddedPv) → first_refusal (extend_rows state group all) ≡ None → ExtendPasses state group all
 extend_passes state group all none =
     let parts =
     six_none (used_row state.disk_of all) (area_row state.areas (state.disk_of ++ disks_added all)) (small_row group.extent_size all) (many_row 64 group.max_pv (length group.pvs + length all)) (refused_if (group.seqno == 4294967295) SeqnoEnd) (other_id_row group all) none
@@ -81,7 +81,7 @@ extend_passes state group all none =
 
 -- ---- ids
 
-id_apart : (state : GroupState) → IsState state → (a b : Added) → IsFoundOn state a → IsFoundOn state b → DiskApart a b → IdApart a b
+id_apart : (state : GroupState) → IsState state → (a b : AddedPv) → IsFoundOn state a → IsFoundOn state b → DiskApart a b → IdApart a b
 id_apart state is a b first second apart same =
     elim (cases_order a.disk b.disk) [
       | inl equal ↦ apart (sym equal)
@@ -91,21 +91,21 @@ id_apart state is a b first second apart same =
       ]
     ]
 
-each_id_apart : (state : GroupState) → IsState state → (a : Added) (more : List Added) → IsFoundOn state a → Each (IsFoundOn state) more → Each (DiskApart a) more → Each (IdApart a) more
+each_id_apart : (state : GroupState) → IsState state → (a : AddedPv) (more : List AddedPv) → IsFoundOn state a → Each (IsFoundOn state) more → Each (DiskApart a) more → Each (IdApart a) more
 each_id_apart state is a [] first found apart = tt
 each_id_apart state is a (b ∷ more) first found apart = (id_apart state is a b first found.0 apart.0, each_id_apart state is a more first found.1 apart.1)
 
-ids_are_apart : (state : GroupState) → IsState state → (all : List Added) → Each (IsFoundOn state) all → DisksApart all → AreApart all
+ids_are_apart : (state : GroupState) → IsState state → (all : List AddedPv) → Each (IsFoundOn state) all → DisksApart all → AreApart all
 ids_are_apart state is [] found apart = tt
 ids_are_apart state is (a ∷ more) found apart = (each_id_apart state is a more found.0 found.1 apart.0, ids_are_apart state is more found.1 apart.1)
 
-all_fits : (state : GroupState) (extent_size : ℕ) (all : List Added) → Each (IsFoundOn state) all → Each (λ added. data_start added + extent_size ≤ data_end added) all → Each (Fits extent_size) all
+all_fits : (state : GroupState) (extent_size : ℕ) (all : List AddedPv) → Each (IsFoundOn state) all → Each (λ added. data_start added + extent_size ≤ data_end added) all → Each (Fits extent_size) all
 all_fits state extent_size [] found fit = tt
 all_fits state extent_size (added ∷ more) found fit = (record { is = found.0.is; fits = fit.0; id = found.0.id; content = found.0.content }, all_fits state extent_size more found.1 fit.1)
 
 -- ---- a new group
 
-id_is_new : (state : GroupState) (id : List ℕ) (added : Added) → stands_on_disk id state.disks ≡ false → IsFoundOn state added → id ≢ added.header.id
+id_is_new : (state : GroupState) (id : List ℕ) (added : AddedPv) → stands_on_disk id state.disks ≡ false → IsFoundOn state added → id ≢ added.header.id
 id_is_new state id added none found same =
     let there : get_or state.disks added.disk found.has.disk ≡ found.has.disk = get_or_from_slice_get state.disks added.disk found.has.disk found.has.disk found.has.there in
     let other : has_header_id id found.has.disk ≡ false =
@@ -113,7 +113,7 @@ id_is_new state id added none found same =
     in
     true≢false (sym (has_own id (header_on found.has.disk.contents) added.header found.has.is (sym same)) ∙ other)
 
-fresh_new : (state : GroupState) (id name : List ℕ) (extent_size : ℕ) (all : List Added) → stands_on_disk id state.disks ≡ false → Each (IsFoundOn state) all → Each (IsFresh (empty_group id name extent_size)) all
+fresh_new : (state : GroupState) (id name : List ℕ) (extent_size : ℕ) (all : List AddedPv) → stands_on_disk id state.disks ≡ false → Each (IsFoundOn state) all → Each (IsFresh (empty_group id name extent_size)) all
 fresh_new state id name extent_size [] none found = tt
 fresh_new state id name extent_size (added ∷ more) none found =
     (All-from_recursion (λ other. other ≢ added.header.id) (id ∷ []) (id_is_new state id added none found.0, tt), fresh_new state id name extent_size more none found.1)
@@ -122,7 +122,7 @@ none_lie : (areas : List (Area × Option Locn)) → list_any (lies_on set.empty)
 none_lie [] = refl
 none_lie (area ∷ areas) = ap (λ (b : Bool). b || list_any (lies_on set.empty) areas) (set.contains-empty nat_cmp area.0.pv) ∙ none_lie areas
 
-some_added : (state : GroupState) (all : List Added) → area_row state.areas (disks_added all) ≡ None → 1 ≤ length all
+some_added : (state : GroupState) (all : List AddedPv) → area_row state.areas (disks_added all) ≡ None → 1 ≤ length all
 unfolding area_row
 some_added state [] none = let row : ◌≡◌ {A = Option OpRefusal} (Some NoArea) None = ap (λ (b : Bool). cond (not b) (Some NoArea) None) (sym (none_lie state.areas)) ∙ none in absurd cc
 some_added state (added ∷ more) none = omega arith
@@ -131,7 +131,7 @@ pub created : (state : GroupState) → IsState state → (id name : List ℕ) (e
     → first_refusal (create_rows state (empty_group id name extent_size) (added_of state names)) ≡ None → IsWhole (extended (empty_group id name extent_size) (added_of state names))
 unfolding extended
 created state is id name extent_size names valid named least most whole none =
-    let all : List Added = added_of state names in
+    let all : List AddedPv = added_of state names in
     let passes : CreatePasses state (empty_group id name extent_size) all = create_passes state (empty_group id name extent_size) all none in
     let found : Each (IsFoundOn state) all = recursion_from_All (IsFoundOn state) all (all_found state is names) in
     let free = all_unused [] all passes.used in
@@ -153,7 +153,7 @@ created state is id name extent_size names valid named least most whole none =
 -- ---- a group that is extended
 
 -- a physical volume that the group lists isn't on this disk
-pvs_differ : (state : GroupState) → IsState state → (added : Added) → IsFoundOn state added → (pvs : List (List ℕ × Pv)) → Each (λ n. n ≢ added.disk) (map (λ (pv : List ℕ × Pv). disk_with state.disks pv.1.id) pvs)
+pvs_differ : (state : GroupState) → IsState state → (added : AddedPv) → IsFoundOn state added → (pvs : List (List ℕ × Pv)) → Each (λ n. n ≢ added.disk) (map (λ (pv : List ℕ × Pv). disk_with state.disks pv.1.id) pvs)
     → Each (λ other. other ≢ added.header.id) (map (λ (pv : List ℕ × Pv). pv.1.id) pvs)
 pvs_differ state is added found [] apart = tt
 pvs_differ state is added found (pv ∷ pvs) apart = (
@@ -161,7 +161,7 @@ pvs_differ state is added found (pv ∷ pvs) apart = (
   pvs_differ state is added found pvs apart.1,
 )
 
-fresh_one : (state : GroupState) → IsState state → (group : Group) (added : Added) → state.disk_of ≡ disks_of group state.disks → IsFoundOn state added → IsUnused (set_of state.disk_of) added → has_other_id group added.header.id ≡ false
+fresh_one : (state : GroupState) → IsState state → (group : Group) (added : AddedPv) → state.disk_of ≡ disks_of group state.disks → IsFoundOn state added → IsUnused (set_of state.disk_of) added → has_other_id group added.header.id ≡ false
     → IsFresh group added
 fresh_one state is group added listed found free other =
     let parts : (same_bytes group.id added.header.id ≡ false) × (has_lv_id group added.header.id ≡ false) = both_false (same_bytes group.id added.header.id) (has_lv_id group added.header.id) other in
@@ -173,27 +173,27 @@ fresh_one state is group added listed found free other =
           (ids_differ (λ (lv : Lv). lv.id) added.header.id group.lvs (none_passes (λ (lv : List ℕ × Lv). same_bytes lv.1.id added.header.id) group.lvs parts.1)),
     )
 
-fresh_all : (state : GroupState) → IsState state → (group : Group) (all : List Added) → state.disk_of ≡ disks_of group state.disks → Each (IsFoundOn state) all → Each (IsUnused (set_of state.disk_of)) all
-    → Each (λ (added : Added). has_other_id group added.header.id ≡ false) all → Each (IsFresh group) all
+fresh_all : (state : GroupState) → IsState state → (group : Group) (all : List AddedPv) → state.disk_of ≡ disks_of group state.disks → Each (IsFoundOn state) all → Each (IsUnused (set_of state.disk_of)) all
+    → Each (λ (added : AddedPv). has_other_id group added.header.id ≡ false) all → Each (IsFresh group) all
 fresh_all state is group [] listed found free other = tt
 fresh_all state is group (added ∷ more) listed found free other =
     (fresh_one state is group added listed found.0 free.0 other.0, fresh_all state is group more listed found.1 free.1 other.1)
 
-all_other : (group : Group) (all : List Added) → other_id_row group all ≡ None → Each (λ (added : Added). has_other_id group added.header.id ≡ false) all
+all_other : (group : Group) (all : List AddedPv) → other_id_row group all ≡ None → Each (λ (added : AddedPv). has_other_id group added.header.id ≡ false) all
 unfolding other_id_row
 all_other group all none =
-    recursion_from_All (λ (added : Added). has_other_id group added.header.id ≡ false) all
-    (All-from_find (λ (added : Added). has_other_id group added.header.id) all (no_map _ (find (λ (added : Added). has_other_id group added.header.id) all) none))
+    recursion_from_All (λ (added : AddedPv). has_other_id group added.header.id ≡ false) all
+    (All-from_find (λ (added : AddedPv). has_other_id group added.header.id) all (no_map _ (find (λ (added : AddedPv). has_other_id group added.header.id) all) none))
 
 pub next_is_whole : (state : GroupState) → IsState state → (group : Group) (names : List (List ℕ)) → state.disk_of ≡ disks_of group state.disks → IsAccepted group → HasTree group
     → first_refusal (extend_rows state group (added_of state names)) ≡ None → IsWhole (extended (next_version group) (added_of state names))
 unfolding extended
 next_is_whole state is group names listed accepted tree none =
-    let all : List Added = added_of state names in
+    let all : List AddedPv = added_of state names in
     let passes : ExtendPasses state group all = extend_passes state group all none in
     let found : Each (IsFoundOn state) all = recursion_from_All (IsFoundOn state) all (all_found state is names) in
     let free = all_unused state.disk_of all passes.used in
-    let other : Each (λ (added : Added). has_other_id group added.header.id ≡ false) all = all_other group all passes.ids in
+    let other : Each (λ (added : AddedPv). has_other_id group added.header.id ≡ false) all = all_other group all passes.ids in
     let numbers = accepted Numbers in
     let volumes = accepted Volumes in
     let count : (length group.pvs + length all ≤ 64) × (group.max_pv ≢ 0 → length group.pvs + length all ≤ group.max_pv) = few_enough 64 group.max_pv (length group.pvs + length all) passes.many in
@@ -222,15 +222,15 @@ next_is_whole state is group names listed accepted tree none =
 
 -- ---- as the calls have them
 
-pub created_whole : (state : GroupState) → IsState state → (base : Group) → IsEmptyGroup base → (names : List (List ℕ)) (all : List Added) → all ≡ added_of state names → first_refusal (create_rows state base all) ≡ None
+pub created_whole : (state : GroupState) → IsState state → (base : Group) → IsEmptyGroup base → (names : List (List ℕ)) (all : List AddedPv) → all ≡ added_of state names → first_refusal (create_rows state base all) ≡ None
     → IsWhole (extended base all)
 created_whole state is base new names all are none =
-    subst (λ (l : List Added). IsWhole (extended base l)) (sym are)
+    subst (λ (l : List AddedPv). IsWhole (extended base l)) (sym are)
     (subst (λ (g : Group). IsWhole (extended g (added_of state names))) (sym new.empty)
     (created state is base.id base.name base.extent_size names new.valid new.named new.least new.most new.whole
-    (subst (λ (g : Group). first_refusal (create_rows state g (added_of state names)) ≡ None) new.empty (subst (λ (l : List Added). first_refusal (create_rows state base l) ≡ None) are none))))
+    (subst (λ (g : Group). first_refusal (create_rows state g (added_of state names)) ≡ None) new.empty (subst (λ (l : List AddedPv). first_refusal (create_rows state base l) ≡ None) are none))))
 
-pub created_few : (state : GroupState) (base : Group) → IsEmptyGroup base → (all : List Added) → first_refusal (create_rows state base all) ≡ None → length base.pvs + length base.lvs + length all < 2 ^ 32
+pub created_few : (state : GroupState) (base : Group) → IsEmptyGroup base → (all : List AddedPv) → first_refusal (create_rows state base all) ≡ None → length base.pvs + length base.lvs + length all < 2 ^ 32
 created_few state base new all none =
     let passes : CreatePasses state base all = create_passes state base all none in
     let count = few_enough 64 0 (length all) passes.many in
@@ -238,14 +238,14 @@ created_few state base new all none =
     let no_lvs : length base.lvs ≡ 0 = ap (λ (g : Group). length g.lvs) new.empty in
     omega (arith, count.0, no_pvs, no_lvs)
 
-pub next_whole : (state : GroupState) → IsState state → (group base : Group) (names : List (List ℕ)) (all : List Added) → state.group ≡ Some group → base ≡ next_version group → all ≡ added_of state names → IsAccepted group → HasTree group
+pub next_whole : (state : GroupState) → IsState state → (group base : Group) (names : List (List ℕ)) (all : List AddedPv) → state.group ≡ Some group → base ≡ next_version group → all ≡ added_of state names → IsAccepted group → HasTree group
     → first_refusal (extend_rows state group all) ≡ None → IsWhole (extended base all)
 next_whole state is group base names all found next are accepted tree none =
-    subst (λ (l : List Added). IsWhole (extended base l)) (sym are)
+    subst (λ (l : List AddedPv). IsWhole (extended base l)) (sym are)
     (subst (λ (g : Group). IsWhole (extended g (added_of state names))) (sym next)
-    (next_is_whole state is group names (listed_are state group is found) accepted tree (subst (λ (l : List Added). first_refusal (extend_rows state group l) ≡ None) are none)))
+    (next_is_whole state is group names (listed_are state group is found) accepted tree (subst (λ (l : List AddedPv). first_refusal (extend_rows state group l) ≡ None) are none)))
 
-pub next_few : (state : GroupState) (group base : Group) → base ≡ next_version group → IsAccepted group → (all : List Added) → first_refusal (extend_rows state group all) ≡ None → length base.pvs + length base.lvs + length all < 2 ^ 32
+pub next_few : (state : GroupState) (group base : Group) → base ≡ next_version group → IsAccepted group → (all : List AddedPv) → first_refusal (extend_rows state group all) ≡ None → length base.pvs + length base.lvs + length all < 2 ^ 32
 next_few state group base next accepted all none =
     let passes : ExtendPasses state group all = extend_passes state group all none in
     let volumes = accepted Volumes in

@@ -58,7 +58,7 @@ pub record LeavesNext (state : GroupState) (change : Change) (now : ℕ) : Type 
   pub there : state.group ≡ Some old
   pub number : ℕ
   pub listed : number < length state.disk_of
-  pub change_xl : change ≡ leaving_change state old number
+  pub change_is : change ≡ leaving_change state old number
   pub may : MayLeave old number
   pub has_area : area_row state.areas (remove state.disk_of number) ≡ None
   pub fits : length_row_on state (remove state.disk_of number) (reduced_group old number) now ≡ None
@@ -98,7 +98,7 @@ module _ (state : GroupState) (vg name : List ℕ) (now : ℕ) where
         there = there;
         number = at.0;
         listed = named_at state name at.0 at.1;
-        change_xl = ap (λ (o : Option ℕ). option_map_or (leaving_change state group) o (no_change state)) at.1;
+        change_is = ap (λ (o : Option ℕ). option_map_or (leaving_change state group) o (no_change state)) at.1;
         may = may;
         has_area = rows.1.1.0;
         fits = rows.1.1.1.1.0;

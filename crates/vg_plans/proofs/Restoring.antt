@@ -32,7 +32,7 @@ pub record Restores (state : GroupState) (change : Change) (now : ℕ) : Type 0 
   pub there : state.group ≡ Some old
   pub said : Group
   pub gives : state.backup ≡ Some (Sound said)
-  pub change_xl : change ≡ version_change_on (disks_of said state.disks) (restored_group old said)
+  pub change_is : change ≡ version_change_on (disks_of said state.disks) (restored_group old said)
   pub same_id : said.id ≡ old.id
   pub same_name : said.name ≡ old.name
   pub listed : IsState state → All (λ n. n < length state.disks) (disks_of said state.disks)
@@ -59,7 +59,7 @@ backup_restores state now old (Sound said) gives there none =
       there = there;
       said = said;
       gives = gives;
-      change_xl = refl;
+      change_is = refl;
       same_id = same_bytes_tells said.id old.id (test_holds (same_bytes said.id old.id) _ rows.1.1.1.1.1.1.0);
       same_name = same_bytes_tells said.name old.name (test_holds (same_bytes said.name old.name) _ rows.1.1.1.1.1.1.1.0);
       listed = λ is. sound_listed state is old said there tests;

@@ -9,7 +9,7 @@ use Rattle.meta_model.specs.declared.group.Group.{Group}
 use Rattle.group_plan.specs.Added.{added_of, disks_added}
 use Rattle.group_plan.specs.Judging.{area_row, many_row, refused_if, small_row, stands_on_disk, unknown_row, used_row}
 use Rattle.group_plan.specs.NewGroup.{change_with, text_row}
-use Rattle.group_plan.specs.declared.added.Added.{Added}
+use Rattle.group_plan.specs.declared.added.AddedPv.{AddedPv}
 use Rattle.group_plan.specs.declared.state.Change.{Change}
 use Rattle.group_plan.specs.declared.state.GroupState.{GroupState}
 
@@ -38,7 +38,7 @@ pub record IsEmptyGroup (group : Group) : Type 0 where
   pub whole : group.extent_size % 8 ≡ 0
 
 -- the rows on its physical volumes, where this is the group without them
-abbrev pub create_rows : GroupState → Group → List Added → List (Option OpRefusal)
+abbrev pub create_rows : GroupState → Group → List AddedPv → List (Option OpRefusal)
 create_rows state base all =
     used_row [] all
     ∷ area_row state.areas (disks_added all)

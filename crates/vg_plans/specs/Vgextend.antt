@@ -9,13 +9,13 @@ use Rattle.group_plan.specs.Ids.{has_other_id}
 use Rattle.group_plan.specs.Judging.{area_row, many_row, refused_if, small_row, unknown_row, used_row}
 use Rattle.group_plan.specs.NewGroup.{change_with, text_row}
 use Rattle.group_plan.specs.Committing.{named_rows, rows_where_found, seqno_row, no_change}
-use Rattle.group_plan.specs.declared.added.Added.{Added}
+use Rattle.group_plan.specs.declared.added.AddedPv.{AddedPv}
 use Rattle.group_plan.specs.declared.state.Change.{Change}
 use Rattle.group_plan.specs.declared.state.GroupState.{GroupState}
 
 -- the first physical volume whose id is that of the group or of a logical volume
-unfoldable pub other_id_row : Group → List Added → Option OpRefusal
-other_id_row group all = option_map (λ (added : Added). IdTaken added.header.id) (find (λ (added : Added). has_other_id group added.header.id) all)
+unfoldable pub other_id_row : Group → List AddedPv → Option OpRefusal
+other_id_row group all = option_map (λ (added : AddedPv). IdTaken added.header.id) (find (λ (added : AddedPv). has_other_id group added.header.id) all)
 
 -- the group has another name, may not be changed, or takes no further physical volume
 abbrev pub group_rows : Group → List ℕ → List (Option OpRefusal)
@@ -25,7 +25,7 @@ group_rows group vg =
     ∷ []
 
 -- the rows on the physical volumes that are added
-abbrev pub extend_rows : GroupState → Group → List Added → List (Option OpRefusal)
+abbrev pub extend_rows : GroupState → Group → List AddedPv → List (Option OpRefusal)
 extend_rows state group all =
     used_row state.disk_of all
     ∷ area_row state.areas (state.disk_of ++ disks_added all)

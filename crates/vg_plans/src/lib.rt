@@ -3,7 +3,7 @@
 #![tactic(auto)]
 
 mod limits;
-mod other_group;
+mod same_group;
 mod shape;
 mod vgcfgrestore;
 mod vgcreate;

@@ -8,8 +8,8 @@ ghost use Rattle.vg_found.specs.Disks.{area_shape, disk_shape, pv_shape};
 ghost use Rattle.group_plan.specs.Judging.{Judges};
 ghost use Rattle.vg_plans.specs.Vgcfgrestore.{is_misshapen, shape_row};
 
-use group_plan::PlanRefusal;
 use disk_contents::PvFound;
+use group_plan::PlanRefusal;
 use id_index::Members;
 use line_answers::OpRefusal;
 use meta_model::Pv;

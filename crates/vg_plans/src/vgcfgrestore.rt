@@ -10,15 +10,14 @@ ghost use Rattle.group_plan.specs.Plans.{Plans};
 ghost use Rattle.group_plan.specs.State.{IsState};
 ghost use Rattle.vg_plans.specs.Vgcfgrestore.{backup_change, backup_rows, both_rows, broken_rows, disks_held, restore_rows, sound_rows, sound_tests, unread_rows, vgcfgrestore_change, vgcfgrestore_rows};
 
-use group_plan::{LAST_SEQNO, commit_version_on, judge_named, unknown_group};
-use group_plan::copied_text;
-use group_plan::judge_areas;
 use crate::limits::judge_limits;
-use crate::other_group::judge_other;
+use crate::same_group::judge_other;
 use crate::shape::judge_shape;
-use group_plan::judge_stripes;
-use group_plan::{Backup, Change, GroupState, PlanRefusal};
 use group_edits::restored_group;
+use group_plan::{
+    Backup, Change, GroupState, LAST_SEQNO, PlanRefusal, commit_version_on, copied_text,
+    judge_areas, judge_named, judge_stripes, unknown_group,
+};
 use id_index::Members;
 use line_answers::OpRefusal;
 use meta_model::Group;

@@ -9,11 +9,10 @@ ghost use Rattle.group_plan.specs.Plans.{Plans};
 ghost use Rattle.group_plan.specs.State.{IsState};
 ghost use Rattle.vg_plans.specs.Vgcreate.{IsEmptyGroup, create_rows, empty_group, new_rows, vgcreate_change, vgcreate_rows};
 
-use group_plan::find_all_added;
-use group_plan::{copied_bytes, group_name};
-use group_plan::{MOST_PVS, judge_areas, judge_count, judge_sizes, judge_used, stands_on_disk};
-use group_plan::{commit, disks_with};
-use group_plan::{Added, Change, GroupState, PlanRefusal};
+use group_plan::{
+    AddedPv, Change, GroupState, MOST_PVS, PlanRefusal, commit, copied_bytes, disks_with,
+    find_all_added, group_name, judge_areas, judge_count, judge_sizes, judge_used, stands_on_disk,
+};
 use line_answers::OpRefusal;
 use lvm_id::LvmId;
 use meta_model::{Group, LvTable, PvTable, VgStatus};
@@ -100,7 +99,7 @@ fn judge_added(
     alloc: Global,
     state: &GroupState,
     base: &Group,
-    all: &[Added],
+    all: &[AddedPv],
 ) -> Result<(), PlanRefusal>
     requires added { All IsAdded all.now }
     requires disks { All (λ number. number < 64) (disks_added all.now) }

@@ -8,13 +8,12 @@ ghost use Rattle.group_plan.specs.Plans.{Plans};
 ghost use Rattle.group_plan.specs.State.{IsState};
 ghost use Rattle.vg_plans.specs.Vgextend.{extend_by, extend_rows, found_rows, group_rows, other_id_row, vgextend_change, vgextend_rows};
 
-use group_plan::find_all_added;
-use group_plan::{judge_name, judge_resizeable, judge_seqno, judge_write, unknown_group};
-use group_plan::same_id;
-use group_plan::{MOST_PVS, judge_areas, judge_count, judge_sizes, judge_used};
-use group_plan::{commit, disks_with};
-use group_plan::{Added, Change, GroupState, PlanRefusal};
 use group_edits::next_version;
+use group_plan::{
+    AddedPv, Change, GroupState, MOST_PVS, PlanRefusal, commit, disks_with, find_all_added,
+    judge_areas, judge_count, judge_name, judge_resizeable, judge_seqno, judge_sizes, judge_used,
+    judge_write, same_id, unknown_group,
+};
 use id_index::{IdMap, lvs_by_id};
 use line_answers::OpRefusal;
 use lvm_id::LvmId;
@@ -85,7 +84,7 @@ fn judge_added(
     alloc: Global,
     state: &GroupState,
     group: &Group,
-    all: &[Added],
+    all: &[AddedPv],
 ) -> Result<(), PlanRefusal>
     requires listed { All (λ number. number < 64) state.now.disk_of }
     requires added { All IsAdded all.now }
@@ -106,7 +105,7 @@ fn judge_added(
 
 // None of these has an id of the group or of a logical volume.
 #[tactic(auto, unfolding(crate::specs::Vgextend::other_id_row))]
-fn judge_ids(alloc: Global, group: &Group, all: &[Added]) -> Result<(), PlanRefusal>
+fn judge_ids(alloc: Global, group: &Group, all: &[AddedPv]) -> Result<(), PlanRefusal>
     requires { length group.now.lvs ≤ 1024 }
     ensures { Judges result (other_id_row group.now all.now) }
 {

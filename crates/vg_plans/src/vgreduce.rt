@@ -8,14 +8,12 @@ ghost use Rattle.group_plan.specs.Plans.{Plans};
 ghost use Rattle.group_plan.specs.State.{IsState};
 ghost use Rattle.vg_plans.specs.Vgreduce.{leaving_change, leaving_rows, leaving_tests, reduce_change, reduce_rows, vgreduce_change, vgreduce_rows};
 
-use group_plan::judge_one_known;
-use group_plan::{commit_version_on, judge_seqno, unknown_group};
-use group_plan::copied_text;
-use group_plan::judge_areas;
-use group_plan::pv_named;
 use crate::vgextend::judge_group;
-use group_plan::{Change, GroupState, PlanRefusal};
 use group_edits::{has_leg_on_pv, reduced_group};
+use group_plan::{
+    Change, GroupState, PlanRefusal, commit_version_on, copied_text, judge_areas, judge_one_known,
+    judge_seqno, pv_named, unknown_group,
+};
 use line_answers::OpRefusal;
 use meta_model::Group;
 use sector_base::{PvDisks, Text};

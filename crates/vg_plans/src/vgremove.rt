@@ -5,10 +5,10 @@ ghost use Rattle.group_plan.specs.Plans.{Plans};
 ghost use Rattle.group_plan.specs.State.{IsState};
 ghost use Rattle.vg_plans.specs.Vgremove.{remove_rows, vgremove_change, vgremove_rows, volume_row};
 
-use group_plan::{judge_name, judge_write, unknown_group};
-use group_plan::copied_bytes;
-use group_plan::set_of;
-use group_plan::{Change, GroupState, Labels, PlanRefusal, Spans};
+use group_plan::{
+    Change, GroupState, Labels, PlanRefusal, Spans, copied_bytes, judge_name, judge_write, set_of,
+    unknown_group,
+};
 use line_answers::OpRefusal;
 use meta_model::Group;
 use sector_base::{PvDisks, PvSet, Text};

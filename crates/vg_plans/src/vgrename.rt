@@ -10,11 +10,11 @@ ghost use Rattle.group_plan.specs.Plans.{Plans};
 ghost use Rattle.group_plan.specs.State.{IsState};
 ghost use Rattle.vg_plans.specs.Vgrename.{rename_rows, rename_tests, vgrename_change, vgrename_rows};
 
-use group_plan::{commit_version, is_named, judge_name, judge_seqno, judge_write, unknown_group};
-use group_plan::{copied_text, group_name};
-use group_plan::judge_areas;
-use group_plan::{Change, GroupState, PlanRefusal};
 use group_edits::renamed_group;
+use group_plan::{
+    Change, GroupState, PlanRefusal, commit_version, copied_text, group_name, is_named,
+    judge_areas, judge_name, judge_seqno, judge_write, unknown_group,
+};
 use line_answers::OpRefusal;
 use meta_model::Group;
 use sector_base::Text;

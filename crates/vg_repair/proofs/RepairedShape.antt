@@ -11,8 +11,8 @@ use Rattle.std.proofs.lemmas.List.Elements.{All-cons, All-nil}
 use Rattle.std.proofs.lemmas.Option.{same_Some}
 use Rattle.pv_header.specs.PvRefusal.{Reads}
 use Rattle.pv_header.specs.declared.header.PvHeader.{PvHeader}
-use Rattle.mda_header.specs.declared.entry.Entry.{Entry}
-use Rattle.mda_header.specs.declared.entry.Entry.TheVariants.{Ignored, Nothing, Text, Refused}
+use Rattle.mda_header.specs.declared.entry.HeaderEntry.{HeaderEntry}
+use Rattle.mda_header.specs.declared.entry.HeaderEntry.TheVariants.{Ignored, Nothing, Text, Refused}
 use Rattle.mda_header.specs.declared.header.Locn.{Locn}
 use Rattle.mda_ring.specs.Areas.{CanTake}
 use Rattle.mda_ring.specs.Ring.{need, room}
@@ -64,7 +64,7 @@ rooms text (a ∷ areas) none =
 
 -- ---- an area
 
-pub held_on : (area : Area) (entry : Entry) (kept : Area × Option Locn) → held_by area entry ≡ Some kept → kept.0 ≡ area
+pub held_on : (area : Area) (entry : HeaderEntry) (kept : Area × Option Locn) → held_by area entry ≡ Some kept → kept.0 ≡ area
 held_on area Ignored kept is = cc
 held_on area Nothing kept is = ap (λ (a : Area × Option Locn). a.0) (sym (same_Some (area, None) kept is))
 held_on area (Text locn) kept is = ap (λ (a : Area × Option Locn). a.0) (sym (same_Some (area, Some locn) kept is))

@@ -4,8 +4,8 @@ use Rattle.std.specs.List.{enumerate_from}
 use Rattle.std.specs.Option.{option_map_or}
 use Rattle.std.specs.Ordering.{nat_cmp}
 use Rattle.std.specs.FinSet as set
-use Rattle.mda_header.specs.declared.entry.Entry.{Entry}
-use Rattle.mda_header.specs.declared.entry.Entry.TheVariants.{Nothing, Text}
+use Rattle.mda_header.specs.declared.entry.HeaderEntry.{HeaderEntry}
+use Rattle.mda_header.specs.declared.entry.HeaderEntry.TheVariants.{Nothing, Text}
 use Rattle.mda_header.specs.declared.header.Locn.{Locn}
 use Rattle.mda_ring.specs.declared.area.Area.{Area}
 use Rattle.disk_contents.specs.declared.contents.AreaFound.{AreaFound}
@@ -19,7 +19,7 @@ use Rattle.group_plan.specs.Cleared.{unused}
 use Rattle.vg_repair.specs.Stale.{is_among, text_of}
 
 -- what a header says in which this text is committed, or none
-abbrev pub entry_of : Option Locn → Entry
+abbrev pub entry_of : Option Locn → HeaderEntry
 entry_of None = Nothing
 entry_of (Some locn) = Text locn
 

@@ -3,7 +3,7 @@ use Rattle.std.specs.Prelude.{◌≡◌, ◌<◌, true, false, List, None, Some,
 use Rattle.disk_batch.specs.InTurn.{Put, WritesInTurn}
 use Rattle.disk_model.specs.Faults.{HasSameFaults}
 use Rattle.disk_model.specs.State.{State}
-use Rattle.disk_model.specs.Steps.{Told}
+use Rattle.disk_model.specs.Steps.{Record}
 use Rattle.vg_found.specs.declared.found.Found.{Found}
 use Rattle.vg_repair.specs.declared.fault.RepairFault.{RepairFault}
 use Rattle.vg_repair.specs.declared.fault.RepairFault.TheVariants.{NoMemory, Pv, TooLarge}
@@ -29,7 +29,7 @@ HasBegun (Err (Pv pv)) = Unit {0}
 HasBegun (Err _) = ⊥
 
 -- the batches were carried out; where an operation failed a front of them; and else none, and no operation was submitted
-abbrev pub Repairs : List (List Put) → Result Found RepairFault → Told → Told → Type 0
+abbrev pub Repairs : List (List Put) → Result Found RepairFault → Record → Record → Type 0
 Repairs batches (Ok repaired) old new = WritesInTurn old batches true new
 Repairs batches (Err (Pv pv)) old new = WritesInTurn old batches false new
 Repairs batches (Err _) old new = new ≡ old

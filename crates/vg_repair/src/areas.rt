@@ -8,7 +8,7 @@ ghost use Rattle.vg_repair.specs.Stale.{IsCause, stale_by, stale_in, too_large_a
 use crate::RepairFault;
 use crate::stale_set::StaleSet;
 use disk_contents::{AreaFound, PvFound};
-use mda_header::{Entry, Locn};
+use mda_header::{HeaderEntry, Locn};
 use mda_ring::{Area, Areas, RingRefusal, plan_next};
 use sector_base::Text;
 use std::alloc::{AllocError, Global};
@@ -76,9 +76,9 @@ pub(crate) fn held_area(pv: u32, found: &AreaFound) -> Option<(Area, Option<Locn
         size: found.area.size,
     };
     match found.entry {
-        Entry::Ignored => None,
-        Entry::Text(locn) => Some((area, Some(locn))),
-        Entry::Nothing | Entry::Refused(_) => Some((area, None)),
+        HeaderEntry::Ignored => None,
+        HeaderEntry::Text(locn) => Some((area, Some(locn))),
+        HeaderEntry::Nothing | HeaderEntry::Refused(_) => Some((area, None)),
     }
 }
 

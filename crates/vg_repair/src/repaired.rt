@@ -19,7 +19,7 @@ use crate::areas::held_area;
 use crate::stale_set::StaleSet;
 use change_batches::unused;
 use disk_contents::{AreaFound, AreasFound, PvFound};
-use mda_header::{Entry, Locn, MdaHeader};
+use mda_header::{HeaderEntry, Locn, MdaHeader};
 use mda_ring::{Area, plan_next};
 use sector_base::{ItemList, LVM_CRC_START, PvSet, Text, crc};
 use std::alloc::{AllocError, Global};
@@ -257,8 +257,8 @@ fn with_entry(found: &AreaFound, committed: Option<Locn>) -> AreaFound
             ignored: false,
         }),
         entry: match committed {
-            Some(locn) => Entry::Text(locn),
-            None => Entry::Nothing,
+            Some(locn) => HeaderEntry::Text(locn),
+            None => HeaderEntry::Nothing,
         },
     }
 }

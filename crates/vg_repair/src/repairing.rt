@@ -1,7 +1,7 @@
 //! A repair.
 ghost use Rattle.std.specs.Prelude.{◌≡◌, [], MatchResult};
 ghost use Rattle.disk_model.specs.Idle.{IsIdleAgain};
-ghost use Rattle.disk_model.specs.Since.{BetweenTold};
+ghost use Rattle.disk_model.specs.Since.{BetweenRecords};
 ghost use Rattle.vg_found.specs.Shape.{HasShape};
 ghost use Rattle.change_batches.specs.Sound.{sizes_of};
 ghost use Rattle.vg_repair.specs.Batches.{repair_batches};
@@ -33,7 +33,7 @@ pub fn repair<S: Shelf>(alloc: Global, whole: Whole, shelf: &mut S) -> Result<Wh
     requires disks { (S.state shelf.old).sizes ≡ sizes_of whole.disks }
     ensures again { IsIdleAgain (S.state shelf.old) (S.state shelf.new) }
     ensures cause { MatchResult result (IsRepaired whole (S.state shelf.old) (S.state shelf.new)) (IsFault whole (S.state shelf.old) (S.state shelf.new)) }
-    ensures told { BetweenTold (Repairs (repair_batches whole) result) (S.state shelf.old).told (S.state shelf.new).told }
+    ensures told { BetweenRecords (Repairs (repair_batches whole) result) (S.state shelf.old).told (S.state shelf.new).told }
     // In every image that a crash leaves on the way.
     ensures images { HasBegun result → StraysAreOthers whole → KeepsImages whole }
 {

@@ -4,7 +4,7 @@ use Rattle.std.proofs.lemmas.Grind.{flat_map-append}
 use Rattle.std.proofs.lemmas.List.{append-nil, map-append, take-append-drop, take_more}
 use Rattle.sector_base.specs.declared.spans.Span.{Span}
 use Rattle.disk_model.specs.Since.{HoldsOfDisk, ReadsTold}
-use Rattle.disk_model.specs.Steps.{Told}
+use Rattle.disk_model.specs.Steps.{Record}
 use Rattle.disk_model.proofs.ReadingAlone.{holds_before, holds_both}
 use Rattle.disk_contents.specs.declared.contents.AreaFound.{AreaFound}
 use Rattle.scan_rules.specs.Decision.{Area as AreaOf}
@@ -49,7 +49,7 @@ module _ (old new : List GroupCopy) (goes_on : Continues old new) (read all : Li
       (readings_push pv sector_at (take i areas) (map (area_of old) read) (get_or areas i d) (area_of new area) are is))
 
   -- the readings of a disk
-  pub readings_grown : (areas : List AreaFound) (i : ℕ) (d : AreaFound) → i < length areas → (before there : Option Told) (pv : ℕ) (so_far : List Span) → ReadsTold before so_far there
+  pub readings_grown : (areas : List AreaFound) (i : ℕ) (d : AreaFound) → i < length areas → (before there : Option Record) (pv : ℕ) (so_far : List Span) → ReadsTold before so_far there
       → HoldsOfDisk before pv (λ sector_at. AreAreaReadings pv sector_at (take i areas) (map (area_of old) read)) → HoldsOfDisk there pv (λ sector_at. IsAreaReading pv sector_at (get_or areas i d) (area_of new area))
       → HoldsOfDisk before pv (λ sector_at. AreAreaReadings pv sector_at (take (i + 1) areas) (map (area_of new) all))
   readings_grown areas i d within before there pv so_far reads are is =

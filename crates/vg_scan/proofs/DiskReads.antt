@@ -7,12 +7,12 @@ use Rattle.sector_base.specs.declared.spans.Span.{Span}
 use Rattle.disk_model.specs.Faults.{HasSameFaults}
 use Rattle.disk_model.specs.Idle.{IsIdleAgain}
 use Rattle.disk_model.specs.Puts.{one_sector}
-use Rattle.disk_model.specs.Since.{BetweenTold, HoldsOfDisk, ReadsTold}
+use Rattle.disk_model.specs.Since.{BetweenRecords, HoldsOfDisk, ReadsTold}
 use Rattle.disk_model.specs.State.{State}
-use Rattle.disk_model.specs.Steps.{Told}
+use Rattle.disk_model.specs.Steps.{Record}
 use Rattle.disk_model.proofs.ReadingAlone.{holds_before, holds_both, holds_weaker}
-use Rattle.mda_header.specs.declared.entry.Entry.{Entry}
-use Rattle.mda_header.specs.declared.entry.Entry.TheVariants.{Ignored, Nothing, Text, Refused}
+use Rattle.mda_header.specs.declared.entry.HeaderEntry.{HeaderEntry}
+use Rattle.mda_header.specs.declared.entry.HeaderEntry.TheVariants.{Ignored, Nothing, Text, Refused}
 use Rattle.mda_header.specs.declared.header.Locn.{Locn}
 use Rattle.mda_ring.specs.declared.area.Area.{Area}
 use Rattle.mda_ring.specs.Ring.{touched_count}
@@ -59,13 +59,13 @@ text_own area locn =
     let to_end : ℕ = sectors_to_end area.size locn.offset in
     pair_own area.pv (ring_spans area locn.offset locn.size).0 (ring_spans area locn.offset locn.size).1 refl (if_own area.pv _ (span_of_area area 1 _) refl)
 
-entry_own : (area : Area) (entry : Entry) → All (IsOn area.pv) (entry_spans area entry)
+entry_own : (area : Area) (entry : HeaderEntry) → All (IsOn area.pv) (entry_spans area entry)
 entry_own area Ignored = All-nil (IsOn area.pv)
 entry_own area Nothing = All-nil (IsOn area.pv)
 entry_own area (Text locn) = text_own area locn
 entry_own area (Refused refusal) = All-nil (IsOn area.pv)
 
-entry_few : (area : Area) (entry : Entry) → length (entry_spans area entry) ≤ 2
+entry_few : (area : Area) (entry : HeaderEntry) → length (entry_spans area entry) ≤ 2
 entry_few area Ignored = omega arith
 entry_few area Nothing = omega arith
 entry_few area (Text locn) = pair_few (ring_spans area locn.offset locn.size).0 (ring_spans area locn.offset locn.size).1
@@ -109,8 +109,8 @@ front_few read rest spans front =
 
 -- ---- what is read of the disk
 
-told_reads : (pv sectors : ℕ) (areas : List Extent) (before after : Option Told) (spans : List Span) → HoldsOfDisk before pv (λ sector_at. AreAreasOf sector_at sectors areas)
-    → All (IsOn pv) spans → length spans ≤ 1 + 3 * length areas → ReadsTold before spans after → BetweenTold (ReadsDisk pv sectors) before after
+told_reads : (pv sectors : ℕ) (areas : List Extent) (before after : Option Record) (spans : List Span) → HoldsOfDisk before pv (λ sector_at. AreAreasOf sector_at sectors areas)
+    → All (IsOn pv) spans → length spans ≤ 1 + 3 * length areas → ReadsTold before spans after → BetweenRecords (ReadsDisk pv sectors) before after
 told_reads pv sectors areas before after spans are own few reads old is =
     let f = reads old is in (
       f.0,
@@ -121,14 +121,14 @@ told_reads pv sectors areas before after spans are own few reads old is =
         reads = f.2.reads;
         own = subst (All (IsOn pv)) (sym f.2.spans_are) own;
         areas = areas;
-        are = subst (λ (o : Option Told). HoldsOfDisk o pv (λ sector_at. AreAreasOf sector_at sectors areas)) is are;
+        are = subst (λ (o : Option Record). HoldsOfDisk o pv (λ sector_at. AreAreasOf sector_at sectors areas)) is are;
         few = subst (λ (l : List Span). length l ≤ 1 + 3 * length areas) (sym f.2.spans_are) few;
       },
     )
 
 -- what a call does to the disk and leaves, where it ends so
 abbrev pub ReadsSo : ℕ → ℕ → State → State → Type 0 → Type 0
-ReadsSo pv sectors before after End = BetweenTold (ReadsDisk pv sectors) before.told after.told × IsIdleAgain before after × End
+ReadsSo pv sectors before after End = BetweenRecords (ReadsDisk pv sectors) before.told after.told × IsIdleAgain before after × End
 
 -- its headers, or the first so many of them
 pub headers_until : (pv sectors : ℕ) (before after : State) (refusal : ReadRefusal) → ReadsAreasUntil pv sectors before (λ areas. label_span pv ∷ area_spans pv areas) after refusal
@@ -157,7 +157,7 @@ module _ (pv sectors : ℕ) (found : PvFound) (before there after : State) (stan
   texts = text_spans_in pv (areas_in found)
 
   -- the first so many of its headers and of its texts
-  front_read : (read rest : List Span) → read ++ rest ≡ headers ++ texts → ReadsTold before.told read after.told → BetweenTold (ReadsDisk pv sectors) before.told after.told
+  front_read : (read rest : List Span) → read ++ rest ≡ headers ++ texts → ReadsTold before.told read after.told → BetweenRecords (ReadsDisk pv sectors) before.told after.told
   unfolding headers texts
   front_read read rest front reads =
       let few : length read ≤ length (headers ++ texts) = front_few read rest (headers ++ texts) front in
@@ -190,6 +190,6 @@ module _ (pv sectors : ℕ) (found : PvFound) (before there after : State) (stan
   unfolding headers
   disk_reads reading reads =
       holds_both before.told pv (λ sector_at. IsFound sector_at sectors found) (λ sector_at. IsPvReading pv sector_at (Some found) reading) (λ sector_at. IsDiskRead pv sector_at sectors found reading)
-      (λ sector_at a b. record { contents_xl = a; pv_xl = b })
+      (λ sector_at a b. record { contents_is = a; pv_is = b })
       is
       (holds_before before.told there.told headers pv (λ sector_at. IsPvReading pv sector_at (Some found) reading) went.reads reads)

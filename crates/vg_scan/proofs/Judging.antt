@@ -25,7 +25,7 @@ pub group_in_tree : (tree : Conf) (group found : Group) (passed paths : List (Li
 group_in_tree tree group found passed paths stands over is = record {
   stands = stands ∙ ap Ok (sym is.0);
   accepted = subst IsAccepted (sym is.0) is.1;
-  passed_xl = is.2 ∙ over;
+  passed_is = is.2 ∙ over;
 }
 
 pub tree_refused : (tree : Conf) (group : Group) (refusal : CopyRefusal) → group_of tree ≡ Ok group → IsRuleRefusal group refusal → IsTreeRefusal tree refusal
@@ -38,7 +38,7 @@ tree_refused tree group (RuleBroken rule) stands is = (group, stands, is)
 -- ---- of the tree of a text
 
 pub copy_in_text : (text : List ℕ) (tree : Conf) (group : Group) (passed : List (List ℕ)) → IsTextOf text tree → IsGroupOf tree group passed → IsCopyOf text group passed
-copy_in_text text tree group passed is_text is = record { tree = tree; is_text = is_text; stands = is.stands; accepted = is.accepted; passed_xl = is.passed_xl }
+copy_in_text text tree group passed is_text is = record { tree = tree; is_text = is_text; stands = is.stands; accepted = is.accepted; passed_is = is.passed_is }
 
 pub text_refused : (text : List ℕ) (tree : Conf) (refusal : CopyRefusal) → IsTextOf text tree → IsTreeRefusal tree refusal → IsTextRefusal text refusal
 text_refused text tree (HeaderRefused why) is_text is = is

@@ -69,8 +69,8 @@ same_stored a b long same = same_by_ends a b (ends_zero a) (ends_zero b) refl re
 pub known_again : (entry locn : Locn) (copy : GroupCopy) (bytes : List ℕ) → IsKnown entry copy → entry.size ≡ locn.size → entry.sum ≡ locn.sum → length bytes ≡ locn.size → copy.text ≡ without_zero bytes
     → IsStored locn bytes (copied copy)
 known_again entry locn copy bytes known size sum long text =
-    let same : known.bytes ≡ bytes = same_stored known.bytes bytes (known.size_xl ∙ size ∙ sym long) (sym known.stored.0.text_xl ∙ text) in
-    (record { agrees = ap (checksum lvm_crc_start) (sym same) ∙ known.stored.0.agrees ∙ sum; text_xl = text }, known.stored.1)
+    let same : known.bytes ≡ bytes = same_stored known.bytes bytes (known.size_is ∙ size ∙ sym long) (sym known.stored.0.text_is ∙ text) in
+    (record { agrees = ap (checksum lvm_crc_start) (sym same) ∙ known.stored.0.agrees ∙ sum; text_is = text }, known.stored.1)
 
 pub gives_number : (copies : List GroupCopy) (i : ℕ) (copy : GroupCopy) → slice_get copies i ≡ Some copy → gives_of copies (Numbered i) ≡ copied copy
 gives_number copies i copy at = ap (λ (o : Option GroupCopy). unwrap_or (option_map copied o) HoldsNone) at

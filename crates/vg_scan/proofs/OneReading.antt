@@ -5,8 +5,8 @@ use Rattle.std.specs.FinSet as set
 use Rattle.std.specs.Ordering.{nat_cmp}
 use Rattle.sector_base.specs.Checksum.{checksum, lvm_crc_start}
 use Rattle.disk_model.specs.Steps.{Image}
-use Rattle.mda_header.specs.declared.entry.Entry.{Entry}
-use Rattle.mda_header.specs.declared.entry.Entry.TheVariants.{Ignored, Nothing, Text, Refused as RefusedFor}
+use Rattle.mda_header.specs.declared.entry.HeaderEntry.{HeaderEntry}
+use Rattle.mda_header.specs.declared.entry.HeaderEntry.TheVariants.{Ignored, Nothing, Text, Refused as RefusedFor}
 use Rattle.mda_header.specs.declared.header.Locn.{Locn}
 use Rattle.mda_ring.specs.declared.area.Area.{Area}
 use Rattle.mda_ring.specs.Texts.{IsTextOf as IsTextOfEntry}
@@ -65,7 +65,7 @@ stored_as locn bytes (Copy group text passed) is =
       inr (
         is.1.tree,
         is.1.is_text,
-        subst (λ (r : Result Group GroupRefusal). Judged text is.1.tree r (Copy group text passed)) (sym is.1.stands) (inl (is.1.accepted, ap (Copy group text) is.1.passed_xl)),
+        subst (λ (r : Result Group GroupRefusal). Judged text is.1.tree r (Copy group text passed)) (sym is.1.stands) (inl (is.1.accepted, ap (Copy group text) is.1.passed_is)),
       ),
     )
 stored_as locn bytes (Refused (HeaderRefused refusal)) is = absurd is
@@ -115,14 +115,14 @@ module _ (trees : (text : List ℕ) (a b : Conf) → IsTextOf text a → IsTextO
   one_of_stored locn bytes a b (inl x) (inr y) = absurd (x.0 (sym y.1.agrees))
   one_of_stored locn bytes a b (inr x) (inl y) = absurd (y.0 (sym x.1.agrees))
   one_of_stored locn bytes a b (inr x) (inr y) =
-      one_of_text y.0 a b (subst (λ (text : List ℕ). Unread text a ⊎ Read text a) (x.1.text_xl ∙ sym y.1.text_xl) x.2) y.2
+      one_of_text y.0 a b (subst (λ (text : List ℕ). Unread text a ⊎ Read text a) (x.1.text_is ∙ sym y.1.text_is) x.2) y.2
 
   one_stored : (locn : Locn) (bytes : List ℕ) (a b : AreaReading) → IsStored locn bytes a → IsStored locn bytes b → a ≡ b
   one_stored locn bytes a b is is' = one_of_stored locn bytes a b (stored_as locn bytes a is) (stored_as locn bytes b is')
 
   -- ---- areas
 
-  one_given : (sector_at : ℕ → List ℕ) (area : Area) (entry : Entry) (a b : Option AreaReading) → IsGiven sector_at area entry a → IsGiven sector_at area entry b → a ≡ b
+  one_given : (sector_at : ℕ → List ℕ) (area : Area) (entry : HeaderEntry) (a b : Option AreaReading) → IsGiven sector_at area entry a → IsGiven sector_at area entry b → a ≡ b
   one_given sector_at area Ignored a b is is' = is ∙ sym is'
   one_given sector_at area Nothing a b is is' = is ∙ sym is'
   one_given sector_at area (Text locn) a b is is' =
@@ -131,8 +131,8 @@ module _ (trees : (text : List ℕ) (a b : Conf) → IsTextOf text a → IsTextO
 
   one_area : (pv : ℕ) (sector_at : ℕ → List ℕ) (found : AreaFound) (a b : AreaOf) → IsAreaReading pv sector_at found a → IsAreaReading pv sector_at found b → a ≡ b
   one_area pv sector_at found a b is is' = λ i. record {
-    start = (is.start_xl ∙ sym is'.start_xl) i;
-    sectors = (is.sectors_xl ∙ sym is'.sectors_xl) i;
+    start = (is.start_is ∙ sym is'.start_is) i;
+    sectors = (is.sectors_is ∙ sym is'.sectors_is) i;
     reading = one_given sector_at (area_on pv found.area) found.entry a.reading b.reading is.given is'.given i;
   }
 
@@ -172,8 +172,8 @@ module _ (trees : (text : List ℕ) (a b : Conf) → IsTextOf text a → IsTextO
       let contents : d.contents ≡ e.contents =
       one_contents sector_at e.sectors d.contents e.contents (λ none. v.1 (u.0 none)) (λ none. u.1 (v.0 none)) (subst (λ (n : ℕ). IsContents sector_at n d.contents) sectors is.contents) is'.contents
       in
-      let read : x.pv ≡ y.pv = one_pv pv sector_at e.contents x.pv y.pv (subst (λ (c : Option PvFound). IsPvReading pv sector_at c x.pv) contents is.pv_xl) is'.pv_xl in
-      let same : x.sectors ≡ y.sectors = is.sectors_xl ∙ sectors ∙ sym is'.sectors_xl in
+      let read : x.pv ≡ y.pv = one_pv pv sector_at e.contents x.pv y.pv (subst (λ (c : Option PvFound). IsPvReading pv sector_at c x.pv) contents is.pv_is) is'.pv_is in
+      let same : x.sectors ≡ y.sectors = is.sectors_is ∙ sectors ∙ sym is'.sectors_is in
       (λ i. record { sectors = sectors i; contents = contents i }, λ i. record { sectors = same i; pv = read i })
 
   abbrev sectors_of : List Disk → List ℕ
@@ -201,4 +201,4 @@ module _ (trees : (text : List ℕ) (a b : Conf) → IsTextOf text a → IsTextO
 
   -- the disks of an image are read in one way
   pub one_reading : (image : Image) (sizes : List ℕ) (unread : set.FinSet nat_cmp) (ds es : List Disk) (xs ys : List Reading) → AreReadings image sizes unread ds xs → AreReadings image sizes unread es ys → (ds ≡ es) × (xs ≡ ys)
-  one_reading image sizes unread ds es xs ys are are' = one_list image unread 0 ds es xs ys (are.sizes_xl ∙ sym are'.sizes_xl) are.each are'.each
+  one_reading image sizes unread ds es xs ys are are' = one_list image unread 0 ds es xs ys (are.sizes_is ∙ sym are'.sizes_is) are.each are'.each

@@ -2,7 +2,7 @@
 use Rattle.std.proofs.Common.{◌≡◌, ◌<◌, ◌≤◌, ℕ, suc, ◌+◌, ◌*◌, ◌^◌, List, [], ◌∷◌, length, map, Option, Some, refl, sym, ap, subst, ◌∙◌, arith}
 use Rattle.std.proofs.lemmas.List.{length-map}
 use Rattle.disk_model.specs.Since.{HoldsOfDisk}
-use Rattle.disk_model.specs.Steps.{Told}
+use Rattle.disk_model.specs.Steps.{Record}
 use Rattle.pv_header.specs.declared.extent_list.Extent.{Extent}
 use Rattle.pv_header.specs.declared.header.PvHeader.{PvHeader}
 use Rattle.pv_header.specs.PvHeader.{areas_place}
@@ -30,14 +30,14 @@ same_areas : (areas : List AreaFound) (readings : List AreaOf) → HavePlaces ar
 same_areas [] [] are = tt
 same_areas [] (reading ∷ readings) are = absurd are
 same_areas (found ∷ areas) [] are = absurd are
-same_areas (found ∷ areas) (reading ∷ readings) are = (are.0.start_xl, are.0.sectors_xl, same_areas areas readings are.1)
+same_areas (found ∷ areas) (reading ∷ readings) are = (are.0.start_is, are.0.sectors_is, same_areas areas readings are.1)
 
 -- the same of the lists that are passed on
 pub places_passed : (slice areas : List AreaFound) (items all : List AreaRead) (copies : List GroupCopy) → slice ≡ areas → all ≡ items → HavePlaces slice (map (area_of copies) items) → HavePlaces areas (map (area_of copies) all)
 places_passed slice areas items all copies here there are =
     subst (λ (l : List AreaFound). HavePlaces l (map (area_of copies) all)) here (subst (λ (l : List AreaRead). HavePlaces slice (map (area_of copies) l)) (sym there) are)
 
-pub readings_passed : (pv : ℕ) (told : Option Told) (slice areas : List AreaFound) (items all : List AreaRead) (copies : List GroupCopy) → slice ≡ areas → all ≡ items
+pub readings_passed : (pv : ℕ) (told : Option Record) (slice areas : List AreaFound) (items all : List AreaRead) (copies : List GroupCopy) → slice ≡ areas → all ≡ items
     → HoldsOfDisk told pv (λ sector_at. AreAreaReadings pv sector_at slice (map (area_of copies) items)) → HoldsOfDisk told pv (λ sector_at. AreAreaReadings pv sector_at areas (map (area_of copies) all))
 readings_passed pv told slice areas items all copies here there are =
     subst (λ (l : List AreaFound). HoldsOfDisk told pv (λ sector_at. AreAreaReadings pv sector_at l (map (area_of copies) all))) here

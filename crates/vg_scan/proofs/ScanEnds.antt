@@ -8,7 +8,7 @@ use Rattle.disk_model.specs.declared.fault.DiskFault.{DiskFault}
 use Rattle.disk_model.specs.Faults.{HasSameFaults, IsLastFault}
 use Rattle.disk_model.specs.Since.{HoldsOfDisk}
 use Rattle.disk_model.specs.State.{State}
-use Rattle.disk_model.specs.Steps.{Image, Reading as Reads, Told, now_after}
+use Rattle.disk_model.specs.Steps.{Image, Reading as Reads, Record, now_after}
 use Rattle.disk_model.proofs.ReadingAlone as of_disk
 use Rattle.disk_contents.specs.declared.contents.PvFound.{PvFound}
 use Rattle.disk_contents.specs.declared.read_refusal.ReadRefusal.TheVariants.{ReadFailed}
@@ -60,7 +60,7 @@ read_taken pv old new before mid after sectors contents read r kept size holds s
     taken_in pv old new before mid after sectors (Some contents) read r kept size
     (of_disk.holds_weaker old.told pv (λ sector_at. IsDiskRead pv sector_at (get_or old.sizes pv 0) contents read)
     (λ sector_at. IsDiskReading pv sector_at (record { sectors = sectors; contents = Some contents }) (record { sectors = sectors; pv = read }))
-    (λ sector_at is. record { contents = subst (λ (n : ℕ). IsFound sector_at n contents) (sym size) is.contents_xl; sectors_xl = refl; pv_xl = is.pv_xl })
+    (λ sector_at is. record { contents = subst (λ (n : ℕ). IsFound sector_at n contents) (sym size) is.contents_is; sectors_is = refl; pv_is = is.pv_is })
     holds)
     (subst (λ (n : ℕ). CanStand pv n contents) (sym size) stands) same faults taken
 
@@ -71,12 +71,12 @@ pub unread_taken : {E : Type 0} (pv : ℕ) (old new : State) (before mid after :
 unread_taken pv old new before mid after sectors fault r kept size cause taken =
     let last : IsLastFault old new pv (Reads cause.1.0) = cause.1.1 in
     taken_in pv old new before mid after sectors None None r kept size
-    (of_disk.holds_always old.told pv (λ sector_at. IsDiskReading pv sector_at (record { sectors = sectors; contents = None }) (record { sectors = sectors; pv = None })) (λ sector_at. record { contents = tt; sectors_xl = refl; pv_xl = refl }))
+    (of_disk.holds_always old.told pv (λ sector_at. IsDiskReading pv sector_at (record { sectors = sectors; contents = None }) (record { sectors = sectors; pv = None })) (λ sector_at. record { contents = tt; sectors_is = refl; pv_is = refl }))
     tt tt (omega (arith, last.one), last.others) taken
 
 -- ---- all disks
 
-holds_weaker : (told : Option Told) (P Q : Image → Type 0) → ((image : Image) → P image → Q image) → HoldsNow told P → HoldsNow told Q
+holds_weaker : (told : Option Record) (P Q : Image → Type 0) → ((image : Image) → P image → Q image) → HoldsNow told P → HoldsNow told Q
 holds_weaker None P Q make holds = tt
 holds_weaker (Some t) P Q make holds = make (now_after t.opened t.steps) holds
 
@@ -85,7 +85,7 @@ sectors_of disks = map (λ (disk : Disk). disk.sectors) disks
 
 all_read : (s0 s : State) (count : ℕ) (disks : List Disk) (unread : set.FinSet nat_cmp) (readings : List Reading) → AreScanned s0 count disks unread readings s → length s0.sizes ≤ count
     → (image : Image) → AreDiskReadings image unread 0 disks readings → AreReadings image s0.sizes unread disks readings
-all_read s0 s count disks unread readings scanned all image each = record { sizes_xl = scanned.sizes ∙ take_all count s0.sizes all; each = each }
+all_read s0 s count disks unread readings scanned all image each = record { sizes_is = scanned.sizes ∙ take_all count s0.sizes all; each = each }
 
 pub scan_found : (s0 s : State) (count : ℕ) (disks : List Disk) (unread : set.FinSet nat_cmp) (readings : List Reading) (found : Found) → AreScanned s0 count disks unread readings s → length s0.sizes ≤ count
     → IsOutcome disks unread readings found → IsScan s0 found s

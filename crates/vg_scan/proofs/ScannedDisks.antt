@@ -10,9 +10,9 @@ use Rattle.std.proofs.lemmas.List.{append-nil, map-append, take_more}
 use Rattle.std.proofs.lemmas.List.Elements.{All-head, All-tail, filter-append}
 use Rattle.std.proofs.lemmas.Option.{none-some, same_Some, slice_get_within}
 use Rattle.sector_base.specs.declared.spans.Span.{Span}
-use Rattle.disk_model.specs.Since.{BetweenTold, HoldsOfDisk, OnlyReads, ReadsTold, spans_read}
+use Rattle.disk_model.specs.Since.{BetweenRecords, HoldsOfDisk, OnlyReads, ReadsTold, spans_read}
 use Rattle.disk_model.specs.State.{State}
-use Rattle.disk_model.specs.Steps.{Image, Told, now_after}
+use Rattle.disk_model.specs.Steps.{Image, Record, now_after}
 use Rattle.disk_model.proofs.ReadingAlone.{reads_told_both, same_now}
 use Rattle.disk_model.proofs.StepsSince.{between_both, between_same, between_weaker}
 use Rattle.pv_header.specs.declared.extent_list.Extent.{Extent}
@@ -29,18 +29,18 @@ use Rattle.vg_scan.specs.Scans.{AreFewReads, FailedOn, HoldsNow, ReadsFew, spans
 
 -- ---- what was read
 
-told_reads : (old new : Told) (spans : List Span) → OnlyReads old spans new → ReadsTold (Some old) spans (Some new)
-told_reads old new spans reads = λ before is. (new, refl, subst (λ (t : Told). OnlyReads t spans new) (same_Some old before is) reads)
+told_reads : (old new : Record) (spans : List Span) → OnlyReads old spans new → ReadsTold (Some old) spans (Some new)
+told_reads old new spans reads = λ before is. (new, refl, subst (λ (t : Record). OnlyReads t spans new) (same_Some old before is) reads)
 
-reads_both : (first more : List Span) (old mid new : Told) → OnlyReads old first mid → OnlyReads mid more new → OnlyReads old (first ++ more) new
+reads_both : (first more : List Span) (old mid new : Record) → OnlyReads old first mid → OnlyReads mid more new → OnlyReads old (first ++ more) new
 reads_both first more old mid new a b =
     let both = reads_told_both first more (Some old) (Some mid) (Some new) (told_reads old mid first a) (told_reads mid new more b) old refl in
-    subst (λ (t : Told). OnlyReads old (first ++ more) t) (sym (same_Some new both.0 both.1)) both.2
+    subst (λ (t : Record). OnlyReads old (first ++ more) t) (sym (same_Some new both.0 both.1)) both.2
 
-only_below : (count : ℕ) (sizes : List ℕ) (old new : Told) (reads : ReadsFewBelow count sizes old new) → OnlyReads old (spans_read reads.since) new
+only_below : (count : ℕ) (sizes : List ℕ) (old new : Record) (reads : ReadsFewBelow count sizes old new) → OnlyReads old (spans_read reads.since) new
 only_below count sizes old new reads = record { since = reads.since; steps = reads.steps; reads = reads.reads; spans_are = refl }
 
-only_disk : (pv sectors : ℕ) (old new : Told) (reads : ReadsDisk pv sectors old new) → OnlyReads old (spans_read reads.since) new
+only_disk : (pv sectors : ℕ) (old new : Record) (reads : ReadsDisk pv sectors old new) → OnlyReads old (spans_read reads.since) new
 only_disk pv sectors old new reads = record { since = reads.since; steps = reads.steps; reads = reads.reads; spans_are = refl }
 
 none_on : (pv own : ℕ) (spans : List Span) → All (λ (span : Span). span.pv ≡ own) spans → pv ≢ own → spans_on pv spans ≡ []
@@ -89,7 +89,7 @@ none_of_both : (count : ℕ) (first more : List Span) → ((pv : ℕ) → count 
 none_of_both count first more none own pv above =
     on_both pv first more ∙ ap (λ (l : List Span). l ++ spans_on pv more) (none pv (omega arith)) ∙ none_on pv count more own (λ same. absurd (omega (arith, same, above)))
 
-more_reads : (count : ℕ) (sizes : List ℕ) (old mid new : Told) → ReadsFewBelow count sizes old mid → ReadsDisk count (get_or sizes count 0) mid new → ReadsFewBelow (count + 1) sizes old new
+more_reads : (count : ℕ) (sizes : List ℕ) (old mid new : Record) → ReadsFewBelow count sizes old mid → ReadsDisk count (get_or sizes count 0) mid new → ReadsFewBelow (count + 1) sizes old new
 more_reads count sizes old mid new a b =
     let first : List Span = spans_read a.since in
     let more : List Span = spans_read b.since in
@@ -105,21 +105,21 @@ more_reads count sizes old mid new a b =
     }
 
 -- the disks so far, and then this one
-pub more_told : (count : ℕ) (sizes : List ℕ) (s0 s1 s2 : Option Told) → BetweenTold (ReadsFewBelow count sizes) s0 s1 → BetweenTold (ReadsDisk count (get_or sizes count 0)) s1 s2 → BetweenTold (ReadsFewBelow (count + 1) sizes) s0 s2
+pub more_told : (count : ℕ) (sizes : List ℕ) (s0 s1 s2 : Option Record) → BetweenRecords (ReadsFewBelow count sizes) s0 s1 → BetweenRecords (ReadsDisk count (get_or sizes count 0)) s1 s2 → BetweenRecords (ReadsFewBelow (count + 1) sizes) s0 s2
 more_told count sizes s0 s1 s2 a b = between_both (ReadsFewBelow count sizes) (ReadsDisk count (get_or sizes count 0)) (ReadsFewBelow (count + 1) sizes) s0 s1 s2 (more_reads count sizes) a b
 
-pub few_told : (count : ℕ) (sizes : List ℕ) (s0 s1 : Option Told) → BetweenTold (ReadsFewBelow count sizes) s0 s1 → BetweenTold (ReadsFew sizes) s0 s1
+pub few_told : (count : ℕ) (sizes : List ℕ) (s0 s1 : Option Record) → BetweenRecords (ReadsFewBelow count sizes) s0 s1 → BetweenRecords (ReadsFew sizes) s0 s1
 few_told count sizes s0 s1 a =
     between_weaker (ReadsFewBelow count sizes) (ReadsFew sizes) s0 s1 (λ old new r. record { since = r.since; steps = r.steps; reads = r.reads; few = r.few }) a
 
 -- ---- what the disks hold
 
-holds_more : (count : ℕ) (sizes : List ℕ) (s0 s1 : Option Told) (P R : Image → Type 0) (Q : (ℕ → List ℕ) → Type 0) → BetweenTold (ReadsFewBelow count sizes) s0 s1
+holds_more : (count : ℕ) (sizes : List ℕ) (s0 s1 : Option Record) (P R : Image → Type 0) (Q : (ℕ → List ℕ) → Type 0) → BetweenRecords (ReadsFewBelow count sizes) s0 s1
     → ((image : Image) → P image → Q (image count) → R image) → HoldsNow s0 P → HoldsOfDisk s1 count Q → HoldsNow s0 R
 holds_more count sizes None s1 P R Q reads make p q = tt
 holds_more count sizes (Some old) s1 P R Q reads make p q =
     let f = reads old refl in
-    let here : HoldsOfDisk (Some f.0) count Q = subst (λ (o : Option Told). HoldsOfDisk o count Q) f.1 q in
+    let here : HoldsOfDisk (Some f.0) count Q = subst (λ (o : Option Record). HoldsOfDisk o count Q) f.1 q in
     make (now_after old.opened old.steps) p (subst (λ (image : Image). Q (image count)) (same_now old f.0 (spans_read f.2.since) (only_below count sizes old f.0 f.2)) here)
 
 -- a set with one number more, or as it was, has the same below that number
@@ -241,7 +241,7 @@ faults_more count unread (Some contents) s0 s1 s2 absent before here = record {
 -- ---- all of it
 
 scanned_more : (count : ℕ) (disks : List Disk) (unread : set.FinSet nat_cmp) (readings after : List Reading) (disk : Disk) (s0 s1 s2 : State) → AreScanned s0 count disks unread readings s1 → (d : IsScannedDisk count s1 readings disk after s2)
-    → BetweenTold (ReadsDisk count (get_or s0.sizes count 0)) s1.told s2.told → s1.sizes ≡ s0.sizes → count < length s0.sizes → 8 ≤ get_or s0.sizes count 0 → get_or s0.sizes count 0 ≤ 2 ^ 40
+    → BetweenRecords (ReadsDisk count (get_or s0.sizes count 0)) s1.told s2.told → s1.sizes ≡ s0.sizes → count < length s0.sizes → 8 ≤ get_or s0.sizes count 0 → get_or s0.sizes count 0 ≤ 2 ^ 40
     → AreScanned s0 (count + 1) (disks ++ disk ∷ []) (unread_with unread count disk) (readings ++ d.reading ∷ []) s2
 scanned_more count disks unread readings after disk s0 s1 s2 so_far d reads sizes_are within least most =
     let size : disk.sectors ≡ get_or s0.sizes count 0 = d.sectors ∙ ap (λ (l : List ℕ). get_or l count 0) sizes_are in
@@ -270,11 +270,11 @@ scanned_more count disks unread readings after disk s0 s1 s2 so_far d reads size
       reads = more_told count s0.sizes s0.told s1.told s2.told so_far.reads reads;
     }
 
-of_size : (count : ℕ) (s0 s1 s2 : State) → s1.sizes ≡ s0.sizes → BetweenTold (ReadsDisk count (get_or s1.sizes count 0)) s1.told s2.told → BetweenTold (ReadsDisk count (get_or s0.sizes count 0)) s1.told s2.told
-of_size count s0 s1 s2 sizes_are reads = subst (λ (l : List ℕ). BetweenTold (ReadsDisk count (get_or l count 0)) s1.told s2.told) sizes_are reads
+of_size : (count : ℕ) (s0 s1 s2 : State) → s1.sizes ≡ s0.sizes → BetweenRecords (ReadsDisk count (get_or s1.sizes count 0)) s1.told s2.told → BetweenRecords (ReadsDisk count (get_or s0.sizes count 0)) s1.told s2.told
+of_size count s0 s1 s2 sizes_are reads = subst (λ (l : List ℕ). BetweenRecords (ReadsDisk count (get_or l count 0)) s1.told s2.told) sizes_are reads
 
 pub next_scanned : (count : ℕ) (disks more : List Disk) (unread unread_more : set.FinSet nat_cmp) (readings after : List Reading) (disk : Disk) (s0 s1 s2 : State) → AreScanned s0 count disks unread readings s1
-    → IsScannedDisk count s1 readings disk after s2 → BetweenTold (ReadsDisk count (get_or s1.sizes count 0)) s1.told s2.told → s1.sizes ≡ s0.sizes → count < length s0.sizes → 8 ≤ get_or s0.sizes count 0
+    → IsScannedDisk count s1 readings disk after s2 → BetweenRecords (ReadsDisk count (get_or s1.sizes count 0)) s1.told s2.told → s1.sizes ≡ s0.sizes → count < length s0.sizes → 8 ≤ get_or s0.sizes count 0
     → get_or s0.sizes count 0 ≤ 2 ^ 40 → more ≡ disks ++ disk ∷ [] → unread_more ≡ unread_with unread count disk → AreScanned s0 (count + 1) more unread_more after s2
 next_scanned count disks more unread unread_more readings after disk s0 s1 s2 so_far d reads sizes_are within least most pushed named =
     subst (λ (l : List Disk). AreScanned s0 (count + 1) l unread_more after s2) (sym pushed)
@@ -284,7 +284,7 @@ next_scanned count disks more unread unread_more readings after disk s0 s1 s2 so
 
 -- the reads where going on was impossible
 pub reads_stopped : (count : ℕ) (disks : List Disk) (unread : set.FinSet nat_cmp) (readings : List Reading) (s0 s1 s2 : State) → AreScanned s0 count disks unread readings s1 → s1.sizes ≡ s0.sizes
-    → BetweenTold (ReadsDisk count (get_or s1.sizes count 0)) s1.told s2.told → BetweenTold (ReadsFew s0.sizes) s0.told s2.told
+    → BetweenRecords (ReadsDisk count (get_or s1.sizes count 0)) s1.told s2.told → BetweenRecords (ReadsFew s0.sizes) s0.told s2.told
 reads_stopped count disks unread readings s0 s1 s2 so_far sizes_are reads =
     few_told (count + 1) s0.sizes s0.told s2.told (more_told count s0.sizes s0.told s1.told s2.told so_far.reads (of_size count s0 s1 s2 sizes_are reads))
 
@@ -307,6 +307,6 @@ none_scanned disks unread readings s no_disks no_unread no_readings =
       reads = between_same (ReadsFewBelow 0 s.sizes) s.told s.told refl (λ old. record { since = []; steps = refl; reads = tt; few = λ pv. ([], inl refl, omega arith); none_above = λ pv above. refl });
     })))
   where
-    always : (told : Option Told) → HoldsNow told (λ image. AreDiskReadings image set.empty 0 [] [])
+    always : (told : Option Record) → HoldsNow told (λ image. AreDiskReadings image set.empty 0 [] [])
     always None = tt
     always (Some t) = tt

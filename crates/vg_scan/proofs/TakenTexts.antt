@@ -12,7 +12,7 @@ use Rattle.vg_scan.proofs.KnownTexts.{gives_number}
 
 -- it is known by the entry that it was read at
 pub copy_known : (locn : Locn) (bytes : List ℕ) (copy : GroupCopy) → length bytes ≡ locn.size → IsStored locn bytes (copied copy) → IsKnown locn copy
-copy_known locn bytes copy size stored = record { bytes = bytes; size_xl = size; stored = stored }
+copy_known locn bytes copy size stored = record { bytes = bytes; size_is = size; stored = stored }
 
 module _ (old new : List GroupCopy) (copy : GroupCopy) (number : ℕ) (last : number ≡ length old) (grown : new ≡ old ++ copy ∷ []) where
   -- its number stands for it

@@ -17,7 +17,7 @@ use Rattle.disk_contents.proofs.ReadingParts.{until_after, until_sooner, well_bo
 
 -- the spans have the sectors that the text touches, in the order of its bytes
 pub record AreSpansOf (area : Area) (locn : Locn) (spans : Span × Option Span) : Type 0 where
-  pub count_xl : spans_count spans ≡ touched_count area.size locn.offset locn.size
+  pub count_is : spans_count spans ≡ touched_count area.size locn.offset locn.size
   pub order : (k : ℕ) → k < touched_count area.size locn.offset locn.size → nth_sector spans k ≡ area.start / 512 + ring_sector area.size locn.offset k
 
 -- the span was read
@@ -36,7 +36,7 @@ pub read_joined : (area : Area) (locn : Locn) (first rest : Span) (sectors more 
 read_joined area locn first rest sectors more all spans long long' joined sector_at read read' = record { read = record { each = each } }
   where
     count : first.count + rest.count ≡ touched_count area.size locn.offset locn.size
-    count = spans.count_xl
+    count = spans.count_is
 
     each : (k : ℕ) → k < length all → slice_index_or all k [] ≡ sector_at (area.start / 512 + ring_sector area.size locn.offset k)
     each k lt =
@@ -64,7 +64,7 @@ rest_of spans rest is = ap (λ (o : Option Span). spans.0 ∷ option_map_or (λ 
 
 -- the span is of the area's disk
 pub in_area_rest : (area : Area) (rest : Option Span) (span : Span) → rest ≡ Some span → IfSome rest (IsInArea area) → span.pv ≡ area.pv
-in_area_rest area rest span is lies = (subst (λ (o : Option Span). IfSome o (IsInArea area)) is lies).pv_xl
+in_area_rest area rest span is lies = (subst (λ (o : Option Span). IfSome o (IsInArea area)) is lies).pv_is
 
 module _ (area : Area) (locn : Locn) (spans : Span × Option Span) (are : spans ≡ ring_spans area locn.offset locn.size) (old mid new : State) where
   -- the first span's read ended the call

@@ -11,7 +11,7 @@ use Rattle.vg_scan.specs.Texts.{IsStored}
 -- some bytes of the entry's size and sum are stored as the text of the copy
 pub record IsKnown (locn : Locn) (copy : GroupCopy) : Type 0 where
   pub bytes : List ℕ
-  pub size_xl : length bytes ≡ locn.size
+  pub size_is : length bytes ≡ locn.size
   pub stored : IsStored locn bytes (copied copy)
 
 -- the order of an entry's size and sum

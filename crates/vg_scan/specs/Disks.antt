@@ -2,7 +2,7 @@
 use Rattle.std.specs.Prelude.{◌≡◌, ◌≤◌, ℕ, ◌+◌, ◌*◌, List, length, All, Option, Some, None, option_map}
 use Rattle.sector_base.specs.declared.spans.Span.{Span}
 use Rattle.disk_model.specs.Since.{ReadsAlone, spans_read}
-use Rattle.disk_model.specs.Steps.{Step, Told, now_after, steps_on}
+use Rattle.disk_model.specs.Steps.{Step, Record, now_after, steps_on}
 use Rattle.pv_header.specs.declared.extent_list.Extent.{Extent}
 use Rattle.disk_contents.specs.declared.contents.PvFound.{PvFound}
 use Rattle.disk_contents.specs.Contents.{IsFound}
@@ -20,15 +20,15 @@ pv_read copies pv = option_map (found_of copies) pv
 
 -- what stands on a disk with these sectors, and how it reads
 pub record IsDiskRead (pv : ℕ) (sector_at : ℕ → List ℕ) (sectors : ℕ) (contents : PvFound) (reading : Option PvOf) : Type 0 where
-  pub contents_xl : IsFound sector_at sectors contents
-  pub pv_xl : IsPvReading pv sector_at (Some contents) reading
+  pub contents_is : IsFound sector_at sectors contents
+  pub pv_is : IsPvReading pv sector_at (Some contents) reading
 
 -- its id and its areas are those of the header, whatever stands on the disk
 abbrev pub HasItsShape : PvFound → Option PvOf → Type 0
 HasItsShape contents reading = SamePv (option_map pv_shape (header_in contents)) reading
 
 -- only this disk was read, at most once and three times for each area that its header lists
-pub record ReadsDisk (pv sectors : ℕ) (old new : Told) : Type 0 where
+pub record ReadsDisk (pv sectors : ℕ) (old new : Record) : Type 0 where
   pub since : List Step
   pub steps : new ≡ steps_on since old
   pub reads : ReadsAlone since

@@ -18,7 +18,7 @@ pub record IsTree (tree : Conf) : Type 0 where
 pub record IsGroupOf (tree : Conf) (group : Group) (passed : List (List ℕ)) : Type 0 where
   pub stands : group_of tree ≡ Ok group
   pub accepted : IsAccepted group
-  pub passed_xl : passed ≡ passed_over tree
+  pub passed_is : passed ≡ passed_over tree
 
 -- the refusal is the first rule that the group breaks
 abbrev pub IsRuleRefusal : Group → CopyRefusal → Type 0

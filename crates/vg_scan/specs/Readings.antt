@@ -3,8 +3,8 @@ use Rattle.std.specs.Prelude.{◌≡◌, ℕ, ◌+◌, ◌/◌, List, [], ◌∷
 use Rattle.std.specs.FinSet as set
 use Rattle.std.specs.Ordering.{nat_cmp}
 use Rattle.disk_model.specs.Steps.{Image}
-use Rattle.mda_header.specs.declared.entry.Entry.{Entry}
-use Rattle.mda_header.specs.declared.entry.Entry.TheVariants.{Ignored, Nothing, Text, Refused as RefusedFor}
+use Rattle.mda_header.specs.declared.entry.HeaderEntry.{HeaderEntry}
+use Rattle.mda_header.specs.declared.entry.HeaderEntry.TheVariants.{Ignored, Nothing, Text, Refused as RefusedFor}
 use Rattle.mda_ring.specs.declared.area.Area.{Area}
 use Rattle.disk_contents.specs.declared.contents.AreaFound.{AreaFound}
 use Rattle.disk_contents.specs.declared.contents.PvFound.{PvFound}
@@ -18,7 +18,7 @@ use Rattle.vg_found.specs.Shape.{IsUnread}
 use Rattle.vg_scan.specs.Texts.{IsStored, stored_bytes}
 
 -- what an area gives, by what its header sector says of the committed text: nothing is read of one that is ignored
-abbrev pub IsGiven : (ℕ → List ℕ) → Area → Entry → Option AreaReading → Type 0
+abbrev pub IsGiven : (ℕ → List ℕ) → Area → HeaderEntry → Option AreaReading → Type 0
 IsGiven sector_at area Ignored reading = reading ≡ None
 IsGiven sector_at area Nothing reading = reading ≡ Some HoldsNone
 IsGiven sector_at area (Text locn) reading = (given : AreaReading) × (reading ≡ Some given) × IsStored locn (stored_bytes sector_at area locn) given
@@ -26,8 +26,8 @@ IsGiven sector_at area (RefusedFor refusal) reading = reading ≡ Some (Refused 
 
 -- an area that was found, as it reads
 pub record IsAreaReading (pv : ℕ) (sector_at : ℕ → List ℕ) (found : AreaFound) (area : AreaOf) : Type 0 where
-  pub start_xl : area.start ≡ found.area.offset / 512
-  pub sectors_xl : area.sectors ≡ found.area.size / 512
+  pub start_is : area.start ≡ found.area.offset / 512
+  pub sectors_is : area.sectors ≡ found.area.size / 512
   pub given : IsGiven sector_at (area_on pv found.area) found.entry area.reading
 
 -- areas in their order
@@ -53,8 +53,8 @@ IsContents sector_at sectors (Some contents) = IsFound sector_at sectors content
 -- a disk with these sectors: what stands there, and how it reads
 pub record IsDiskReading (pv : ℕ) (sector_at : ℕ → List ℕ) (disk : Disk) (reading : Reading) : Type 0 where
   pub contents : IsContents sector_at disk.sectors disk.contents
-  pub sectors_xl : reading.sectors ≡ disk.sectors
-  pub pv_xl : IsPvReading pv sector_at disk.contents reading.pv
+  pub sectors_is : reading.sectors ≡ disk.sectors
+  pub pv_is : IsPvReading pv sector_at disk.contents reading.pv
 
 -- the disks of an image, where the first has this number, but those that are unread
 abbrev pub AreDiskReadings : Image → set.FinSet nat_cmp → ℕ → List Disk → List Reading → Type 0
@@ -66,5 +66,5 @@ AreDiskReadings image unread pv (disk ∷ disks) (reading ∷ readings) =
 
 -- the disks of these sizes in an image, but those that are unread: what stands on them, and how they read
 pub record AreReadings (image : Image) (sizes : List ℕ) (unread : set.FinSet nat_cmp) (disks : List Disk) (readings : List Reading) : Type 0 where
-  pub sizes_xl : map (λ (disk : Disk). disk.sectors) disks ≡ sizes
+  pub sizes_is : map (λ (disk : Disk). disk.sectors) disks ≡ sizes
   pub each : AreDiskReadings image unread 0 disks readings

@@ -3,9 +3,9 @@ use Rattle.std.specs.Prelude.{◌≡◌, ◌≢◌, ◌≤◌, ◌<◌, ℕ, ◌
 use Rattle.std.specs.FinSet as set
 use Rattle.std.specs.Ordering.{nat_cmp}
 use Rattle.disk_model.specs.Faults.{HasSameFaults}
-use Rattle.disk_model.specs.Since.{BetweenTold, HoldsOfDisk, ReadsAlone, spans_read}
+use Rattle.disk_model.specs.Since.{BetweenRecords, HoldsOfDisk, ReadsAlone, spans_read}
 use Rattle.disk_model.specs.State.{State}
-use Rattle.disk_model.specs.Steps.{Step, Told, now_after, steps_on}
+use Rattle.disk_model.specs.Steps.{Step, Record, now_after, steps_on}
 use Rattle.disk_contents.specs.declared.contents.PvFound.{PvFound}
 use Rattle.scan_rules.specs.Decision.{Reading, SameHeaders, SamePv}
 use Rattle.vg_found.specs.declared.disk.Disk.{Disk}
@@ -42,7 +42,7 @@ pub record HaveShapes (disks : List Disk) (unread : set.FinSet nat_cmp) (reading
   pub headers : SameHeaders (shapes disks) readings
 
 -- few reads of the disks below this number, and none of others
-pub record ReadsFewBelow (count : ℕ) (sizes : List ℕ) (old new : Told) : Type 0 where
+pub record ReadsFewBelow (count : ℕ) (sizes : List ℕ) (old new : Record) : Type 0 where
   pub since : List Step
   pub steps : new ≡ steps_on since old
   pub reads : ReadsAlone since
@@ -57,4 +57,4 @@ pub record AreScanned (old : State) (count : ℕ) (disks : List Disk) (unread : 
   pub now : HoldsNow old.told (λ image. AreDiskReadings image unread 0 disks readings)
   pub shape : HaveShapes disks unread readings
   pub faults : FailedOn unread old new
-  pub reads : BetweenTold (ReadsFewBelow count old.sizes) old.told new.told
+  pub reads : BetweenRecords (ReadsFewBelow count old.sizes) old.told new.told

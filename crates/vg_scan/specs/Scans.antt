@@ -5,7 +5,7 @@ use Rattle.std.specs.Ordering.{nat_cmp}
 use Rattle.sector_base.specs.declared.spans.Span.{Span}
 use Rattle.disk_model.specs.Since.{ReadsAlone, spans_read}
 use Rattle.disk_model.specs.State.{State}
-use Rattle.disk_model.specs.Steps.{Image, Step, Told, now_after, steps_on}
+use Rattle.disk_model.specs.Steps.{Image, Step, Record, now_after, steps_on}
 use Rattle.pv_header.specs.declared.extent_list.Extent.{Extent}
 use Rattle.disk_contents.specs.Reads.{AreAreasOf}
 use Rattle.scan_rules.specs.Answers.{IsRefusedBy}
@@ -44,7 +44,7 @@ pub record IsRefusalOfScan (image : Image) (sizes : List ℕ) (unread : set.FinS
   pub answer : IsRefusedBy (decide_scan readings) refusal
 
 -- what holds of the disks as reads give them, where they tell their record
-abbrev pub HoldsNow : Option Told → (Image → Type 0) → Type 0
+abbrev pub HoldsNow : Option Record → (Image → Type 0) → Type 0
 HoldsNow told P = IfSome told (λ t. P (now_after t.opened t.steps))
 
 -- operations failed on these disks, and on no other
@@ -76,7 +76,7 @@ AreFewReads image sizes spans =
     (pv : ℕ) → (areas : List Extent) × AreAreasOf (image pv) (slice_index_or sizes pv 0) areas × (length (spans_on pv spans) ≤ 1 + 3 * length areas)
 
 -- a scan submits reads alone, few of each disk
-pub record ReadsFew (sizes : List ℕ) (old new : Told) : Type 0 where
+pub record ReadsFew (sizes : List ℕ) (old new : Record) : Type 0 where
   pub since : List Step
   pub steps : new ≡ steps_on since old
   pub reads : ReadsAlone since

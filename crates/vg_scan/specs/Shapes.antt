@@ -8,8 +8,8 @@ use Rattle.scan_rules.specs.declared.readings.AreaRead.{AreaRead}
 
 -- the area lies where it was found
 pub record HasPlace (found : AreaFound) (area : AreaOf) : Type 0 where
-  pub start_xl : found.area.offset / 512 ≡ area.start
-  pub sectors_xl : found.area.size / 512 ≡ area.sectors
+  pub start_is : found.area.offset / 512 ≡ area.start
+  pub sectors_is : found.area.size / 512 ≡ area.sectors
 
 -- areas in their order
 abbrev pub HavePlaces : List AreaFound → List AreaOf → Type 0

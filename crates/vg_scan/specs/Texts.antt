@@ -37,7 +37,7 @@ pub record IsCopyOf (text : List ℕ) (group : Group) (passed : List (List ℕ))
   pub is_text : IsTextOf text tree
   pub stands : group_of tree ≡ Ok group
   pub accepted : IsAccepted group
-  pub passed_xl : passed ≡ passed_over tree
+  pub passed_is : passed ≡ passed_over tree
 
 -- the first refusal of a text: of its grammar, its keys or its rules
 abbrev pub IsTextRefusal : List ℕ → CopyRefusal → Type 0

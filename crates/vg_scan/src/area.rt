@@ -19,7 +19,7 @@ use crate::judge::judge;
 use crate::text_bytes::read_bytes;
 use disk_contents::{AreaFound, ReadRefusal};
 use disk_model::Shelf;
-use mda_header::{Entry, Locn};
+use mda_header::{HeaderEntry, Locn};
 use mda_ring::Area;
 use scan_rules::{AreaGives, AreaRead, CopyRefusal};
 use std::alloc::Global;
@@ -93,7 +93,7 @@ fn read_entry<S: Shelf>(
     alloc: Global,
     shelf: &mut S,
     area: &Area,
-    entry: Entry,
+    entry: HeaderEntry,
     collected: &mut Collected,
 ) -> Result<Option<AreaGives>, ReadRefusal>
     requires idle { (S.state shelf.old).in_flight ≡ [] }
@@ -111,10 +111,10 @@ fn read_entry<S: Shelf>(
     ensures disks { collected.new.disks ≡ collected.old.disks }
 {
     match entry {
-        Entry::Ignored => Ok(None),
-        Entry::Nothing => Ok(Some(AreaGives::Nothing)),
-        Entry::Text(locn) => Ok(Some(read_text(alloc, shelf, area, locn, collected)?)),
-        Entry::Refused(refusal) => Ok(Some(AreaGives::Refused(CopyRefusal::HeaderRefused(
+        HeaderEntry::Ignored => Ok(None),
+        HeaderEntry::Nothing => Ok(Some(AreaGives::Nothing)),
+        HeaderEntry::Text(locn) => Ok(Some(read_text(alloc, shelf, area, locn, collected)?)),
+        HeaderEntry::Refused(refusal) => Ok(Some(AreaGives::Refused(CopyRefusal::HeaderRefused(
             refusal,
         )))),
     }

@@ -2,7 +2,7 @@
 ghost use Rattle.std.specs.Prelude.{◌≡◌, ◌≤◌, ◌<◌, ◌^◌, [], length, slice_index_or, Some, IfOk, MatchResult};
 ghost use Rattle.disk_model.specs.Faults.{HasSameFaults};
 ghost use Rattle.disk_model.specs.Idle.{IsIdleAgain};
-ghost use Rattle.disk_model.specs.Since.{BetweenTold, HoldsOfDisk};
+ghost use Rattle.disk_model.specs.Since.{BetweenRecords, HoldsOfDisk};
 ghost use Rattle.disk_contents.specs.Causes.{IsReadCause};
 ghost use Rattle.disk_contents.specs.Standing.{CanStand, areas_in};
 ghost use Rattle.disk_contents.specs.Parts.{ReadsUntil, ReadsWell};
@@ -42,7 +42,7 @@ pub(crate) fn read_disk<S: Shelf>(
     ensures continues { Continues collected.old.copies collected.new.copies }
     ensures disks { collected.new.disks ≡ collected.old.disks }
     // What it does to the disks.
-    ensures reads { BetweenTold (ReadsDisk pv (slice_index_or (S.state shelf.old).sizes pv 0))
+    ensures reads { BetweenRecords (ReadsDisk pv (slice_index_or (S.state shelf.old).sizes pv 0))
         (S.state shelf.old).told (S.state shelf.new).told }
     ensures again { IsIdleAgain (S.state shelf.old) (S.state shelf.new) }
     ensures cause { MatchResult result

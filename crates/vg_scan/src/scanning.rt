@@ -1,7 +1,7 @@
 //! The scan of all disks.
 ghost use Rattle.std.specs.Prelude.{◌≡◌, ◌≤◌, ◌<◌, ◌++◌, ℕ, ◌^◌, [], ◌∷◌, length, slice_index_or, IfOk, MatchResult};
 ghost use Rattle.disk_model.specs.Idle.{IsIdleAgain};
-ghost use Rattle.disk_model.specs.Since.{BetweenTold};
+ghost use Rattle.disk_model.specs.Since.{BetweenRecords};
 ghost use Rattle.scan_rules.specs.Readings.{AreasAreOf};
 ghost use Rattle.scan_rules.specs.declared.decision.ScanRefusal.TheVariants.{NoMemory};
 ghost use Rattle.vg_scan.specs.Disks.{ReadsDisk, pv_read};
@@ -67,7 +67,7 @@ pub fn scan<S: Shelf>(alloc: Global, shelf: &mut S) -> Result<Found, ScanStopped
         (λ found. IsScan (S.state shelf.old) found (S.state shelf.new))
         (λ stopped. IsScanRefused (S.state shelf.old) stopped.why stopped.unread (S.state shelf.new)) }
     ensures again { IsIdleAgain (S.state shelf.old) (S.state shelf.new) }
-    ensures reads { BetweenTold (ReadsFew (S.state shelf.old).sizes) (S.state shelf.old).told (S.state shelf.new).told }
+    ensures reads { BetweenRecords (ReadsFew (S.state shelf.old).sizes) (S.state shelf.old).told (S.state shelf.new).told }
 {
     let mut collected = Collected::new(alloc);
     let mut disks = Vec::new(alloc);
@@ -107,7 +107,7 @@ fn scan_disk<S: Shelf>(
     requires room { length collected.old.disks < 64 }
     ensures disk { IfOk result
         (λ disk. IsScannedDisk pv (S.state shelf.old) collected.old.disks disk collected.new.disks (S.state shelf.new)) }
-    ensures reads { BetweenTold (ReadsDisk pv (slice_index_or (S.state shelf.old).sizes pv 0)) (S.state shelf.old).told (S.state shelf.new).told }
+    ensures reads { BetweenRecords (ReadsDisk pv (slice_index_or (S.state shelf.old).sizes pv 0)) (S.state shelf.old).told (S.state shelf.new).told }
     ensures again { IsIdleAgain (S.state shelf.old) (S.state shelf.new) }
 {
     let sectors = shelf.sectors(pv);

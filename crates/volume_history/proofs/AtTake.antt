@@ -7,7 +7,7 @@ use Rattle.lvm_script.specs.declared.line.Line.{Line}
 use Rattle.volume_history.proofs.CommandKinds.{bearless, bears}
 use Rattle.volume_history.proofs.Places.{place_by_entry}
 use Rattle.volume_history.specs.Candidates.{is_born, no_image, pending_step, place_at}
-use Rattle.volume_history.specs.Chronicles.{Changed, Entry, Origin, begun_in, in_force, now_at}
+use Rattle.volume_history.specs.Chronicles.{Changed, ChronicleEntry, Origin, begun_in, in_force, now_at}
 use Rattle.volume_history.specs.Parts.{NextHolds, NextPlaces, PlaceHolds, Primaries}
 use Rattle.volume_history.specs.Placed.{Place, PlacedVolume, volumes_of}
 use Rattle.volume_history.specs.Replay.{line_step, plain_state}
@@ -25,7 +25,7 @@ no_births : (b : Option (Line × Option ℕ)) → IsBearlessLine b → (before a
 no_births None none before after state i key x = refl
 no_births (Some l) none before after state i key x = (bearless l.0.command none).births before after state i key x
 
-module _ (o : Origin) (es : List Entry) (m n : ℕ) (version : Option Version) (none : IsBearlessLine (begun_in es n)) where
+module _ (o : Origin) (es : List ChronicleEntry) (m n : ℕ) (version : Option Version) (none : IsBearlessLine (begun_in es n)) where
   abbrev step : PlainStep
   step = pending_step o es n version
 

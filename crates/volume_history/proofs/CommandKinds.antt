@@ -17,26 +17,26 @@ use Rattle.volume_history.specs.Replay.{command_step}
 pub record IsQuietCommand (c : Command) : Type 0 where
   pub step : (before after : Option Version) (state : PlainState) (image : Image) → (plain_after state (command_step c before after state image)).volumes ≡ state.volumes
   pub births : (before after : Option Version) (state : PlainState) (image : Image) (key x : ℕ) → is_born (command_step c before after state image) state key x ≡ false
-  pub writes_xl : writes c ≡ false
-  pub data_xl : is_data c ≡ false
+  pub writes_is : writes c ≡ false
+  pub data_is : is_data c ≡ false
   pub unnamed : volume_named c ≡ None
 
 pub quiet_command : (c : Command) → is_quiet c ≡ true → IsQuietCommand c
-quiet_command (command.Pvcreate pv copies) q = record { step = λ b a s i. refl; births = λ b a s i k x. refl; writes_xl = refl; data_xl = refl; unnamed = refl }
-quiet_command (command.Pvmove moving) q = record { step = λ b a s i. refl; births = λ b a s i k x. refl; writes_xl = refl; data_xl = refl; unnamed = refl }
-quiet_command (command.Pvck pv) q = record { step = λ b a s i. refl; births = λ b a s i k x. refl; writes_xl = refl; data_xl = refl; unnamed = refl }
-quiet_command command.Pvs q = record { step = λ b a s i. refl; births = λ b a s i k x. refl; writes_xl = refl; data_xl = refl; unnamed = refl }
-quiet_command (command.Vgcreate vg extent_size pvs) q = record { step = λ b a s i. refl; births = λ b a s i k x. refl; writes_xl = refl; data_xl = refl; unnamed = refl }
-quiet_command (command.Vgextend vg pvs) q = record { step = λ b a s i. refl; births = λ b a s i k x. refl; writes_xl = refl; data_xl = refl; unnamed = refl }
-quiet_command (command.Vgreduce vg pv) q = record { step = λ b a s i. refl; births = λ b a s i k x. refl; writes_xl = refl; data_xl = refl; unnamed = refl }
-quiet_command (command.Vgrename vg new) q = record { step = λ b a s i. refl; births = λ b a s i k x. refl; writes_xl = refl; data_xl = refl; unnamed = refl }
-quiet_command (command.Vgcfgbackup vg) q = record { step = λ b a s i. refl; births = λ b a s i k x. refl; writes_xl = refl; data_xl = refl; unnamed = refl }
-quiet_command command.Vgck q = record { step = λ b a s i. refl; births = λ b a s i k x. refl; writes_xl = refl; data_xl = refl; unnamed = refl }
-quiet_command command.Vgs q = record { step = λ b a s i. refl; births = λ b a s i k x. refl; writes_xl = refl; data_xl = refl; unnamed = refl }
-quiet_command command.Lvs q = record { step = λ b a s i. refl; births = λ b a s i k x. refl; writes_xl = refl; data_xl = refl; unnamed = refl }
-quiet_command command.List q = record { step = λ b a s i. refl; births = λ b a s i k x. refl; writes_xl = refl; data_xl = refl; unnamed = refl }
-quiet_command command.Wait q = record { step = λ b a s i. refl; births = λ b a s i k x. refl; writes_xl = refl; data_xl = refl; unnamed = refl }
-quiet_command (command.Resync path) q = record { step = λ b a s i. refl; births = λ b a s i k x. refl; writes_xl = refl; data_xl = refl; unnamed = refl }
+quiet_command (command.Pvcreate pv copies) q = record { step = λ b a s i. refl; births = λ b a s i k x. refl; writes_is = refl; data_is = refl; unnamed = refl }
+quiet_command (command.Pvmove moving) q = record { step = λ b a s i. refl; births = λ b a s i k x. refl; writes_is = refl; data_is = refl; unnamed = refl }
+quiet_command (command.Pvck pv) q = record { step = λ b a s i. refl; births = λ b a s i k x. refl; writes_is = refl; data_is = refl; unnamed = refl }
+quiet_command command.Pvs q = record { step = λ b a s i. refl; births = λ b a s i k x. refl; writes_is = refl; data_is = refl; unnamed = refl }
+quiet_command (command.Vgcreate vg extent_size pvs) q = record { step = λ b a s i. refl; births = λ b a s i k x. refl; writes_is = refl; data_is = refl; unnamed = refl }
+quiet_command (command.Vgextend vg pvs) q = record { step = λ b a s i. refl; births = λ b a s i k x. refl; writes_is = refl; data_is = refl; unnamed = refl }
+quiet_command (command.Vgreduce vg pv) q = record { step = λ b a s i. refl; births = λ b a s i k x. refl; writes_is = refl; data_is = refl; unnamed = refl }
+quiet_command (command.Vgrename vg new) q = record { step = λ b a s i. refl; births = λ b a s i k x. refl; writes_is = refl; data_is = refl; unnamed = refl }
+quiet_command (command.Vgcfgbackup vg) q = record { step = λ b a s i. refl; births = λ b a s i k x. refl; writes_is = refl; data_is = refl; unnamed = refl }
+quiet_command command.Vgck q = record { step = λ b a s i. refl; births = λ b a s i k x. refl; writes_is = refl; data_is = refl; unnamed = refl }
+quiet_command command.Vgs q = record { step = λ b a s i. refl; births = λ b a s i k x. refl; writes_is = refl; data_is = refl; unnamed = refl }
+quiet_command command.Lvs q = record { step = λ b a s i. refl; births = λ b a s i k x. refl; writes_is = refl; data_is = refl; unnamed = refl }
+quiet_command command.List q = record { step = λ b a s i. refl; births = λ b a s i k x. refl; writes_is = refl; data_is = refl; unnamed = refl }
+quiet_command command.Wait q = record { step = λ b a s i. refl; births = λ b a s i k x. refl; writes_is = refl; data_is = refl; unnamed = refl }
+quiet_command (command.Resync path) q = record { step = λ b a s i. refl; births = λ b a s i k x. refl; writes_is = refl; data_is = refl; unnamed = refl }
 quiet_command (command.Vgremove vg) q = cc
 quiet_command (command.Vgcfgrestore vg text) q = cc
 quiet_command (command.Lvcreate new) q = cc

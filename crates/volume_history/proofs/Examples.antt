@@ -12,7 +12,7 @@ use Rattle.line_table.specs.Machine.{key_of, list_of, plain_after, sector_of}
 use Rattle.image_scans.specs.Versions.{Version}
 use Rattle.volume_history.proofs.SmallGroups.{creating, extending, filling, group_removing, listing, making, moving, pvcreating, reading, reducing, removing, renaming, restoring, version_1, version_2, version_3, version_4, version_5, version_6, version_7}
 use Rattle.volume_history.specs.Candidates.{Anything, OneOf, base, candidates, pending_candidates, pending_step}
-use Rattle.volume_history.specs.Chronicles.{Answered, Begun, Changed, Entry, Failed, GivenUp, Opened, Origin, Took, fenced_by, in_force, is_failed_disk, left_out, may_begin, pending, upto}
+use Rattle.volume_history.specs.Chronicles.{Answered, Begun, Changed, ChronicleEntry, Failed, GivenUp, Opened, Origin, Took, fenced_by, in_force, is_failed_disk, left_out, may_begin, pending, upto}
 use Rattle.volume_history.specs.Commands.{number_sector, zero_sector}
 use Rattle.volume_history.specs.Legal.{is_in_order, read_values}
 use Rattle.volume_history.specs.Placed.{place_of, volumes_of}
@@ -51,18 +51,18 @@ abbrev piece : Piece
 piece = record { volume = 0; first = 0; count = 1; write = true }
 
 -- vgcreate
-abbrev made : List Entry
+abbrev made : List ChronicleEntry
 made = Answered 4 0 answer.Fine ∷ Changed 4 0 (Some version_1) ∷ Opened 0 0 (Some version_1) ∷ Begun 0 0 making None ∷ []
 
 -- lvcreate
-abbrev created : List Entry
+abbrev created : List ChronicleEntry
 created = Answered 8 1 answer.Fine ∷ Changed 8 1 (Some version_2) ∷ Opened 4 1 (Some version_2) ∷ Begun 4 1 creating None ∷ made
 
 -- a fill with 7 that is acknowledged, and one with 9 that flies
-abbrev filled : List Entry
+abbrev filled : List ChronicleEntry
 filled = Answered 12 2 answer.Fine ∷ Took 12 2 piece ∷ Begun 8 2 (filling 0 1 7) (Some 0) ∷ created
 
-abbrev flies : List Entry
+abbrev flies : List ChronicleEntry
 flies = Begun 12 3 (filling 0 1 9) (Some 0) ∷ filled
 
 machine_made : plain_state origin made ≡ record { group = Some (70 ∷ []); volumes = []; next_key = 0 }
@@ -113,7 +113,7 @@ entries_upto : upto 11 flies ≡ Begun 8 2 (filling 0 1 7) (Some 0) ∷ created
 entries_upto = refl
 
 -- the order of the entries holds, entry by entry
-abbrev ordered_all : List Entry → Bool
+abbrev ordered_all : List ChronicleEntry → Bool
 ordered_all [] = true
 ordered_all (e ∷ es) = is_in_order es e && ordered_all es
 
@@ -131,7 +131,7 @@ order_twice : is_in_order filled (Took 12 2 piece) ≡ false
 order_twice = refl
 
 -- a move changes the places and nothing else
-abbrev moved_so : List Entry
+abbrev moved_so : List ChronicleEntry
 moved_so = Changed 12 3 (Some version_3) ∷ Opened 12 3 (Some version_3) ∷ Begun 12 3 moving None ∷ filled
 
 move_changes_nothing : plain_state origin moved_so ≡ plain_state origin filled
@@ -149,7 +149,7 @@ move_in_order : ordered_all (Answered 12 3 answer.Fine ∷ moved_so) ≡ true
 move_in_order = refl
 
 -- a refused fill brings nothing
-abbrev refused_so : List Entry
+abbrev refused_so : List ChronicleEntry
 refused_so = Answered 12 3 (answer.Refused refusal.ReadOnly) ∷ Begun 12 3 (filling 9 2 4) (Some 0) ∷ filled
 
 refused_changes_nothing : plain_state origin refused_so ≡ plain_state origin filled
@@ -170,7 +170,7 @@ failed_steps = wrote 7 10 9 false ∷ steps
 abbrev failed_origin : Origin
 failed_origin = record origin { told = record { opened = zeros; steps = failed_steps } }
 
-abbrev failed_so : List Entry
+abbrev failed_so : List ChronicleEntry
 failed_so = Answered 14 3 (answer.PvFailed 0) ∷ Failed 14 3 piece ∷ flies
 
 failed_machine : sector_of (plain_state failed_origin failed_so) 0 0 ≡ number_sector 7
@@ -199,7 +199,7 @@ unfolding volumes_of place_of primary met leg_spot
 failed_then_refused = refl
 
 -- an acknowledged command with a newer one that is pending: what that creates is open, the rest is as in force
-abbrev extends_so : List Entry
+abbrev extends_so : List ChronicleEntry
 extends_so = Opened 12 3 (Some version_4) ∷ Begun 12 3 extending None ∷ filled
 
 extending_pending : pending extends_so ≡ Some (3, Some version_4)
@@ -221,7 +221,7 @@ unfolding volumes_of place_of primary met leg_spot
 extending_old = refl
 
 -- the base of a sector that is added is its birth, and it has what stood there
-abbrev extended : List Entry
+abbrev extended : List ChronicleEntry
 extended = Changed 12 3 (Some version_4) ∷ extends_so
 
 extended_base : base origin extended 0 10 ≡ extended
@@ -237,7 +237,7 @@ unfolding volumes_of place_of primary met leg_spot
 extended_old = refl
 
 -- a reduction takes the last sectors off
-abbrev reduced : List Entry
+abbrev reduced : List ChronicleEntry
 reduced = Changed 12 3 (Some version_5) ∷ Opened 12 3 (Some version_5) ∷ Begun 12 3 reducing None ∷ filled
 
 reduced_lengths : list_of (plain_state origin reduced) ≡ (5 ∷ [], 6) ∷ []
@@ -249,7 +249,7 @@ unfolding volumes_of place_of primary met leg_spot
 reduced_old = refl
 
 -- another name is the same volume
-abbrev renamed : List Entry
+abbrev renamed : List ChronicleEntry
 renamed = Changed 12 3 (Some version_6) ∷ Opened 12 3 (Some version_6) ∷ Begun 12 3 renaming None ∷ filled
 
 renamed_key : key_of (plain_state origin renamed).volumes (6 ∷ []) ≡ Some 0
@@ -261,10 +261,10 @@ unfolding volumes_of place_of primary met leg_spot
 renamed_old = refl
 
 -- a volume that is removed and made again is another one
-abbrev removed : List Entry
+abbrev removed : List ChronicleEntry
 removed = Answered 12 3 answer.Fine ∷ Changed 12 3 (Some version_1) ∷ Opened 12 3 (Some version_1) ∷ Begun 12 3 removing None ∷ filled
 
-abbrev again : List Entry
+abbrev again : List ChronicleEntry
 again = Changed 13 4 (Some version_7) ∷ Opened 13 4 (Some version_7) ∷ Begun 13 4 creating None ∷ removed
 
 removed_volumes : list_of (plain_state origin removed) ≡ []
@@ -283,10 +283,10 @@ again_in_order : ordered_all (Answered 13 4 answer.Fine ∷ again) ≡ true
 again_in_order = refl
 
 -- a text that is restored: what it places elsewhere is open until then, and has what stands there; the rest stays
-abbrev restores : Version → List Entry
+abbrev restores : Version → List ChronicleEntry
 restores version = Opened 12 3 (Some version) ∷ Begun 12 3 restoring None ∷ filled
 
-abbrev restored : Version → List Entry
+abbrev restored : Version → List ChronicleEntry
 restored version = Changed 12 3 (Some version) ∷ restores version
 
 restores_elsewhere : pending_candidates origin (restores version_3) (pending_step origin (restores version_3) 3 (Some version_3)) 0 0 ≡ Anything
@@ -310,7 +310,7 @@ unfolding volumes_of place_of primary met leg_spot
 restored_more = refl
 
 -- a fill of two sectors in two pieces: each may hold its number once it is begun, and it is answered once both took place
-abbrev in_pieces : List Entry
+abbrev in_pieces : List ChronicleEntry
 in_pieces = Took 12 2 piece ∷ Begun 8 2 (filling 0 2 7) (Some 0) ∷ created
 
 abbrev second_piece : Piece
@@ -358,7 +358,7 @@ abbrev read_piece : Piece
 read_piece = record { volume = 0; first = 0; count = 1; write = false }
 
 -- a read gives what the machine had at its piece's Took, also where a later fill was answered first
-abbrev read_so : List Entry
+abbrev read_so : List ChronicleEntry
 read_so = Took 12 4 piece ∷ Took 12 3 read_piece ∷ Begun 12 4 (filling 0 1 9) (Some 0) ∷ Begun 12 3 reading (Some 0) ∷ filled
 
 read_gives : read_values origin read_so 3 (Some (reading, Some 0)) ≡ number_sector 7 ∷ []
@@ -405,10 +405,10 @@ unknown_refused : is_in_order (Begun 8 2 (filling 0 1 7) None ∷ created) (Answ
 unknown_refused = refl
 
 -- a read that is answered ok, a fill that is answered by sectors, a list that is answered ok; and as they may be
-abbrev was_read : List Entry
+abbrev was_read : List ChronicleEntry
 was_read = Took 12 3 read_piece ∷ Begun 12 3 reading (Some 0) ∷ filled
 
-abbrev was_listed : List Entry
+abbrev was_listed : List ChronicleEntry
 was_listed = Took 12 3 zero_piece ∷ Begun 12 3 listing None ∷ filled
 
 answers_fit : is_in_order was_read (Answered 12 3 answer.Fine) ∷ is_in_order in_pieces (Answered 12 2 (answer.Read [])) ∷ is_in_order was_listed (Answered 12 3 answer.Fine) ∷ [] ≡ false ∷ false ∷ false ∷ []
@@ -429,7 +429,7 @@ second_move = refl
 refused_late : is_in_order in_pieces (Answered 12 2 (answer.Refused (refusal.PastEnd 9 6))) ≡ false
 refused_late = refl
 
-abbrev shorter : List Entry
+abbrev shorter : List ChronicleEntry
 shorter = Changed 12 3 (Some version_5) ∷ Opened 12 3 (Some version_5) ∷ Begun 12 3 reducing None ∷ in_pieces
 
 refused_behind : is_in_order shorter (Answered 12 2 (answer.Refused (refusal.PastEnd 9 6))) ≡ true

@@ -10,7 +10,7 @@ use Rattle.image_scans.specs.Versions.{Version}
 use Rattle.volume_history.proofs.Bits.{and_both}
 use Rattle.volume_history.proofs.CommandKinds.{commit_says, undata}
 use Rattle.volume_history.proofs.Written.{since_seen}
-use Rattle.volume_history.specs.Chronicles.{Begun, Changed, Entry, GivenUp, Origin, Took, begun_in, origin_at, pending}
+use Rattle.volume_history.specs.Chronicles.{Begun, Changed, ChronicleEntry, GivenUp, Origin, Took, begun_in, origin_at, pending}
 use Rattle.volume_history.specs.Commands.{commits, failed_pv, is_data, is_good, is_move, is_refused, is_tended, is_wait, may_say, removes}
 use Rattle.volume_history.specs.Legal.{AllFaithful, AllOrdered, FindsNow, GivesMachine, IsFaithful, IsOrdered, LeavesGroup, Makes, is_new_piece, is_pending, keeps_group, key_named, may_answer, may_answer_command, may_answer_data}
 use Rattle.volume_history.specs.Runs.{zero_piece}
@@ -34,7 +34,7 @@ undone_test false false m true bad = refl
 undone_test false false m false bad = refl
 
 -- an answer that isn't good gives nothing of the machine
-pub gives_nothing : (o : Origin) (es : List Entry) (n : ℕ) (a : Answer) → is_good a ≡ false → GivesMachine o es n a
+pub gives_nothing : (o : Origin) (es : List ChronicleEntry) (n : ℕ) (a : Answer) → is_good a ≡ false → GivesMachine o es n a
 gives_nothing o es n answer.Fine bad = cc
 gives_nothing o es n (answer.Read sectors) bad = cc
 gives_nothing o es n (answer.Listed volumes) bad = cc
@@ -53,7 +53,7 @@ begun_first : (o : Origin) (line : Line) → is_data line.command ≡ false → 
 begun_first o line quiet = record { moments = omega arith; order = ap (λ (d : Bool). d || true) quiet; makes = tt }
 
 -- a command is answered so
-answer_of : (es : List Entry) (line : Line) (a : Answer) → is_data line.command ≡ false → may_say line.command a ≡ true → may_answer_command es 0 line a ≡ true
+answer_of : (es : List ChronicleEntry) (line : Line) (a : Answer) → is_data line.command ≡ false → may_say line.command a ≡ true → may_answer_command es 0 line a ≡ true
     → (not (is_pending (pending es) 0) || is_some (failed_pv a)) ≡ true → may_answer es 0 (Some (line, None)) a ≡ true
 answer_of es line a quiet says may free =
     let by_command : Bool = may_answer_command es 0 line a && (not (is_pending (pending es) 0) || is_some (failed_pv a)) in
@@ -62,7 +62,7 @@ answer_of es line a quiet says may free =
     ∙ and_both (may_answer_command es 0 line a) (not (is_pending (pending es) 0) || is_some (failed_pv a)) may free)
 
 -- a line that has done or begun to remove the group doesn't leave it as it is
-kept_not : (o : Origin) (es : List Entry) (m : ℕ) (removing done : Bool) → (removing && not done) ≡ keeps_group es 0 (begun_in es 0) → done ≡ true → LeavesGroup o es 0 m
+kept_not : (o : Origin) (es : List ChronicleEntry) (m : ℕ) (removing done : Bool) → (removing && not done) ≡ keeps_group es 0 (begun_in es 0) → done ≡ true → LeavesGroup o es 0 m
 kept_not o es m removing done is begun keeps = absurd (true≢false (sym (is ∙ keeps) ∙ ap (λ (b : Bool). removing && not b) begun ∙ and_false removing))
   where
     and_false : (b : Bool) → (b && false) ≡ false

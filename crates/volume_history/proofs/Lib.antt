@@ -1,5 +1,5 @@
 pub mod Bits
-pub mod Past
+pub mod EarlierMoments
 pub mod Legal
 pub mod Bases
 pub mod Acknowledged
@@ -7,7 +7,7 @@ pub mod CommandKinds
 pub mod Consistent
 pub mod Quiet
 pub mod Reshaped
-pub mod Made
+pub mod ComingFrom
 pub mod RestoredVersions
 pub mod MadeVersions
 pub mod ZeroedVolume

@@ -13,7 +13,7 @@ use Rattle.command_table.specs.declared.command.Path.{Path}
 use Rattle.disk_model.specs.Steps.{Image}
 use Rattle.line_table.specs.Machine.{Created, Extended, Nothing, PlainState, PlainStep, PlainVolume, key_of, plain_after, sectors_of, with_key}
 use Rattle.image_scans.specs.Versions.{Version}
-use Rattle.volume_history.proofs.Made.{come_both, come_changed, come_kept, come_without, found_key, key_from, none_equal, other_equal, places_changed, plain_at}
+use Rattle.volume_history.proofs.ComingFrom.{come_both, come_changed, come_kept, come_without, found_key, key_from, none_equal, other_equal, places_changed, plain_at}
 use Rattle.volume_history.proofs.Bits.{and_both, eq_to, itself, lt_false, lt_true}
 use Rattle.volume_history.proofs.Quiet.{value_on, values_length}
 use Rattle.volume_history.proofs.RestoredVersions.{restored_version}

@@ -58,10 +58,10 @@ read_the_same : (sizes : List ℕ) (image : Image) (out : ℕ → Bool) (f g : F
     → ((pv : ℕ) → pv < length sizes → set.contains f.unread pv ≡ out pv) → ((pv : ℕ) → pv < length sizes → set.contains g.unread pv ≡ out pv)
     → AreReadings image sizes g.unread g.disks readings → AreReadings image sizes f.unread g.disks readings
 read_the_same sizes image out f g readings left left' are =
-    let many : length (map (λ (disk : Disk). disk.sectors) g.disks) ≡ length sizes = ap (λ (l : List ℕ). length l) are.sizes_xl in
+    let many : length (map (λ (disk : Disk). disk.sectors) g.disks) ≡ length sizes = ap (λ (l : List ℕ). length l) are.sizes_is in
     let known : length (map (λ (disk : Disk). disk.sectors) g.disks) ≡ length g.disks = length-map g.disks (λ (disk : Disk). disk.sectors) in
     record {
-      sizes_xl = are.sizes_xl;
+      sizes_is = are.sizes_is;
       each = read_by image g.unread f.unread 0 g.disks readings (λ k lt. left' k (omega (arith, lt, many, known)) ∙ sym (left k (omega (arith, lt, many, known)))) are.each;
     }
 
@@ -69,8 +69,8 @@ pub one_version : DisksAreOne → ReadingsAreOne → (sizes : List ℕ) (image :
 one_version disks_one readings_one sizes image out version other f g =
     let are = read_the_same sizes image out f.found g.found g.scan.readings f.left g.left g.scan.are in
     let readings = readings_one image sizes f.found.unread f.found.disks g.found.disks f.scan.readings g.scan.readings f.scan.are are in
-    sym f.version_xl
+    sym f.version_is
     ∙ same_version f.found g.found
     (one_group (decide_scan g.scan.readings) f.found g.found (subst (λ (l : List Reading). IsFoundBy (decide_scan l) f.found) readings f.scan.answer) g.scan.answer)
     (disks_one image sizes f.found.unread f.found.disks g.found.disks f.scan.readings g.scan.readings f.scan.are are)
-    ∙ g.version_xl
+    ∙ g.version_is

@@ -7,10 +7,10 @@ use Rattle.image_scans.specs.Versions.{FindsVersion, Version}
 use Rattle.line_table.specs.Machine.{PlainState}
 use Rattle.volume_history.proofs.Bits.{lt_true}
 use Rattle.volume_history.proofs.Consistent.{parts_make_consistent}
-use Rattle.volume_history.proofs.Past.{all_upto, now_before}
+use Rattle.volume_history.proofs.EarlierMoments.{all_upto, now_before}
 use Rattle.volume_history.proofs.Reshaped.{HasNoBase, opening_primaries}
 use Rattle.volume_history.specs.Candidates.{IsConsistentMoment, IsConsistentNow}
-use Rattle.volume_history.specs.Chronicles.{AreUpto, Chronicle, Entry, Origin, in_force, left_out, moment_of, now_at, origin_at, pending, upto}
+use Rattle.volume_history.specs.Chronicles.{AreUpto, Chronicle, ChronicleEntry, Origin, in_force, left_out, moment_of, now_at, origin_at, pending, upto}
 use Rattle.volume_history.specs.Parts.{NextPart, Primaries, ScansPart}
 use Rattle.volume_history.specs.Placed.{group_name, volumes_of}
 use Rattle.volume_history.specs.Quiet.{AllUntouched}
@@ -18,33 +18,33 @@ use Rattle.volume_history.specs.Replay.{opening_state, plain_state}
 use Rattle.volume_history.specs.Single.{IsStill, end_of, none_out}
 
 -- all of these entries are of this moment
-abbrev pub AllAt : ℕ → List Entry → Type 0
+abbrev pub AllAt : ℕ → List ChronicleEntry → Type 0
 AllAt moment [] = Unit {0}
 AllAt moment (e ∷ es) = (moment_of e ≡ moment) × AllAt moment es
 
 -- at an earlier one they are passed over
-upto_over : (m k : ℕ) (late early : List Entry) → AllAt k late → m < k → upto m (late ++ early) ≡ upto m early
+upto_over : (m k : ℕ) (late early : List ChronicleEntry) → AllAt k late → m < k → upto m (late ++ early) ≡ upto m early
 upto_over m k [] early at lt = refl
 upto_over m k (e ∷ late) early at lt =
     ap (λ (b : Bool). if b then upto m (late ++ early) else e ∷ upto m (late ++ early)) (lt_true m (moment_of e) (subst (λ (j : ℕ). m < j) (sym at.0) lt))
     ∙ upto_over m k late early at.1 lt
 
-upto_none : (m k : ℕ) (es : List Entry) → AllAt k es → m < k → upto m es ≡ []
+upto_none : (m k : ℕ) (es : List ChronicleEntry) → AllAt k es → m < k → upto m es ≡ []
 upto_none m k [] at lt = refl
 upto_none m k (e ∷ es) at lt =
     ap (λ (b : Bool). if b then upto m es else e ∷ upto m es) (lt_true m (moment_of e) (subst (λ (j : ℕ). m < j) (sym at.0) lt)) ∙ upto_none m k es at.1 lt
 
 -- from it on they are there
-at_upto : (m k : ℕ) (es : List Entry) → AllAt k es → k ≤ m → AreUpto m es
+at_upto : (m k : ℕ) (es : List ChronicleEntry) → AllAt k es → k ≤ m → AreUpto m es
 at_upto m k [] at le = tt
 at_upto m k (e ∷ es) at le = (omega (arith, at.0, le), at_upto m k es at.1 le)
 
-both_upto : (m : ℕ) (late early : List Entry) → AreUpto m late → AreUpto m early → AreUpto m (late ++ early)
+both_upto : (m : ℕ) (late early : List ChronicleEntry) → AreUpto m late → AreUpto m early → AreUpto m (late ++ early)
 both_upto m [] early a b = b
 both_upto m (e ∷ late) early a b = (a.0, both_upto m late early a.1 b)
 
 -- what makes a moment with these entries consistent
-pub record IsPhase (o : Origin) (es : List Entry) (m : ℕ) : Type 0 where
+pub record IsPhase (o : Origin) (es : List ChronicleEntry) (m : ℕ) : Type 0 where
   pub scans : ScansPart (origin_at m o) es
   pub primaries : Primaries (origin_at m o) es (volumes_of (in_force (origin_at m o) es)) (plain_state (origin_at m o) es).volumes
   pub name : group_name (in_force (origin_at m o) es) ≡ (plain_state (origin_at m o) es).group
@@ -52,7 +52,7 @@ pub record IsPhase (o : Origin) (es : List Entry) (m : ℕ) : Type 0 where
 
 -- a scan finds the same where the same disks are left out
 pub finds_with : (sizes : List ℕ) (image : Image) (out out' : ℕ → Bool) (version : Option Version) → ((pv : ℕ) → out pv ≡ out' pv) → FindsVersion sizes image out version → FindsVersion sizes image out' version
-finds_with sizes image out out' version same f = record { found = f.found; scan = f.scan; left = λ pv lt. f.left pv lt ∙ same pv; whole = f.whole; version_xl = f.version_xl }
+finds_with sizes image out out' version same f = record { found = f.found; scan = f.scan; left = λ pv lt. f.left pv lt ∙ same pv; whole = f.whole; version_is = f.version_is }
 
 -- what is told at the last moment is all
 pub told_at_end : (o : Origin) → at_moment (end_of o) o.told ≡ o.told
@@ -65,7 +65,7 @@ pub untouched_then : (o : Origin) → IsStill o → (m : ℕ) → o.first ≤ m 
 untouched_then o still m ge le = subst (λ (i : Image). AllUntouched i (volumes_of o.version) (at_moment m o.told)) (sym (now_before o o.first m ge le)) (still.untouched m ge le)
 
 -- a phase in which the version of the start is in force, and no sector of it has another base than the opening
-pub opening_phase : (o : Origin) → IsStill o → (es : List Entry) (m : ℕ) → o.first ≤ m → m ≤ end_of o → HasNoBase (origin_at m o) es → plain_state (origin_at m o) es ≡ opening_state (origin_at m o) → in_force (origin_at m o) es ≡ o.version
+pub opening_phase : (o : Origin) → IsStill o → (es : List ChronicleEntry) (m : ℕ) → o.first ≤ m → m ≤ end_of o → HasNoBase (origin_at m o) es → plain_state (origin_at m o) es ≡ opening_state (origin_at m o) → in_force (origin_at m o) es ≡ o.version
     → ScansPart (origin_at m o) es → NextPart (origin_at m o) es (pending es) → IsPhase o es m
 opening_phase o still es m ge le none opening force scans next = record {
   scans = scans;
@@ -84,7 +84,7 @@ phase_before o still m ge le last =
 
 -- The moments of a line that begins at the start, opens its commit at one moment, makes it at another, and is answered at the end:
 -- its entries of each, and what makes each phase consistent.
-pub record HasPhases (o : Origin) (late behind middle early : List Entry) (opened made : ℕ) : Type 0 where
+pub record HasPhases (o : Origin) (late behind middle early : List ChronicleEntry) (opened made : ℕ) : Type 0 where
   pub from : o.start ≤ opened
   pub on : opened ≤ made
   pub to : made ≤ end_of o
@@ -97,13 +97,13 @@ pub record HasPhases (o : Origin) (late behind middle early : List Entry) (opene
   pub kept : (m : ℕ) → made ≤ m → m < end_of o → IsPhase o (behind ++ (middle ++ early)) m
   pub after : IsPhase o (late ++ (behind ++ (middle ++ early))) (end_of o)
 
-module _ (o : Origin) (still : IsStill o) (late behind middle early : List Entry) (opened made : ℕ) (p : HasPhases o late behind middle early opened made) where
+module _ (o : Origin) (still : IsStill o) (late behind middle early : List ChronicleEntry) (opened made : ℕ) (p : HasPhases o late behind middle early opened made) where
   abbrev whole : Chronicle
   whole = record { origin = o; entries = late ++ (behind ++ (middle ++ early)) }
 
-  phase_is : (m : ℕ) (es : List Entry) → upto m whole.entries ≡ es → IsPhase o es m → IsConsistentMoment whole m
+  phase_is : (m : ℕ) (es : List ChronicleEntry) → upto m whole.entries ≡ es → IsPhase o es m → IsConsistentMoment whole m
   phase_is m es e is =
-      subst (λ (l : List Entry). IsConsistentNow (record { origin = origin_at m o; entries = l })) (sym e)
+      subst (λ (l : List ChronicleEntry). IsConsistentNow (record { origin = origin_at m o; entries = l })) (sym e)
       (parts_make_consistent (record { origin = origin_at m o; entries = es }) is.scans is.primaries is.name is.next)
 
   early_upto : (m : ℕ) → o.start ≤ m → AreUpto m early
@@ -151,7 +151,7 @@ module _ (o : Origin) (still : IsStill o) (late behind middle early : List Entry
       (cases_lt m (end_of o))
 
 -- where nothing is made before the end
-pub all_moments : (o : Origin) → IsStill o → (late middle early : List Entry) (opened : ℕ) → o.start ≤ opened → opened ≤ end_of o → AllAt (end_of o) late → AllAt opened middle → AllAt o.start early → ((m : ℕ) → o.start ≤ m → m < opened → IsPhase o early m)
+pub all_moments : (o : Origin) → IsStill o → (late middle early : List ChronicleEntry) (opened : ℕ) → o.start ≤ opened → opened ≤ end_of o → AllAt (end_of o) late → AllAt opened middle → AllAt o.start early → ((m : ℕ) → o.start ≤ m → m < opened → IsPhase o early m)
     → ((m : ℕ) → opened ≤ m → m < end_of o → IsPhase o (middle ++ early) m) → IsPhase o (late ++ (middle ++ early)) (end_of o) → (m : ℕ) → o.first ≤ m → m ≤ end_of o
     → IsConsistentMoment (record { origin = o; entries = late ++ (middle ++ early) }) m
 all_moments o still late middle early opened from to at_end at_opened at_start begun running after =

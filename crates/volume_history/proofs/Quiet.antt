@@ -3,7 +3,7 @@ use Rattle.std.proofs.Common.{◌≡◌, ◌≤◌, ◌<◌, ℕ, zero, suc, ◌
 use Rattle.std.proofs.lemmas.Bool.Decides.{nat_tests}
 use Rattle.disk_model.specs.CrashValues.{MayLeave}
 use Rattle.disk_model.specs.Moments.{at_moment}
-use Rattle.disk_model.specs.Steps.{Image, Told}
+use Rattle.disk_model.specs.Steps.{Image, Record}
 use Rattle.image_scans.specs.Versions.{Version}
 use Rattle.line_table.specs.Machine.{Nothing, PlainState, PlainStep, PlainVolume, plain_after, sector_of, sectors_of}
 use Rattle.lvm_script.specs.declared.line.Line.{Line}
@@ -11,9 +11,9 @@ use Rattle.sector_base.specs.declared.places.Piece.{Piece}
 use Rattle.volume_history.proofs.Bits.{eq_to}
 use Rattle.volume_history.proofs.CommandKinds.{quiet_command}
 use Rattle.volume_history.proofs.Consistent.{next_by_keeps, parts_make_consistent}
-use Rattle.volume_history.proofs.Past.{now_before}
+use Rattle.volume_history.proofs.EarlierMoments.{now_before}
 use Rattle.volume_history.specs.Candidates.{IsConsistentMoment, IsConsistentNow, base_from, is_born, is_ok, no_image, place_at, writes_line}
-use Rattle.volume_history.specs.Chronicles.{Answered, Begun, Changed, Chronicle, Entry, Failed, GivenUp, Opened, Origin, Took, begun_in, chronicle_at, in_force, now_at, pending, piece_covers}
+use Rattle.volume_history.specs.Chronicles.{Answered, Begun, Changed, Chronicle, ChronicleEntry, Failed, GivenUp, Opened, Origin, Took, begun_in, chronicle_at, in_force, now_at, pending, piece_covers}
 use Rattle.volume_history.specs.Commands.{writes}
 use Rattle.volume_history.specs.Parts.{KeepsAll, Primaries, ScansPart}
 use Rattle.volume_history.specs.Placed.{Place, PlacedVolume, values_on, volumes_of}
@@ -28,13 +28,13 @@ pub record QuietLine (b : Option (Line × Option ℕ)) : Type 0 where
   pub writes : writes_line b ≡ false
 
 quiet_line : (line : Line) (key : Option ℕ) → is_quiet line.command ≡ true → QuietLine (Some (line, key))
-quiet_line line key q = let c = quiet_command line.command q in record { step = c.step; births = c.births; writes = c.writes_xl }
+quiet_line line key q = let c = quiet_command line.command q in record { step = c.step; births = c.births; writes = c.writes_is }
 
 quiet_none : QuietLine None
 quiet_none = record { step = λ b a s i. refl; births = λ b a s i k x. refl; writes = refl }
 
 -- the line of each number is quiet
-pub begun_quiet : (es : List Entry) (n : ℕ) → AreQuiet es → QuietLine (begun_in es n)
+pub begun_quiet : (es : List ChronicleEntry) (n : ℕ) → AreQuiet es → QuietLine (begun_in es n)
 begun_quiet [] n q = quiet_none
 begun_quiet (Begun m n' line key ∷ es) n q = at (n' == n) (begun_quiet es n q.1)
   where
@@ -62,7 +62,7 @@ failed_nothing None version state image piece w = refl
 failed_nothing (Some l) version state image piece w = no_step (writes l.0.command) _ w
 
 -- the machine's volumes stay those of the opening
-pub quiet_volumes : (o : Origin) (es : List Entry) → AreQuiet es → (plain_state o es).volumes ≡ (opening_state o).volumes
+pub quiet_volumes : (o : Origin) (es : List ChronicleEntry) → AreQuiet es → (plain_state o es).volumes ≡ (opening_state o).volumes
 quiet_volumes o [] q = refl
 quiet_volumes o (Begun m n line key ∷ es) q = quiet_volumes o es q.1
 quiet_volumes o (Opened m n version ∷ es) q = quiet_volumes o es q
@@ -79,7 +79,7 @@ no_write true true t e = cc
 no_write true false t e = refl
 no_write false w t e = refl
 
-pub quiet_base : (o : Origin) (all : List Entry) (key x : ℕ) (es : List Entry) → AreQuiet es → base_from o all key x es ≡ []
+pub quiet_base : (o : Origin) (all : List ChronicleEntry) (key x : ℕ) (es : List ChronicleEntry) → AreQuiet es → base_from o all key x es ≡ []
 quiet_base o all key x [] q = refl
 quiet_base o all key x (Begun m n line k ∷ es) q = quiet_base o all key x es q.1
 quiet_base o all key x (Opened m n version ∷ es) q = quiet_base o all key x es q
@@ -133,14 +133,14 @@ values_length image [] = refl
 values_length image (p ∷ ps) = ap suc (values_length image ps)
 
 -- at an untouched place nothing else is possible
-pub untouched_at : (image : Image) (places : List Place) (told : Told) (x : ℕ) → x < length places → AreUntouched image places told
+pub untouched_at : (image : Image) (places : List Place) (told : Record) (x : ℕ) → x < length places → AreUntouched image places told
     → (write : Option ℕ) (value : List ℕ) → MayLeave told.opened told.steps (place_at places x).disk (place_at places x).sector write value → value ≡ image (place_at places x).disk (place_at places x).sector
 untouched_at image [] told x lt are = absurd (omega (arith, lt))
 untouched_at image (p ∷ ps) told zero lt are = are.0
 untouched_at image (p ∷ ps) told (suc x) lt are = untouched_at image ps told x (omega (arith, lt)) are.1
 
 -- so the primaries hold
-quiet_places : (o : Origin) (es : List Entry) (k : ℕ) (vs : List PlacedVolume) → AreQuiet es → AllUntouched (now_at o o.first) vs o.told
+quiet_places : (o : Origin) (es : List ChronicleEntry) (k : ℕ) (vs : List PlacedVolume) → AreQuiet es → AllUntouched (now_at o o.first) vs o.told
     → OwnSectors (opening_state o).volumes (opening_volumes (now_at o o.first) k vs) → Primaries o es vs (opening_volumes (now_at o o.first) k vs)
 quiet_places o es k [] q untouched own = tt
 quiet_places o es k (v ∷ vs) q untouched own =
@@ -151,7 +151,7 @@ quiet_places o es k (v ∷ vs) q untouched own =
         each = λ write value may. (
           Base,
           tt,
-          ap (λ (b : List Entry). sector_of (plain_state o b) k x) (quiet_base o es k x es q)
+          ap (λ (b : List ChronicleEntry). sector_of (plain_state o b) k x) (quiet_base o es k x es q)
               ∙ ap (λ (s : List (List ℕ)). slice_index_or s x []) own.0
               ∙ value_on image v.places x lt
               ∙ sym (untouched_at image v.places o.told x lt untouched.0 write value may),
@@ -160,13 +160,13 @@ quiet_places o es k (v ∷ vs) q untouched own =
       quiet_places o es (k + 1) vs q untouched.1 own.1,
     )
 
-pub quiet_primaries : (o : Origin) (es : List Entry) → IsQuiet o es → AllUntouched (now_at o o.first) (volumes_of o.version) o.told → Primaries o es (volumes_of (in_force o es)) (plain_state o es).volumes
+pub quiet_primaries : (o : Origin) (es : List ChronicleEntry) → IsQuiet o es → AllUntouched (now_at o o.first) (volumes_of o.version) o.told → Primaries o es (volumes_of (in_force o es)) (plain_state o es).volumes
 quiet_primaries o es quiet untouched =
     subst (λ (vs : List PlacedVolume). Primaries o es vs (plain_state o es).volumes) (sym quiet.volumes)
     (subst (λ (ps : List PlainVolume). Primaries o es (volumes_of o.version) ps) (sym (quiet_volumes o es quiet.lines))
     (quiet_places o es 0 (volumes_of o.version) quiet.lines untouched (own_sectors (now_at o o.first) 0 (volumes_of o.version))))
 
-quiet_keeps : (o : Origin) (es : List Entry) (P : Option (ℕ × Option Version)) → IsQuiet o es → IsQuietNext o es P → KeepsAll o es P
+quiet_keeps : (o : Origin) (es : List ChronicleEntry) (P : Option (ℕ × Option Version)) → IsQuiet o es → IsQuietNext o es P → KeepsAll o es P
 quiet_keeps o es None quiet next = tt
 quiet_keeps o es (Some p) quiet next =
     let line = begun_quiet es p.0 quiet.lines in

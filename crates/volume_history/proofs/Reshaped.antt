@@ -12,7 +12,7 @@ use Rattle.volume_history.proofs.CommandKinds.{none_zeroed}
 use Rattle.volume_history.specs.Single.{ZeroesStand}
 use Rattle.volume_history.proofs.Quiet.{OwnSectors, own_sectors, untouched_at, value_on, values_length}
 use Rattle.volume_history.specs.Candidates.{base, is_born, is_zeroed, no_image, place_at}
-use Rattle.volume_history.specs.Chronicles.{Entry, Origin, now_at}
+use Rattle.volume_history.specs.Chronicles.{ChronicleEntry, Origin, now_at}
 use Rattle.volume_history.specs.Commands.{zero_sector}
 use Rattle.volume_history.specs.Parts.{IsZeroAt, NextPlaces, PlaceHolds, Primaries}
 use Rattle.volume_history.specs.Placed.{Place, PlacedVolume, volumes_of}
@@ -40,22 +40,22 @@ module _ (o : Origin) where
       stood_value (k + 1) vs whole untouched.1 own.1 key x place later write value may
 
   -- a history without births and writes: the base of each sector is the opening
-  abbrev pub HasNoBase : List Entry → Type 0
+  abbrev pub HasNoBase : List ChronicleEntry → Type 0
   HasNoBase es = (key x : ℕ) → base o es key x ≡ []
 
-  pub stood_holds : (es : List Entry) (key x : ℕ) → base o es key x ≡ [] → AllUntouched first_image (volumes_of o.version) o.told → (place : Place) → StoodAt (volumes_of o.version) 0 key x place → PlaceHolds o es key x place
+  pub stood_holds : (es : List ChronicleEntry) (key x : ℕ) → base o es key x ≡ [] → AllUntouched first_image (volumes_of o.version) o.told → (place : Place) → StoodAt (volumes_of o.version) 0 key x place → PlaceHolds o es key x place
   stood_holds es key x none untouched place stood = record {
     each = λ write value may. (
       Base,
       tt,
-      ap (λ (b : List Entry). sector_of (plain_state o b) key x) none
+      ap (λ (b : List ChronicleEntry). sector_of (plain_state o b) key x) none
           ∙ stood_value 0 (volumes_of o.version) (opening_volumes first_image 0 (volumes_of o.version)) untouched (own_sectors first_image 0 (volumes_of o.version)) key x place stood write value may,
     );
   }
 
   -- ---- the version in force
 
-  in_force_from : (es : List Entry) (k : ℕ) (vs : List PlacedVolume) (whole : List PlacedVolume) → ((key x : ℕ) (place : Place) → StoodAt vs k key x place → StoodAt whole 0 key x place)
+  in_force_from : (es : List ChronicleEntry) (k : ℕ) (vs : List PlacedVolume) (whole : List PlacedVolume) → ((key x : ℕ) (place : Place) → StoodAt vs k key x place → StoodAt whole 0 key x place)
       → ((key x : ℕ) (place : Place) → StoodAt whole 0 key x place → PlaceHolds o es key x place) → Primaries o es vs (opening_volumes first_image k vs)
   in_force_from es k [] whole sub holds = tt
   in_force_from es k (v ∷ vs) whole sub holds = (
@@ -65,13 +65,13 @@ module _ (o : Origin) where
     in_force_from es (k + 1) vs whole (λ key x place stood. sub key x place (inr stood)) holds,
   )
 
-  pub opening_primaries : (es : List Entry) → HasNoBase es → AllUntouched first_image (volumes_of o.version) o.told → Primaries o es (volumes_of o.version) (opening_state o).volumes
+  pub opening_primaries : (es : List ChronicleEntry) → HasNoBase es → AllUntouched first_image (volumes_of o.version) o.told → Primaries o es (volumes_of o.version) (opening_state o).volumes
   opening_primaries es none untouched =
       in_force_from es 0 (volumes_of o.version) (volumes_of o.version) (λ key x place stood. stood) (λ key x place stood. stood_holds es key x (none key x) untouched place stood)
 
   -- ---- the pending version
 
-  module _ (es : List Entry) (none : HasNoBase es) (opening : plain_state o es ≡ opening_state o) (untouched : AllUntouched first_image (volumes_of o.version) o.told) (step : PlainStep) where
+  module _ (es : List ChronicleEntry) (none : HasNoBase es) (opening : plain_state o es ≡ opening_state o) (untouched : AllUntouched first_image (volumes_of o.version) o.told) (step : PlainStep) where
     next_from : (vs : List PlacedVolume) (ps : List PlainVolume) → AllCome (volumes_of o.version) (opening_state o) step no_image vs ps → AllZeroed o step (opening_state o) vs ps → NextPlaces o es step vs ps
     next_from [] [] come zeroed = tt
     next_from [] (p ∷ ps) come zeroed = absurd come
@@ -93,7 +93,7 @@ module _ (o : Origin) where
         born_now' : (key x : ℕ) → is_born step (opening_state o) key x ≡ false → is_born step (plain_state o es) key x ≡ false
         born_now' key x is = ap (λ (s : PlainState). is_born step s key x) opening ∙ is
 
-  pub next_places : (es : List Entry) → HasNoBase es → plain_state o es ≡ opening_state o → AllUntouched first_image (volumes_of o.version) o.told → (c : Command) (next : Option Version) → MakesVersion c o.version next
+  pub next_places : (es : List ChronicleEntry) → HasNoBase es → plain_state o es ≡ opening_state o → AllUntouched first_image (volumes_of o.version) o.told → (c : Command) (next : Option Version) → MakesVersion c o.version next
       → AllZeroed o (command_step c o.version next (opening_state o) no_image) (opening_state o) (volumes_of next) (plain_after (opening_state o) (command_step c o.version next (opening_state o) no_image)).volumes
       → NextPlaces o es (command_step c o.version next (opening_state o) no_image) (volumes_of next) (plain_after (opening_state o) (command_step c o.version next (opening_state o) no_image)).volumes
   next_places es none opening untouched c next makes zeroed =
@@ -102,7 +102,7 @@ module _ (o : Origin) where
 
   -- ---- the version that was made
 
-  module _ (es : List Entry) (none : HasNoBase es) (untouched : AllUntouched first_image (volumes_of o.version) o.told) (done : List Entry) (step : PlainStep) (image : Image)
+  module _ (es : List ChronicleEntry) (none : HasNoBase es) (untouched : AllUntouched first_image (volumes_of o.version) o.told) (done : List ChronicleEntry) (step : PlainStep) (image : Image)
       (born_base : (key x : ℕ) → is_born step (opening_state o) key x ≡ true → sector_of (plain_state o (base o done key x)) key x ≡ sector_of (plain_after (opening_state o) step) key x)
       (old_base : (key x : ℕ) → is_born step (opening_state o) key x ≡ false → base o done key x ≡ []) where
     made_from : (vs : List PlacedVolume) (ps : List PlainVolume) → AllCome (volumes_of o.version) (opening_state o) step image vs ps → AllUntouched image vs o.told → AllZeroed o step (opening_state o) vs ps → Primaries o done vs ps
@@ -127,7 +127,7 @@ module _ (o : Origin) where
         of_value x place {value} true is zero_at shown write may = ap (λ (b : Bool). if b then zero_sector else image place.disk place.sector) is ∙ sym ((zero_at is).each write value may)
         of_value x place false is zero_at shown write may = ap (λ (b : Bool). if b then zero_sector else image place.disk place.sector) is ∙ sym shown
 
-  pub made_primaries : (es : List Entry) → HasNoBase es → AllUntouched first_image (volumes_of o.version) o.told → (done : List Entry) (step : PlainStep) (image : Image)
+  pub made_primaries : (es : List ChronicleEntry) → HasNoBase es → AllUntouched first_image (volumes_of o.version) o.told → (done : List ChronicleEntry) (step : PlainStep) (image : Image)
       → ((key x : ℕ) → is_born step (opening_state o) key x ≡ true → sector_of (plain_state o (base o done key x)) key x ≡ sector_of (plain_after (opening_state o) step) key x)
       → ((key x : ℕ) → is_born step (opening_state o) key x ≡ false → base o done key x ≡ [])
       → (vs : List PlacedVolume) (ps : List PlainVolume) → AllCome (volumes_of o.version) (opening_state o) step image vs ps → AllUntouched image vs o.told → AllZeroed o step (opening_state o) vs ps → Primaries o done vs ps

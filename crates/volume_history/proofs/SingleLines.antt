@@ -6,19 +6,19 @@ use Rattle.line_answers.specs.declared.answer.Answer.TheVariants as answer
 use Rattle.lvm_script.specs.declared.line.Line.{Line}
 use Rattle.disk_model.specs.CrashValues.{IsImage}
 use Rattle.disk_model.specs.Moments.{at_moment}
-use Rattle.disk_model.specs.Steps.{Image, Step, Told}
+use Rattle.disk_model.specs.Steps.{Image, Step, Record}
 use Rattle.line_table.specs.Machine.{PlainState, PlainStep, plain_after, sector_of}
 use Rattle.image_scans.specs.Versions.{FindsVersion, Version}
 use Rattle.volume_history.proofs.Bits.{eq_of}
 use Rattle.volume_history.proofs.CommandKinds.{commit_kind, created_quiet, created_says, quiet_command, undata}
 use Rattle.volume_history.proofs.LegalLines.{answered_faithful, created_faithful, created_ordered, fenced_faithful, fenced_ordered, gives_nothing, given_up_faithful, given_up_ordered, made_faithful, made_ordered, undone_ordered}
-use Rattle.volume_history.proofs.Past.{now_before}
+use Rattle.volume_history.proofs.EarlierMoments.{now_before}
 use Rattle.volume_history.proofs.Phases.{HasPhases, IsPhase, all_moments, each_moment, finds_with, opening_phase, told_at_end, untouched_then}
 use Rattle.volume_history.proofs.Quiet.{took_nothing}
 use Rattle.volume_history.proofs.Reshaped.{HasNoBase, made_primaries, next_places}
 use Rattle.volume_history.proofs.Written.{since_seen, since_seen_now, since_start, unwritten_by}
 use Rattle.volume_history.specs.Candidates.{IsConsistentMoment, base, is_born, no_image, pending_step, writes_line}
-use Rattle.volume_history.specs.Chronicles.{Answered, Changed, Entry, GivenUp, Opened, Origin, Took, has_written, in_force, left_out, is_number, now_at, origin_at, pending, piece_covers, steps_upto}
+use Rattle.volume_history.specs.Chronicles.{Answered, Changed, ChronicleEntry, GivenUp, Opened, Origin, Took, has_written, in_force, left_out, is_number, now_at, origin_at, pending, piece_covers, steps_upto}
 use Rattle.volume_history.specs.Commands.{commits, created_disk, is_created_at, is_data, is_fine, is_good, may_say, removes}
 use Rattle.volume_history.specs.Laws.{DoneCreate, FailedCreate, NoLine, Tells}
 use Rattle.volume_history.specs.Legal.{AllFaithful, AllOrdered, FindsNow, last_moment}
@@ -30,16 +30,16 @@ use Rattle.volume_history.specs.Runs.{zero_piece}
 use Rattle.volume_history.specs.Single.{AllFind, CommitLaw, CreateLaw, DoneLaw, GivenUpLaw, IsStill, MadeLaw, MayEnd, LeavesAll, LeavesDisk, StaysLaw, answered_entries, begun_entries, taken_entries, done_entries, end_of, fenced_entries, given_up_entries, made_entries, is_half_made, none_out, open_entries}
 
 -- the run has a history with these entries, where it is legal and each moment is consistent
-tells : (o : Origin) (es : List Entry) → IsStill o → last_moment o.start es ≤ end_of o → AllOrdered o.start es → AllFaithful o es
+tells : (o : Origin) (es : List ChronicleEntry) → IsStill o → last_moment o.start es ≤ end_of o → AllOrdered o.start es → AllFaithful o es
     → ((m : ℕ) → o.first ≤ m → m ≤ end_of o → IsConsistentMoment (record { origin = o; entries = es }) m) → Tells o es
 tells o es still told ordered faithful moments = record {
   history = record {
     chronicle = record { origin = o; entries = es };
-    of_run = record { told = refl; first = refl; sizes = refl; names = refl; clock = refl; journal_xl = refl; lines_xl = refl };
+    of_run = record { told = refl; first = refl; sizes = refl; names = refl; clock = refl; journal_is = refl; lines_is = refl };
     legal = record { from = still.from; opening = still.found; told = told; ordered = ordered; faithful = faithful };
     consistent = moments;
   };
-  entries_xl = refl;
+  entries_is = refl;
 }
 
 -- which disks a scan leaves out, by the disk that the line is to create
@@ -94,7 +94,7 @@ module _ (o : Origin) (line : Line) (still : IsStill o) (plain : is_data line.co
   writes_none : writes_line (Some (line, None)) ≡ false
   writes_none = (undata line.command plain).0
 
-  no_base : (a w t : Bool) (all rest : List Entry) → w ≡ false → rest ≡ [] → (if a && (w && t) then all else rest) ≡ []
+  no_base : (a w t : Bool) (all rest : List ChronicleEntry) → w ≡ false → rest ≡ [] → (if a && (w && t) then all else rest) ≡ []
   no_base true true t all rest e n = cc
   no_base true false t all rest e n = n
   no_base false w t all rest e n = n
@@ -106,7 +106,7 @@ module _ (o : Origin) (line : Line) (still : IsStill o) (plain : is_data line.co
       (λ key x. no_base (piece_covers (zero_piece 0) key x) (writes_line (Some (line, None))) true (Took (end_of o) 0 (zero_piece 0) ∷ begun_entries o line) [] writes_none refl)
       (ap (λ (s : PlainStep). plain_after (opening_state (origin_at (end_of o) o)) s) (took_nothing (Some (line, None)) (zero_piece 0) writes_none)) refl
       (λ image is. inl (finds_with o.sizes image none_out (left_out (origin_at (end_of o) o) (taken_entries o line) (length (origin_at (end_of o) o).told.steps)) o.version
-      (λ k. none_left _) (finds image (subst (λ (t : Told). IsImage t image) (told_at_end o) is)))) tt
+      (λ k. none_left _) (finds image (subst (λ (t : Record). IsImage t image) (told_at_end o) is)))) tt
     where
       none_left : (b : Bool) → false ≡ (if b then false else false)
       none_left true = refl
@@ -149,13 +149,13 @@ module _ (o : Origin) (line : Line) (law : StaysLaw o) (plain : is_data line.com
       (created_ordered o line plain law.still.until none says) (created_faithful o line plain law.still.until)
       (all_moments o law.still (Answered (end_of o) 0 answer.Fine ∷ Took (end_of o) 0 (zero_piece 0) ∷ []) [] (begun_entries o line) (end_of o) law.still.until (omega arith) (refl, (refl, tt)) tt (refl, tt)
       (λ m ge lt. is_open_line m ge (omega (arith, lt))) (λ m ge lt. absurd (omega (arith, ge, lt)))
-      (is_taken o line law.still plain (λ image is. law.after (end_of o) law.still.until (omega arith) image (subst (λ (t : Told). IsImage t image) (sym (told_at_end o)) is))))
+      (is_taken o line law.still plain (λ image is. law.after (end_of o) law.still.until (omega arith) image (subst (λ (t : Record). IsImage t image) (sym (told_at_end o)) is))))
 
 -- ---- commits
 
 module _ (o : Origin) (line : Line) (opened : ℕ) (version : Option Version) (law : CommitLaw o line opened version) where
   kind_of : (is_data line.command ≡ false) × (created_disk o.names line.command ≡ None)
-  kind_of = commit_kind o.names line.command law.commits_xl
+  kind_of = commit_kind o.names line.command law.commits_is
 
   begins : o.first ≤ opened
   begins = let a : o.first ≤ o.start = law.still.from in let b : o.start ≤ opened = law.from in omega (arith, a, b)
@@ -172,7 +172,7 @@ module _ (o : Origin) (line : Line) (opened : ℕ) (version : Option Version) (l
       (λ image is. inl (finds_with o.sizes image none_out (left_out (origin_at m o) (begun_entries o line) (length (origin_at m o).told.steps)) o.version (λ pv. out_none _ _ pv) (law.before m ge lt image is))) tt
 
   -- the version in force or the next one is found at a moment of the commit
-  either_found : (m : ℕ) (es : List Entry) → pending es ≡ Some (0, version) → in_force (origin_at m o) es ≡ o.version → opened ≤ m → m ≤ end_of o
+  either_found : (m : ℕ) (es : List ChronicleEntry) → pending es ≡ Some (0, version) → in_force (origin_at m o) es ≡ o.version → opened ≤ m → m ≤ end_of o
       → ((pv : ℕ) → none_out pv ≡ left_out (origin_at m o) es (length (origin_at m o).told.steps) pv) → ScansPart (origin_at m o) es
   either_found m es waits force ge le none image is =
       ⊎_elim
@@ -183,7 +183,7 @@ module _ (o : Origin) (line : Line) (opened : ℕ) (version : Option Version) (l
       (law.between m ge le image is)
 
   -- the places of the pending version
-  next_part : (m : ℕ) (es : List Entry) → opened ≤ m → m ≤ end_of o → HasNoBase (origin_at m o) es → plain_state (origin_at m o) es ≡ opening_state (origin_at m o)
+  next_part : (m : ℕ) (es : List ChronicleEntry) → opened ≤ m → m ≤ end_of o → HasNoBase (origin_at m o) es → plain_state (origin_at m o) es ≡ opening_state (origin_at m o)
       → pending_step (origin_at m o) es 0 version ≡ command_step line.command o.version version (opening_state (origin_at m o)) no_image → NextPart (origin_at m o) es (Some (0, version))
   next_part m es ge le none opening step =
       let at : Origin = origin_at m o in
@@ -201,14 +201,14 @@ module _ (o : Origin) (line : Line) (opened : ℕ) (version : Option Version) (l
   -- ---- it was made at a moment
 
   module _ (made : ℕ) (law_made : MadeLaw o opened made version) where
-    abbrev made_so : List Entry
+    abbrev made_so : List ChronicleEntry
     made_so = Changed made 0 version ∷ open_entries o line opened version
 
-    by_birth : (b c : Bool) (all rest : List Entry) → b ≡ c → c ≡ true → (if b then all else rest) ≡ all
+    by_birth : (b c : Bool) (all rest : List ChronicleEntry) → b ≡ c → c ≡ true → (if b then all else rest) ≡ all
     by_birth true c all rest e is = refl
     by_birth false c all rest e is = absurd (let f : false ≡ true = e ∙ is in cc)
 
-    by_none : (b c : Bool) (all rest : List Entry) → b ≡ c → c ≡ false → (if b then all else rest) ≡ rest
+    by_none : (b c : Bool) (all rest : List ChronicleEntry) → b ≡ c → c ≡ false → (if b then all else rest) ≡ rest
     by_none true c all rest e is = absurd (let f : true ≡ false = e ∙ is in cc)
     by_none false c all rest e is = refl
 
@@ -233,7 +233,7 @@ module _ (o : Origin) (line : Line) (opened : ℕ) (version : Option Version) (l
       untouched = subst (λ (i : Image). AllUntouched i (volumes_of version) at.told) (sym (now_before o made m ge le)) (law_made.untouched m ge le)
 
       -- with these entries, which leave no disk out and move no base
-      made_phase : (es : List Entry) → in_force at es ≡ version → plain_state at es ≡ plain_after state (step image) → pending es ≡ None → ((pv : ℕ) → none_out pv ≡ left_out at es (length at.told.steps) pv)
+      made_phase : (es : List ChronicleEntry) → in_force at es ≡ version → plain_state at es ≡ plain_after state (step image) → pending es ≡ None → ((pv : ℕ) → none_out pv ≡ left_out at es (length at.told.steps) pv)
           → ((key x : ℕ) → base at es key x ≡ (if is_born (step no_image) state key x then made_so else [])) → IsPhase o es m
       made_phase es force plain waits none based =
           let on = law_made.from in
@@ -245,7 +245,7 @@ module _ (o : Origin) (line : Line) (opened : ℕ) (version : Option Version) (l
                 subst (λ (v : Option Version). Primaries at es (volumes_of v) (plain_state at es).volumes) (sym force)
                 (subst (λ (s : PlainState). Primaries at es (volumes_of version) s.volumes) (sym plain)
                 (made_primaries at (open_entries o line opened version) (λ key x. refl) (untouched_then o law.still m (omega (arith, began, on, ge)) le) es (step image) image
-                (λ key x born. ap (λ (b : List Entry). sector_of (plain_state at b) key x) (based key x ∙ by_birth (is_born (step no_image) state key x) (is_born (step image) state key x) made_so [] (births key x) born))
+                (λ key x born. ap (λ (b : List ChronicleEntry). sector_of (plain_state at b) key x) (based key x ∙ by_birth (is_born (step no_image) state key x) (is_born (step image) state key x) made_so [] (births key x) born))
                 (λ key x old. based key x ∙ by_none (is_born (step no_image) state key x) (is_born (step image) state key x) made_so [] (births key x) old)
                 (volumes_of version) (plain_after state (step image)).volumes (law.keeps.volumes (now_at at o.first) image) untouched (law.zeroed m (omega (arith, on, ge)) le image)));
             name = ap (λ (v : Option Version). group_name v) force ∙ law.keeps.named (now_at at o.first) image ∙ sym (ap (λ (s : PlainState). s.group) plain);
@@ -277,7 +277,7 @@ module _ (o : Origin) (line : Line) (opened : ℕ) (version : Option Version) (l
     pub made_commit : (said : Answer) → MayEnd said → Tells o (made_entries o line opened made version said)
     made_commit said may =
         tells o (made_entries o line opened made version said) law.still (omega arith)
-        (made_ordered o line kind_of.0 law.still.until opened law.from law.until version made law_made.from law_made.until said may law.commits_xl)
+        (made_ordered o line kind_of.0 law.still.until opened law.from law.until version made law_made.from law_made.until said may law.commits_is)
         (made_faithful o line kind_of.0 law.still.until opened law.from law.until version law.makes made said may made_found)
         (each_moment o law.still (Answered (end_of o) 0 said ∷ []) (Changed made 0 version ∷ []) (Opened opened 0 version ∷ []) (begun_entries o line) opened made (made_moments said (ended said may)))
       where
@@ -293,12 +293,12 @@ module _ (o : Origin) (line : Line) (opened : ℕ) (version : Option Version) (l
       (record {
         from = law.until;
         until = omega arith;
-        after = λ m ge le. at_the_end (λ (told : Told). AllFind o.sizes none_out version told) m ge le done.after;
+        after = λ m ge le. at_the_end (λ (told : Record). AllFind o.sizes none_out version told) m ge le done.after;
         found = done.found;
-        untouched = λ m ge le. at_the_end (λ (told : Told). AllUntouched (now_at o (end_of o)) (volumes_of version) told) m ge le done.untouched;
+        untouched = λ m ge le. at_the_end (λ (told : Record). AllUntouched (now_at o (end_of o)) (volumes_of version) told) m ge le done.untouched;
       }) answer.Fine tt
     where
-      at_the_end : (P : Told → Type 0) (m : ℕ) → end_of o ≤ m → m ≤ end_of o → P o.told → P (at_moment m o.told)
+      at_the_end : (P : Record → Type 0) (m : ℕ) → end_of o ≤ m → m ≤ end_of o → P o.told → P (at_moment m o.told)
       at_the_end P m ge le is =
           let e : end_of o ≡ m = omega (arith, ge, le) in
           subst (λ (k : ℕ). P (at_moment k o.told)) e (subst P (sym (told_at_end o)) is)
@@ -306,7 +306,7 @@ module _ (o : Origin) (line : Line) (opened : ℕ) (version : Option Version) (l
   pub given_up_commit : (pv : ℕ) → GivenUpLaw o → removes line.command ≡ false → Tells o (given_up_entries o line opened version pv)
   given_up_commit pv given_up kept =
       tells o (given_up_entries o line opened version pv) law.still (omega arith)
-      (given_up_ordered o line kind_of.0 law.still.until opened law.from law.until version pv law.commits_xl kept) (given_up_faithful o line kind_of.0 law.still.until opened law.from law.until version law.makes pv kept)
+      (given_up_ordered o line kind_of.0 law.still.until opened law.from law.until version pv law.commits_is kept) (given_up_faithful o line kind_of.0 law.still.until opened law.from law.until version law.makes pv kept)
       (all_moments o law.still (Answered (end_of o) 0 (answer.PvFailed pv) ∷ GivenUp (end_of o) 0 ∷ []) (Opened opened 0 version ∷ []) (begun_entries o line) opened law.from law.until (refl, (refl, tt)) (refl, tt) (refl, tt)
       is_begun_line (λ m ge lt. is_open m ge (omega (arith, lt))) is_given_up)
     where
@@ -314,12 +314,12 @@ module _ (o : Origin) (line : Line) (opened : ℕ) (version : Option Version) (l
       is_given_up =
           opening_phase o law.still (given_up_entries o line opened version pv) (end_of o) (let b = begins in let c = law.until in omega (arith, b, c)) (omega arith) (λ key x. refl) refl refl
           (λ image is. inl (finds_with o.sizes image none_out (left_out (origin_at (end_of o) o) (given_up_entries o line opened version pv) (length (origin_at (end_of o) o).told.steps)) o.version
-          (λ k. out_none _ _ k) (given_up.after image (subst (λ (t : Told). IsImage t image) (told_at_end o) is)))) tt
+          (λ k. out_none _ _ k) (given_up.after image (subst (λ (t : Record). IsImage t image) (told_at_end o) is)))) tt
 
   pub fenced_commit : (pv : ℕ) → Tells o (fenced_entries o line opened version pv)
   fenced_commit pv =
       tells o (fenced_entries o line opened version pv) law.still (omega arith)
-      (fenced_ordered o line kind_of.0 law.still.until opened law.from law.until version pv law.commits_xl) (fenced_faithful o line kind_of.0 law.still.until opened law.from law.until version law.makes pv)
+      (fenced_ordered o line kind_of.0 law.still.until opened law.from law.until version pv law.commits_is) (fenced_faithful o line kind_of.0 law.still.until opened law.from law.until version law.makes pv)
       (all_moments o law.still (Answered (end_of o) 0 (answer.PvFailed pv) ∷ []) (Opened opened 0 version ∷ []) (begun_entries o line) opened law.from law.until (refl, tt) (refl, tt) (refl, tt)
       is_begun_line (λ m ge lt. is_open m ge (omega (arith, lt))) is_fenced)
     where
@@ -333,7 +333,7 @@ module _ (o : Origin) (line : Line) (opened : ℕ) (version : Option Version) (l
 
 module _ (o : Origin) (line : Line) (disk before : ℕ) (law : CreateLaw o line disk before) where
   kind : (is_data line.command ≡ false) × (commits line.command ≡ false)
-  kind = let k = created_quiet o.names disk line.command law.names in ((quiet_command line.command k.0).data_xl, k.1)
+  kind = let k = created_quiet o.names disk line.command law.names in ((quiet_command line.command k.0).data_is, k.1)
 
   -- the disk is left out once it was written
   half_made : (m : ℕ) → m ≤ end_of o → (pv : ℕ) → is_half_made o line disk m pv ≡ leaves o line (created_disk o.names line.command) (has_written (is_created_at line.command pv) (since_start o m)) pv

@@ -7,7 +7,7 @@ use Rattle.disk_model.specs.Brought.{BringOnly}
 use Rattle.disk_model.specs.CrashValues.{HasCompleted, IsImage, MayLeave}
 use Rattle.disk_model.specs.Durability.{EachOnlyLeaves}
 use Rattle.disk_model.specs.Moments.{at_moment}
-use Rattle.disk_model.specs.Steps.{Completed, Flushing, Image, Step, Submitted, Told, Writing, value_at}
+use Rattle.disk_model.specs.Steps.{Completed, Flushing, Image, Step, Submitted, Record, Writing, value_at}
 use Rattle.image_scans.specs.Versions.{FindsVersion}
 use Rattle.sector_base.specs.Spans.{covers}
 use Rattle.sector_base.specs.declared.spans.Span.{Span}
@@ -36,10 +36,10 @@ header = record { pv = 0; first = 0; count = 1 }
 abbrev pub steps : List Step
 steps = Completed 2 (Flushing 0) true [] ∷ Submitted 2 (Flushing 0) ∷ Completed 1 (Writing header (new_header ∷ [])) true [] ∷ Submitted 1 (Writing header (new_header ∷ [])) ∷ []
 
-abbrev pub told : Told
+abbrev pub told : Record
 told = record { opened = opened; steps = steps }
 
-abbrev pub origin_of : Told → Origin
+abbrev pub origin_of : Record → Origin
 origin_of t = record { told = t; first = 0; start = 0; sizes = 99 ∷ []; names = (0 ∷ []) ∷ []; clock = 0; version = None }
 
 -- each sector is old or new at every moment
@@ -85,7 +85,7 @@ module _ (no_group : (image : Image) → image 0 0 ≡ old_header → FindsVersi
     still = still;
     from = omega arith;
     until = omega arith;
-    commits_xl = refl;
+    commits_is = refl;
     keeps = record { named = λ opening image. refl; volumes = λ opening image. tt; births = λ opening image key x. refl };
     zeroed = λ m ge le image. tt;
     before = λ m ge lt. absurd (omega (arith, lt));

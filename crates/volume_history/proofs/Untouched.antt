@@ -3,9 +3,9 @@ use Rattle.std.proofs.Common.{◌≡◌, ◌≤◌, ℕ, zero, suc, true, false,
 use Rattle.disk_model.specs.Brought.{brings}
 use Rattle.disk_model.specs.CrashValues.{MayLeave}
 use Rattle.disk_model.specs.Steps.{Completed, Flushing, Image, Reading, Step, Submitted, Writing}
-use Rattle.volume_history.proofs.Past.{every_moment_entry, every_moment_step, upto_longer}
+use Rattle.volume_history.proofs.EarlierMoments.{every_moment_entry, every_moment_step, upto_longer}
 use Rattle.volume_history.specs.Candidates.{IsConsistentMoment, IsConsistentNow}
-use Rattle.volume_history.specs.Chronicles.{AreUpto, Chronicle, Entry, moment_of, with_entry, with_step}
+use Rattle.volume_history.specs.Chronicles.{AreUpto, Chronicle, ChronicleEntry, moment_of, with_entry, with_step}
 use Rattle.volume_history.specs.Placed.{Place, PlacedVolume}
 use Rattle.volume_history.specs.Quiet.{AllUntouched, AreUntouched}
 
@@ -60,7 +60,7 @@ all_untouched image opened older newer k (v ∷ vs) le none are =
 -- what a run does next: a step is told, or an entry is made
 pub data Act : Type 0 where
   Tells : Step → Act
-  Enters : Entry → Act
+  Enters : ChronicleEntry → Act
 
 abbrev pub acted : Act → Chronicle → Chronicle
 acted (Tells step) c = with_step step c

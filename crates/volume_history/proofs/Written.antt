@@ -2,7 +2,7 @@
 use Rattle.std.proofs.Common.{◌≡◌, ◌≤◌, ℕ, zero, suc, ◌+◌, ◌-◌, ◌||◌, Bool, true, false, List, [], ◌∷◌, length, take, drop, refl, ap, subst, ◌∙◌, arith}
 use Rattle.sector_base.specs.declared.spans.Span.{Span}
 use Rattle.disk_model.specs.Steps.{Completed, Flushing, Reading, Step, Submitted, Writing}
-use Rattle.volume_history.proofs.Past.{steps_before, told_length}
+use Rattle.volume_history.proofs.EarlierMoments.{steps_before, told_length}
 use Rattle.volume_history.specs.Chronicles.{Origin, has_written, origin_at, steps_upto}
 use Rattle.volume_history.specs.Single.{end_of}
 

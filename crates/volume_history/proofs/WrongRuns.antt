@@ -2,7 +2,7 @@
 use Rattle.std.proofs.Common.{◌≡◌, ◌<◌, ℕ, zero, suc, true, slice_index_or, List, [], ◌∷◌, Contains, Option, Some, None, inl, ⊎_elim, refl, ap, subst, arith}
 use Rattle.std.specs.Hash.{le_bytes}
 use Rattle.line_answers.specs.declared.answer.Answer.TheVariants as answer
-use Rattle.disk_model.specs.Steps.{Submitted, Told, Writing}
+use Rattle.disk_model.specs.Steps.{Submitted, Record, Writing}
 use Rattle.volume_view.specs.InSegments.{leg_spot, met}
 use Rattle.volume_view.specs.Places.{primary}
 use Rattle.image_scans.specs.Versions.{FindsVersion, Version}
@@ -16,7 +16,7 @@ use Rattle.volume_history.specs.Placed.{place_of, volumes_of}
 use Rattle.volume_history.specs.Single.{done_entries, none_out}
 
 -- the answer stands at the moment when the write was submitted
-abbrev early_told : Told
+abbrev early_told : Record
 early_told = record { opened = opened; steps = Submitted 1 (Writing header (new_header ∷ [])) ∷ [] }
 
 abbrev early : Chronicle

@@ -9,7 +9,7 @@ use Rattle.volume_view.specs.View.{view}
 use Rattle.image_scans.specs.Versions.{FindsVersion, Version}
 use Rattle.volume_history.specs.Placed.{Place, PlacedVolume, group_name, values_on, volumes_of}
 use Rattle.volume_history.specs.Commands.{commits, is_data, is_good, may_say, removes}
-use Rattle.volume_history.specs.Chronicles.{AreUpto, Entry, Answered, Origin, Chronicle, moment_of, chronicle_at, in_force, origin_at, origin_on, pending, with_step, with_entry}
+use Rattle.volume_history.specs.Chronicles.{AreUpto, ChronicleEntry, Answered, Origin, Chronicle, moment_of, chronicle_at, in_force, origin_at, origin_on, pending, with_step, with_entry}
 use Rattle.volume_history.specs.Replay.{plain_state}
 use Rattle.volume_history.specs.Legal.{IsFaithful, IsLegalHistory, IsOrdered}
 use Rattle.volume_history.specs.Candidates.{base, candidates, IsConsistentMoment, IsConsistentNow, IsIn}
@@ -22,33 +22,33 @@ use Rattle.volume_history.specs.Sources.{HoldsFrom, IsSource, MovesNone, Source,
 -- an earlier moment stays what it was, whatever is told or entered later
 abbrev pub PastStays : Type 0
 PastStays =
-    (c : Chronicle) (moment : ℕ) (step : Step) (e : Entry)
+    (c : Chronicle) (moment : ℕ) (step : Step) (e : ChronicleEntry)
     → (moment ≤ length c.origin.told.steps → chronicle_at moment (with_step step c) ≡ chronicle_at moment c)
     × (suc moment ≤ moment_of e → chronicle_at moment (with_entry e c) ≡ chronicle_at moment c)
 
 -- the machine depends on what was told by the moments of its entries
 abbrev pub ReplayStays : Type 0
-ReplayStays = (step : Step) (o : Origin) (es : List Entry) → o.first ≤ length o.told.steps → AreUpto (length o.told.steps) es → plain_state (origin_on step o) es ≡ plain_state o es
+ReplayStays = (step : Step) (o : Origin) (es : List ChronicleEntry) → o.first ≤ length o.told.steps → AreUpto (length o.told.steps) es → plain_state (origin_on step o) es ≡ plain_state o es
 
 -- one lawful entry more keeps a history legal, and so does one step more that is told
 abbrev pub HistoriesGrow : Type 0
 HistoriesGrow =
-    (c : Chronicle) (e : Entry) (step : Step) → IsLegalHistory c
+    (c : Chronicle) (e : ChronicleEntry) (step : Step) → IsLegalHistory c
     → (IsOrdered c.origin.start c.entries e → IsFaithful (origin_at (moment_of e) c.origin) c.entries e → moment_of e ≤ length c.origin.told.steps → IsLegalHistory (with_entry e c))
     × IsLegalHistory (with_step step c)
 
 -- only an answer ok or a birth moves a base
 abbrev pub BasesStay : Type 0
-BasesStay = (o : Origin) (es : List Entry) (key x : ℕ) (e : Entry) → MovesNone o es key x e → base o (e ∷ es) key x ≡ base o es key x
+BasesStay = (o : Origin) (es : List ChronicleEntry) (key x : ℕ) (e : ChronicleEntry) → MovesNone o es key x e → base o (e ∷ es) key x ≡ base o es key x
 
 -- what has a source is a candidate
 abbrev pub SourcesAreCandidates : Type 0
-SourcesAreCandidates = (o : Origin) (es : List Entry) (key x : ℕ) (s : Source) → IsSource o es key x s → IsIn (candidates o es key x) (value_of o es key x s)
+SourcesAreCandidates = (o : Origin) (es : List ChronicleEntry) (key x : ℕ) (s : Source) → IsSource o es key x s → IsIn (candidates o es key x) (value_of o es key x s)
 
 -- an answer ok keeps a sector at its place where the place holds from the new base on
 abbrev pub AnswersKeep : Type 0
 AnswersKeep =
-    (o : Origin) (es : List Entry) (key x : ℕ) (place : Place) (m n : ℕ)
+    (o : Origin) (es : List ChronicleEntry) (key x : ℕ) (place : Place) (m n : ℕ)
     → HoldsFrom o es (base o (Answered m n answer.Fine ∷ es) key x) key x place → PlaceHolds o (Answered m n answer.Fine ∷ es) key x place
 
 -- now is consistent where scans of every image find the version in force or the pending one, and these have the machine's
@@ -81,9 +81,9 @@ abbrev pub run_of : Origin → Run
 run_of o = record { told = o.told; first = o.first; sizes = o.sizes; names = o.names; clock = o.clock }
 
 -- its history has these entries
-pub record Tells (o : Origin) (es : List Entry) : Type 0 where
+pub record Tells (o : Origin) (es : List ChronicleEntry) : Type 0 where
   pub history : HasHistory (run_of o) (journal_of es) (lines_of es es)
-  pub entries_xl : history.chronicle.entries ≡ es
+  pub entries_is : history.chronicle.entries ≡ es
 
 -- a run that ended before its line
 abbrev pub NoLine : Type 0

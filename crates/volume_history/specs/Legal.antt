@@ -20,7 +20,7 @@ use Rattle.group_ops.specs.Laws.{state_in}
 use Rattle.group_ops.specs.Planning.{IsBackupOf, IsPlanned, asks_of, change_of, refusal_of}
 use Rattle.image_scans.specs.Versions.{FindsVersion, Version}
 use Rattle.volume_history.specs.Commands.{is_data, is_wait, is_move, is_tended, failed_pv, is_good, is_judged_again, is_refused, may_say, writes, commits, covers_sector, range_of, removes, value_for, volume_named}
-use Rattle.volume_history.specs.Chronicles.{Entry, Begun, Opened, Took, Changed, GivenUp, Failed, Answered, Origin, Chronicle, origin_at, moment_of, now_at, begun_in, count_begun, is_number, is_open, open_among, every, pending, in_force, may_begin, piece_covers, steps_upto, took_at, settled_at, has_took, left_out}
+use Rattle.volume_history.specs.Chronicles.{ChronicleEntry, Begun, Opened, Took, Changed, GivenUp, Failed, Answered, Origin, Chronicle, origin_at, moment_of, now_at, begun_in, count_begun, is_number, is_open, open_among, every, pending, in_force, may_begin, piece_covers, steps_upto, took_at, settled_at, has_took, left_out}
 use Rattle.volume_history.specs.Replay.{plain_state, shown_at}
 
 -- ---- the order of entries, which needs no content
@@ -42,7 +42,7 @@ same false b = not b
 
 -- whether the piece is of the line's volume, writes as the line does, and has sectors, which are of the line's range, and of which
 -- no piece of the line has one
-abbrev pub is_new_piece : List Entry → ℕ → Line → Option ℕ → Piece → Bool
+abbrev pub is_new_piece : List ChronicleEntry → ℕ → Line → Option ℕ → Piece → Bool
 is_new_piece es number line key piece =
     is_number key piece.volume && same piece.write (writes line.command) && nat_lt 0 piece.count
     && all_in (λ x. covers_sector line.command x && not (settled_at es number piece.volume x)) (range_with_len piece.first piece.count)
@@ -53,13 +53,13 @@ is_zero_piece piece = (piece.volume == 0) && (piece.first == 0) && (piece.count 
 
 -- whether a piece of a line may take place: a new one of a line that reads or writes, or the one of a command that commits
 -- nothing
-abbrev pub may_take : List Entry → ℕ → Option (Line × Option ℕ) → Piece → Bool
+abbrev pub may_take : List ChronicleEntry → ℕ → Option (Line × Option ℕ) → Piece → Bool
 may_take es number None piece = false
 may_take es number (Some l) piece =
     if is_data l.0.command then is_new_piece es number l.0 l.1 piece else (not (commits l.0.command) && is_zero_piece piece && not (has_took es number))
 
 -- whether a piece of a line may fail
-abbrev pub may_fail : List Entry → ℕ → Option (Line × Option ℕ) → Piece → Bool
+abbrev pub may_fail : List ChronicleEntry → ℕ → Option (Line × Option ℕ) → Piece → Bool
 may_fail es number None piece = false
 may_fail es number (Some l) piece = is_data l.0.command && is_new_piece es number l.0 l.1 piece
 
@@ -69,7 +69,7 @@ each_sector test line None = false
 each_sector test line (Some key) = all_in (test key) (sectors_in (range_of line.command))
 
 -- whether a commit has made a version since the line's newest piece took place, and since it was begun
-abbrev pub is_overtaken : List Entry → ℕ → Bool
+abbrev pub is_overtaken : List ChronicleEntry → ℕ → Bool
 is_overtaken [] number = false
 is_overtaken (Begun moment n line key ∷ es) number = not (n == number) && is_overtaken es number
 is_overtaken (Took moment n piece ∷ es) number = not (n == number) && is_overtaken es number
@@ -77,12 +77,12 @@ is_overtaken (Changed moment n version ∷ es) number = true
 is_overtaken (_ ∷ es) number = is_overtaken es number
 
 -- whether a line that reads or writes may be refused so: before its pieces, or, where it is judged again, behind a commit
-abbrev pub may_refuse : List Entry → ℕ → Answer → Bool
+abbrev pub may_refuse : List ChronicleEntry → ℕ → Answer → Bool
 may_refuse es number answer = not (has_took es number) || (is_judged_again answer && is_overtaken es number)
 
 -- whether a line that reads or writes may be answered so: as done exactly where each sector took place, and, unless it is
 -- refused, once each sector took place or failed
-abbrev pub may_answer_data : List Entry → ℕ → Line → Option ℕ → Answer → Bool
+abbrev pub may_answer_data : List ChronicleEntry → ℕ → Line → Option ℕ → Answer → Bool
 may_answer_data es number line key answer =
     same (is_good answer) (each_sector (took_at es number) line key)
     && (if is_refused answer then may_refuse es number answer else each_sector (settled_at es number) line key)
@@ -93,7 +93,7 @@ is_alone os number = every (λ o. o.0 == number) os
 
 -- whether a command may be answered so: as done only after a Took, as refused only without one, but for a move; a wait once
 -- every other line is answered
-abbrev pub may_answer_command : List Entry → ℕ → Line → Answer → Bool
+abbrev pub may_answer_command : List ChronicleEntry → ℕ → Line → Answer → Bool
 may_answer_command es number line answer =
     (not (is_good answer) || has_took es number) && (not (is_refused answer) || is_move line.command || not (has_took es number))
     && (not (is_wait line.command) || is_alone (open_among es es) number)
@@ -105,7 +105,7 @@ is_pending (Some p) number = p.0 == number
 
 -- whether a line may be answered so, by an answer that its command may have; a command whose commit is open only where that fences
 -- the group
-abbrev pub may_answer : List Entry → ℕ → Option (Line × Option ℕ) → Answer → Bool
+abbrev pub may_answer : List ChronicleEntry → ℕ → Option (Line × Option ℕ) → Answer → Bool
 may_answer es number None answer = false
 may_answer es number (Some l) answer =
     may_say l.0.command answer
@@ -114,7 +114,7 @@ may_answer es number (Some l) answer =
     else (may_answer_command es number l.0 answer && (not (is_pending (pending es) number) || is_some (failed_pv answer))))
 
 -- whether a commit of the line may start: none is open, and it has made none, unless it is a move's
-abbrev pub may_open : List Entry → ℕ → Option (Line × Option ℕ) → Option (ℕ × Option Version) → Bool
+abbrev pub may_open : List ChronicleEntry → ℕ → Option (Line × Option ℕ) → Option (ℕ × Option Version) → Bool
 may_open es number (Some l) None = commits l.0.command && (is_tended l.0.command || not (has_took es number))
 may_open es number _ _ = false
 
@@ -124,7 +124,7 @@ may_give_up None = false
 may_give_up (Some l) = not (removes l.0.command)
 
 -- whether the entry may come behind the others
-abbrev pub is_in_order : List Entry → Entry → Bool
+abbrev pub is_in_order : List ChronicleEntry → ChronicleEntry → Bool
 is_in_order es (Begun moment n line key) = (n == count_begun es) && may_begin es line
 is_in_order es (Opened moment n version) =
     is_open es n && may_open es n (begun_in es n) (pending es)
@@ -136,17 +136,17 @@ is_in_order es (Failed moment n piece) = is_open es n && may_fail es n (begun_in
 is_in_order es (Answered moment n answer) = is_open es n && may_answer es n (begun_in es n) answer
 
 -- the moment of the newest entry, or of the start
-abbrev pub last_moment : ℕ → List Entry → ℕ
+abbrev pub last_moment : ℕ → List ChronicleEntry → ℕ
 last_moment start [] = start
 last_moment start (e ∷ es) = moment_of e
 
 -- what a commit makes is what it was opened for
-abbrev pub MakesPending : List Entry → Entry → Type 0
+abbrev pub MakesPending : List ChronicleEntry → ChronicleEntry → Type 0
 MakesPending es (Changed moment n version) = pending es ≡ Some (n, version)
 MakesPending es _ = Unit {0}
 
 -- the entry may come behind the others: no earlier than the last of them
-pub record IsOrdered (start : ℕ) (es : List Entry) (e : Entry) : Type 0 where
+pub record IsOrdered (start : ℕ) (es : List ChronicleEntry) (e : ChronicleEntry) : Type 0 where
   pub moments : last_moment start es ≤ moment_of e
   pub order : IsTrue (is_in_order es e)
   pub makes : MakesPending es e
@@ -154,30 +154,30 @@ pub record IsOrdered (start : ℕ) (es : List Entry) (e : Entry) : Type 0 where
 -- ---- what entries say of the machine and of the disks
 
 -- what a read gave of a sector: what the machine had when the line's piece of it took place
-abbrev pub read_sector : Origin → List Entry → ℕ → ℕ → ℕ → List ℕ
+abbrev pub read_sector : Origin → List ChronicleEntry → ℕ → ℕ → ℕ → List ℕ
 read_sector o [] number key x = []
 read_sector o (Took moment n piece ∷ es) number key x = if (n == number) && piece_covers piece key x then sector_of (plain_state o es) key x else read_sector o es number key x
 read_sector o (_ ∷ es) number key x = read_sector o es number key x
 
 -- the machine when the command took place
-abbrev pub state_taken : Origin → List Entry → ℕ → PlainState
+abbrev pub state_taken : Origin → List ChronicleEntry → ℕ → PlainState
 state_taken o [] number = plain_state o []
 state_taken o (Took moment n piece ∷ es) number = if n == number then plain_state o es else state_taken o es number
 state_taken o (_ ∷ es) number = state_taken o es number
 
 -- what a read gave of all its sectors
-abbrev pub read_values : Origin → List Entry → ℕ → Option (Line × Option ℕ) → List (List ℕ)
+abbrev pub read_values : Origin → List ChronicleEntry → ℕ → Option (Line × Option ℕ) → List (List ℕ)
 read_values o es number None = []
 read_values o es number (Some l) = option_map_or (λ (key : ℕ). map (λ (x : ℕ). read_sector o es number key x) (sectors_in (range_of l.0.command))) l.1 []
 
 -- an answer gives what the machine had
-abbrev pub GivesMachine : Origin → List Entry → ℕ → Answer → Type 0
+abbrev pub GivesMachine : Origin → List ChronicleEntry → ℕ → Answer → Type 0
 GivesMachine o es number (answer.Read sectors) = sectors ≡ read_values o es number (begun_in es number)
 GivesMachine o es number (answer.Listed volumes) = volumes ≡ list_of (state_taken o es number)
 GivesMachine o es number _ = Unit {0}
 
 -- a write piece that failed left each of its sectors old or written
-abbrev pub LeavesOldOrNew : Origin → List Entry → Option (Line × Option ℕ) → ℕ → Piece → Type 0
+abbrev pub LeavesOldOrNew : Origin → List ChronicleEntry → Option (Line × Option ℕ) → ℕ → Piece → Type 0
 LeavesOldOrNew o es None moment piece = Unit {0}
 LeavesOldOrNew o es (Some l) moment piece =
     (i : ℕ) → i < piece.count → IsTrue (writes l.0.command)
@@ -189,11 +189,11 @@ abbrev pub key_in : PlainState → Path → Option ℕ
 key_in state path = if option_map_or (λ (name : List ℕ). bytes_eq name path.vg) state.group false then key_of state.volumes path.lv else None
 
 -- the same of what the machine has after the entries
-abbrev pub key_named : Origin → List Entry → Option Path → Option ℕ
+abbrev pub key_named : Origin → List ChronicleEntry → Option Path → Option ℕ
 key_named o es path = option_and_then (key_in (plain_state o es)) path
 
 -- a scan of what a read gave at the moment, without the disks that are left out, finds this version
-abbrev pub FindsNow : Origin → List Entry → ℕ → Option Version → Type 0
+abbrev pub FindsNow : Origin → List ChronicleEntry → ℕ → Option Version → Type 0
 FindsNow o es moment version = FindsVersion o.sizes (now_at o moment) (left_out o es moment) version
 
 -- the version that a change makes, where the group has no other physical volumes on these disks
@@ -207,7 +207,7 @@ version_made change = option_version change.group
 -- the line makes one version of another: it is one that can be planned, a scan of what a read gives finds the one, by it, by
 -- the time, by what its text gives, if it restores a group, and by some parts that the line takes no refusal of it holds, and its
 -- change is the other
-pub record Makes (o : Origin) (es : List Entry) (moment : ℕ) (line : Line) (after : Option Version) : Type 0 where
+pub record Makes (o : Origin) (es : List ChronicleEntry) (moment : ℕ) (line : Line) (after : Option Version) : Type 0 where
   pub planned : IsPlanned line.id line.command
   pub before : FindsNow o es moment (in_force o es)
   pub given : List Part
@@ -218,31 +218,31 @@ pub record Makes (o : Origin) (es : List Entry) (moment : ℕ) (line : Line) (af
   pub change : after ≡ version_made (change_of (state_in before.found o.names backup) line o.clock given)
 
 -- the same of a line that was begun
-abbrev pub MakesFrom : Origin → List Entry → ℕ → Option (Line × Option ℕ) → Option Version → Type 0
+abbrev pub MakesFrom : Origin → List ChronicleEntry → ℕ → Option (Line × Option ℕ) → Option Version → Type 0
 MakesFrom o es moment None after = ⊥
 MakesFrom o es moment (Some l) after = Makes o es moment l.0 after
 
 -- the moment at which the line was begun
-abbrev pub begun_at : List Entry → ℕ → ℕ
+abbrev pub begun_at : List ChronicleEntry → ℕ → ℕ
 begun_at [] number = 0
 begun_at (Begun moment n line key ∷ es) number = if n == number then moment else begun_at es number
 begun_at (_ ∷ es) number = begun_at es number
 
 -- what was told since a line was begun, by a moment
-abbrev pub steps_since : Origin → List Entry → ℕ → ℕ → List Step
+abbrev pub steps_since : Origin → List ChronicleEntry → ℕ → ℕ → List Step
 steps_since o es number moment = take (moment - begun_at es number) (steps_upto o moment)
 
 -- whether the line is one that removes the group, and has neither done nor begun that
-abbrev pub keeps_group : List Entry → ℕ → Option (Line × Option ℕ) → Bool
+abbrev pub keeps_group : List ChronicleEntry → ℕ → Option (Line × Option ℕ) → Bool
 keeps_group es number None = false
 keeps_group es number (Some l) = removes l.0.command && not (has_took es number || is_pending (pending es) number)
 
 -- nothing was written since such a line was begun
-abbrev pub LeavesGroup : Origin → List Entry → ℕ → ℕ → Type 0
+abbrev pub LeavesGroup : Origin → List ChronicleEntry → ℕ → ℕ → Type 0
 LeavesGroup o es number moment = IsTrue (keeps_group es number (begun_in es number)) → WritesNothing (steps_since o es number moment)
 
 -- the entry agrees with the machine and with what stands on the disks
-abbrev pub IsFaithful : Origin → List Entry → Entry → Type 0
+abbrev pub IsFaithful : Origin → List ChronicleEntry → ChronicleEntry → Type 0
 IsFaithful o es (Begun moment n line key) = key ≡ key_named o es (volume_named line.command)
 IsFaithful o es (Opened moment n version) = MakesFrom o es moment (begun_in es n) version
 IsFaithful o es (Took moment n piece) = Unit {0}
@@ -252,12 +252,12 @@ IsFaithful o es (Failed moment n piece) = LeavesOldOrNew o es (begun_in es n) mo
 IsFaithful o es (Answered moment n answer) = GivesMachine o es n answer × LeavesGroup o es n moment
 
 -- each entry may come behind those before it
-abbrev pub AllOrdered : ℕ → List Entry → Type 0
+abbrev pub AllOrdered : ℕ → List ChronicleEntry → Type 0
 AllOrdered start [] = Unit {0}
 AllOrdered start (e ∷ es) = IsOrdered start es e × AllOrdered start es
 
 -- each entry is faithful, of what was told by its moment
-abbrev pub AllFaithful : Origin → List Entry → Type 0
+abbrev pub AllFaithful : Origin → List ChronicleEntry → Type 0
 AllFaithful o [] = Unit {0}
 AllFaithful o (e ∷ es) = IsFaithful (origin_at (moment_of e) o) es e × AllFaithful o es
 

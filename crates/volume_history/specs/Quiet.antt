@@ -3,11 +3,11 @@ use Rattle.std.specs.Prelude.{◌≡◌, ℕ, Bool, true, false, List, [], ◌�
 use Rattle.command_table.specs.declared.command.Command.{Command}
 use Rattle.command_table.specs.declared.command.Command.TheVariants.{Vgremove, Vgcfgrestore, Lvcreate, Lvextend, Lvreduce, Lvremove, Lvrename, Read, Fill, Write}
 use Rattle.disk_model.specs.CrashValues.{MayLeave}
-use Rattle.disk_model.specs.Steps.{Image, Told}
+use Rattle.disk_model.specs.Steps.{Image, Record}
 use Rattle.line_table.specs.Machine.{plain_after}
 use Rattle.image_scans.specs.Versions.{Version}
 use Rattle.volume_history.specs.Placed.{Place, PlacedVolume, group_name, volumes_of}
-use Rattle.volume_history.specs.Chronicles.{Entry, Begun, Origin, Chronicle, chronicle_at, in_force, now_at, pending}
+use Rattle.volume_history.specs.Chronicles.{ChronicleEntry, Begun, Origin, Chronicle, chronicle_at, in_force, now_at, pending}
 use Rattle.volume_history.specs.Replay.{plain_state}
 use Rattle.volume_history.specs.Candidates.{pending_step}
 use Rattle.volume_history.specs.Parts.{ScansPart}
@@ -27,31 +27,31 @@ is_quiet (Write path start hex) = false
 is_quiet _ = true
 
 -- each line that was begun does
-abbrev pub AreQuiet : List Entry → Type 0
+abbrev pub AreQuiet : List ChronicleEntry → Type 0
 AreQuiet [] = Unit {0}
 AreQuiet (Begun moment n line key ∷ es) = (is_quiet line.command ≡ true) × AreQuiet es
 AreQuiet (_ ∷ es) = AreQuiet es
 
 -- the pending version has the same volumes, and the name that the machine has after it
-abbrev pub IsQuietNext : Origin → List Entry → Option (ℕ × Option Version) → Type 0
+abbrev pub IsQuietNext : Origin → List ChronicleEntry → Option (ℕ × Option Version) → Type 0
 IsQuietNext o es None = Unit {0}
 IsQuietNext o es (Some p) = (volumes_of p.1 ≡ volumes_of o.version) × (group_name p.1 ≡ (plain_after (plain_state o es) (pending_step o es p.0 p.1)).group)
 
 -- the history leaves the volumes as they were at the start
-pub record IsQuiet (o : Origin) (es : List Entry) : Type 0 where
+pub record IsQuiet (o : Origin) (es : List ChronicleEntry) : Type 0 where
   pub lines : AreQuiet es
   pub volumes : volumes_of (in_force o es) ≡ volumes_of o.version
   pub name : group_name (in_force o es) ≡ (plain_state o es).group
   pub next : IsQuietNext o es (pending es)
 
 -- at these places a crash may leave nothing but what this image shows
-abbrev pub AreUntouched : Image → List Place → Told → Type 0
+abbrev pub AreUntouched : Image → List Place → Record → Type 0
 AreUntouched image [] told = Unit {0}
 AreUntouched image (p ∷ ps) told =
     ((write : Option ℕ) (value : List ℕ) → MayLeave told.opened told.steps p.disk p.sector write value → value ≡ image p.disk p.sector) × AreUntouched image ps told
 
 -- the same of all places of the volumes
-abbrev pub AllUntouched : Image → List PlacedVolume → Told → Type 0
+abbrev pub AllUntouched : Image → List PlacedVolume → Record → Type 0
 AllUntouched image [] told = Unit {0}
 AllUntouched image (v ∷ vs) told = AreUntouched image v.places told × AllUntouched image vs told
 

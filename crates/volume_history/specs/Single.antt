@@ -7,12 +7,12 @@ use Rattle.lvm_script.specs.declared.line.Line.{Line}
 use Rattle.disk_model.specs.CrashValues.{IsImage}
 use Rattle.disk_model.specs.Moments.{at_moment}
 use Rattle.disk_model.specs.Order.{WritesNothing}
-use Rattle.disk_model.specs.Steps.{Image, Told}
+use Rattle.disk_model.specs.Steps.{Image, Record}
 use Rattle.line_table.specs.Machine.{plain_after}
 use Rattle.image_scans.specs.Versions.{FindsVersion, Version}
 use Rattle.volume_history.specs.Placed.{volumes_of}
 use Rattle.volume_history.specs.Commands.{commits, created_disk, is_created_at, removes}
-use Rattle.volume_history.specs.Chronicles.{Entry, Begun, Opened, Took, Changed, GivenUp, Answered, Origin, has_written, now_at, origin_at, steps_upto}
+use Rattle.volume_history.specs.Chronicles.{ChronicleEntry, Begun, Opened, Took, Changed, GivenUp, Answered, Origin, has_written, now_at, origin_at, steps_upto}
 use Rattle.volume_history.specs.Legal.{FindsNow, Makes}
 use Rattle.volume_history.specs.Quiet.{AllUntouched}
 use Rattle.volume_history.specs.Replay.{command_step, opening_state}
@@ -26,41 +26,41 @@ abbrev pub end_of : Origin → ℕ
 end_of o = length o.told.steps
 
 -- the line is begun at the start
-abbrev pub begun_entries : Origin → Line → List Entry
+abbrev pub begun_entries : Origin → Line → List ChronicleEntry
 begun_entries o line = Begun o.start 0 line None ∷ []
 
 -- it is answered so at the end
-abbrev pub answered_entries : Origin → Line → Answer → List Entry
+abbrev pub answered_entries : Origin → Line → Answer → List ChronicleEntry
 answered_entries o line answer = Answered (end_of o) 0 answer ∷ begun_entries o line
 
 -- its commit of this version starts at a moment
-abbrev pub open_entries : Origin → Line → ℕ → Option Version → List Entry
+abbrev pub open_entries : Origin → Line → ℕ → Option Version → List ChronicleEntry
 open_entries o line opened version = Opened opened 0 version ∷ begun_entries o line
 
 -- it was made at a moment, and the line answered so at the end
-abbrev pub made_entries : Origin → Line → ℕ → ℕ → Option Version → Answer → List Entry
+abbrev pub made_entries : Origin → Line → ℕ → ℕ → Option Version → Answer → List ChronicleEntry
 made_entries o line opened made version said = Answered (end_of o) 0 said ∷ Changed made 0 version ∷ open_entries o line opened version
 
 -- it was made, and the line answered
-abbrev pub done_entries : Origin → Line → ℕ → Option Version → List Entry
+abbrev pub done_entries : Origin → Line → ℕ → Option Version → List ChronicleEntry
 done_entries o line opened version = made_entries o line opened (end_of o) version answer.Fine
 
 -- it was given up, since an operation on this disk failed before it was published
-abbrev pub given_up_entries : Origin → Line → ℕ → Option Version → ℕ → List Entry
+abbrev pub given_up_entries : Origin → Line → ℕ → Option Version → ℕ → List ChronicleEntry
 given_up_entries o line opened version pv = Answered (end_of o) 0 (answer.PvFailed pv) ∷ GivenUp (end_of o) 0 ∷ open_entries o line opened version
 
 -- it fences the group, since an operation on this disk failed while it was published
-abbrev pub fenced_entries : Origin → Line → ℕ → Option Version → ℕ → List Entry
+abbrev pub fenced_entries : Origin → Line → ℕ → Option Version → ℕ → List ChronicleEntry
 fenced_entries o line opened version pv = Answered (end_of o) 0 (answer.PvFailed pv) ∷ open_entries o line opened version
 
 -- a command that commits nothing was done
-abbrev pub taken_entries : Origin → Line → List Entry
+abbrev pub taken_entries : Origin → Line → List ChronicleEntry
 taken_entries o line = Answered (end_of o) 0 answer.Fine ∷ Took (end_of o) 0 (zero_piece 0) ∷ begun_entries o line
 
 -- ---- what the layers below give
 
 -- in every image a scan that leaves these disks out finds this version
-abbrev pub AllFind : List ℕ → (ℕ → Bool) → Option Version → Told → Type 0
+abbrev pub AllFind : List ℕ → (ℕ → Bool) → Option Version → Record → Type 0
 AllFind sizes out version told = (image : Image) → IsImage told image → FindsVersion sizes image out version
 
 -- no disk
@@ -68,7 +68,7 @@ abbrev pub none_out : ℕ → Bool
 none_out pv = false
 
 -- in every image a scan of all disks finds one of these two
-abbrev pub AllFindEither : List ℕ → Option Version → Option Version → Told → Type 0
+abbrev pub AllFindEither : List ℕ → Option Version → Option Version → Record → Type 0
 AllFindEither sizes version next told = (image : Image) → IsImage told image → FindsVersion sizes image none_out version ⊎ FindsVersion sizes image none_out next
 
 -- up to the start every image shows the version in force, and so does a scan then; no place of its volumes is touched at any
@@ -105,7 +105,7 @@ pub record CommitLaw (o : Origin) (line : Line) (opened : ℕ) (version : Option
   pub still : IsStill o
   pub from : o.start ≤ opened
   pub until : opened ≤ end_of o
-  pub commits_xl : commits line.command ≡ true
+  pub commits_is : commits line.command ≡ true
   pub keeps : MakesVersion line.command o.version version
   pub zeroed : (m : ℕ) → opened ≤ m → m ≤ end_of o → ZeroesStand (origin_at m o) line.command version
   pub before : (m : ℕ) → o.start ≤ m → m < opened → AllFind o.sizes none_out o.version (at_moment m o.told)

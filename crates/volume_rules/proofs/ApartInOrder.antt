@@ -9,7 +9,7 @@ use Rattle.meta_model.specs.declared.segment.On.{On}
 use Rattle.meta_model.specs.declared.segment.On.TheVariants as on
 use Rattle.volume_rules.specs.Legs.{LegRun, runs_of, LieApart, IsInRun, IsUsed}
 use Rattle.volume_rules.specs.Rules.{LegsLieApart}
-use Rattle.meta_model.specs.declared.run.Run.{Run}
+use Rattle.meta_model.specs.declared.extent_span.ExtentSpan.{ExtentSpan}
 use Rattle.volume_rules.specs.Sorting.{NoExtentInBoth, on_number, run_to_sort}
 
 same_on : (a b : On) → on_number a ≡ on_number b → a ≡ b
@@ -34,7 +34,7 @@ apart_in_order group =
           (subst (NoExtentInBoth (run_to_sort (get_or runs i some))) (sym (get_or-map run_to_sort runs j some d (omega arith)))
           (apart_to (get_or runs i some) (get_or runs j some) (apart i j some less (omega arith)))),
       λ apart i j d less within.
-          let e : Run = run_to_sort d in
+          let e : ExtentSpan = run_to_sort d in
           apart_from (get_or runs i d) (get_or runs j d)
           (subst (λ x. NoExtentInBoth x (run_to_sort (get_or runs j d))) (get_or-map run_to_sort runs i d e (omega arith))
           (subst (NoExtentInBoth (get_or (map run_to_sort runs) i e)) (get_or-map run_to_sort runs j d e (omega arith)) (apart i j e less (omega arith)))),

@@ -98,13 +98,13 @@ pub record IsRunOf (lvs : List (List ℕ × Lv)) (number : ℕ) (run : LegRun) :
   pub volume : List ℕ × Lv
   pub segment : Segment
   pub leg : Leg
-  pub lv_xl : run.lv ≡ number + nth
+  pub lv_is : run.lv ≡ number + nth
   pub is_volume : slice_get lvs nth ≡ Some volume
   pub is_segment : slice_get volume.1.segments run.segment ≡ Some segment
   pub is_leg : slice_get (legs_of segment.kind) run.leg ≡ Some leg
-  pub on_xl : run.on ≡ leg.on
-  pub first_xl : run.first ≡ leg.first
-  pub count_xl : run.count ≡ leg_share segment.count segment.kind
+  pub on_is : run.on ≡ leg.on
+  pub first_is : run.first ≡ leg.first
+  pub count_is : run.count ≡ leg_share segment.count segment.kind
 
 pub join_all : {X : Type 0} (P : X → Type 0) (xs ys : List X) → AllByRecursion P xs → AllByRecursion P ys → AllByRecursion P (xs ++ ys)
 join_all P [] ys a b = b
@@ -123,13 +123,13 @@ legs_are lvs base nth volume k segment n (leg ∷ legs) is at here = (
     volume = volume;
     segment = segment;
     leg = leg;
-    lv_xl = refl;
+    lv_is = refl;
     is_volume = is;
     is_segment = at;
     is_leg = subst (λ (i : ℕ). slice_get (legs_of segment.kind) i ≡ Some leg) (omega arith) (here zero leg refl);
-    on_xl = refl;
-    first_xl = refl;
-    count_xl = refl;
+    on_is = refl;
+    first_is = refl;
+    count_is = refl;
   },
   legs_are lvs base nth volume k segment (n + 1) legs is at (λ i l there. subst (λ (x : ℕ). slice_get (legs_of segment.kind) x ≡ Some l) (omega arith) (here (suc i) l there)),
 )
@@ -149,7 +149,7 @@ volumes_are (v ∷ lvs) base =
     (subst (λ (b : ℕ). AllByRecursion (IsRunOf (v ∷ lvs) base) (runs_of_segments b 0 v.1.segments)) (omega arith)
     (segments_are (v ∷ lvs) base 0 v 0 v.1.segments refl (λ i s there. subst (λ (x : ℕ). slice_get v.1.segments x ≡ Some s) (omega arith) there)))
     (weaker_all (IsRunOf lvs (base + 1)) (IsRunOf (v ∷ lvs) base) (runs_of_volumes (base + 1) lvs)
-    (λ run is. record { nth = suc is.nth; volume = is.volume; segment = is.segment; leg = is.leg; lv_xl = omega (arith, is.lv_xl); is_volume = is.is_volume; is_segment = is.is_segment; is_leg = is.is_leg; on_xl = is.on_xl; first_xl = is.first_xl; count_xl = is.count_xl })
+    (λ run is. record { nth = suc is.nth; volume = is.volume; segment = is.segment; leg = is.leg; lv_is = omega (arith, is.lv_is); is_volume = is.is_volume; is_segment = is.is_segment; is_leg = is.is_leg; on_is = is.on_is; first_is = is.first_is; count_is = is.count_is })
     (volumes_are lvs (base + 1)))
 
 pub run_is : (group : Group) (run : LegRun) → Contains (runs_of group) run → IsRunOf group.lvs 0 run

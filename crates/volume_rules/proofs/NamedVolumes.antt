@@ -44,10 +44,10 @@ segment_names (x ∷ segments) (suc k) s m is within = Contains-append_right (in
 pub names_from : (group : Group) (lv m : ℕ) → LiesOn group lv m → Contains (named_by group lv) m
 names_from group lv m lies =
     let is : IsRunOf group.lvs 0 lies.0 = run_is group lies.0 lies.1 in
-    let number : is.nth ≡ lv = omega (arith, is.lv_xl, lies.2) in
+    let number : is.nth ≡ lv = omega (arith, is.lv_is, lies.2) in
     let volume : slice_get group.lvs lv ≡ Some is.volume = ap (λ (k : ℕ). slice_get group.lvs k) (sym number) ∙ is.is_volume in
     subst (λ (o : Option (List ℕ × Lv)). Contains (in_segments (unwrap_or (option_map (λ (v : List ℕ × Lv). v.1.segments) o) [])) m) (sym volume)
-    (segment_names is.volume.1.segments lies.0.segment is.segment m is.is_segment (leg_names (legs_of is.segment.kind) lies.0.leg is.leg m is.is_leg (sym is.on_xl ∙ lies.3)))
+    (segment_names is.volume.1.segments lies.0.segment is.segment m is.is_segment (leg_names (legs_of is.segment.kind) lies.0.leg is.leg m is.is_leg (sym is.on_is ∙ lies.3)))
 
 -- each that is named
 each_leg : (P : ℕ → Type 0) (legs : List Leg) → ((j : ℕ) (leg : Leg) (m : ℕ) → slice_get legs j ≡ Some leg → leg.on ≡ on.Lv m → P m) → AllByRecursion P (in_legs legs)

@@ -6,7 +6,7 @@ use Rattle.std.specs.List.Sorted.{IsPermutation, IsNonDecreasingBy}
 use Rattle.std.proofs.lemmas.Bool.{cases_order, cases_eq}
 use Rattle.std.proofs.lemmas.List.Edits.{swapped_from_swap, length-swap}
 use Rattle.std.proofs.lemmas.List.Sorted.{IsPermutation-keeps, IsPermutation-sym, All-permutation}
-use Rattle.meta_model.specs.declared.run.Run.{Run}
+use Rattle.meta_model.specs.declared.extent_span.ExtentSpan.{ExtentSpan}
 use Rattle.volume_rules.specs.Sorting.{CanBeSorted, StandsBefore, EndsBefore, NoExtentInBoth}
 use Rattle.volume_rules.proofs.Sorted.{neighbours_show, neighbours_tell}
 
@@ -64,7 +64,7 @@ pairs_permuted R turn xs ys moved pairs =
     pairs_of R ys (IsPermutation-keeps xs (AllDifferent R) (different R turn xs pairs) (λ l i j in_i in_j all. step R l i j in_i in_j all) ys moved)
 
 -- in the order of the numbers by which they are sorted, each stands before the next
-stands_from : (a b : Run) → CanBeSorted a → CanBeSorted b → a.on * 2 ^ 64 + a.first ≤ b.on * 2 ^ 64 + b.first → StandsBefore a b
+stands_from : (a b : ExtentSpan) → CanBeSorted a → CanBeSorted b → a.on * 2 ^ 64 + a.first ≤ b.on * 2 ^ 64 + b.first → StandsBefore a b
 stands_from a b can can' le =
     let x : a.first < 2 ^ 48 = can.first in
     let y : b.first < 2 ^ 48 = can'.first in
@@ -73,14 +73,14 @@ stands_from a b can can' le =
       | inr rest ↦ elim rest [ inl less ↦ inl less | inr more ↦ absurd (omega arith) ]
     ]
 
-pub in_order : (runs : List Run) → All CanBeSorted runs → IsNonDecreasingBy (λ run. run.on * 2 ^ 64 + run.first) runs → AllAdjacentBelow StandsBefore runs (length runs)
+pub in_order : (runs : List ExtentSpan) → All CanBeSorted runs → IsNonDecreasingBy (λ run. run.on * 2 ^ 64 + run.first) runs → AllAdjacentBelow StandsBefore runs (length runs)
 in_order runs can sorted k d lt = stands_from _ _ (can k d (omega arith)) (can (k + 1) d lt) (sorted k (k + 1) d (omega arith) lt)
 
-turned : (x y : Run) → NoExtentInBoth x y → NoExtentInBoth y x
+turned : (x y : ExtentSpan) → NoExtentInBoth x y → NoExtentInBoth y x
 turned x y apart extent same a b c e = apart extent (sym same) c e a b
 
 -- what the test of sorted runs says of the runs as they were
-pub sorted_tells : (before after : List Run) → All CanBeSorted before → IsPermutation before after → AllAdjacentBelow StandsBefore after (length after)
+pub sorted_tells : (before after : List ExtentSpan) → All CanBeSorted before → IsPermutation before after → AllAdjacentBelow StandsBefore after (length after)
     → (AllAdjacentBelow EndsBefore after (length after) → AllPairs NoExtentInBoth before) × (AllPairs NoExtentInBoth before → AllAdjacentBelow EndsBefore after (length after))
 sorted_tells before after can moved sorted =
     let can' : All CanBeSorted after = All-permutation CanBeSorted before after moved can in (

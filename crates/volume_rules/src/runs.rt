@@ -4,10 +4,10 @@ ghost use Rattle.std.specs.List.{AllAdjacentBelow};
 ghost use Rattle.std.specs.List.Sorted.{IsPermutation};
 ghost use Rattle.volume_rules.specs.Sorting.{CanBeSorted, EndsBefore, NoExtentInBoth, StandsBefore};
 
-use meta_model::Run;
+use meta_model::ExtentSpan;
 
 /// Puts runs in the order of what they lie on, and then of their first extents.
-pub fn sort_runs(runs: &mut [Run])
+pub fn sort_runs(runs: &mut [ExtentSpan])
     requires { All CanBeSorted runs.now }
     ensures order { AllAdjacentBelow StandsBefore runs.new (length runs.new) }
     ensures moved { IsPermutation runs.old runs.new }
@@ -16,7 +16,7 @@ pub fn sort_runs(runs: &mut [Run])
 }
 
 /// Whether no extent lies in two of the runs, which are put in order.
-pub fn lie_apart(runs: &mut [Run]) -> bool
+pub fn lie_apart(runs: &mut [ExtentSpan]) -> bool
     requires { All CanBeSorted runs.now }
     ensures apart { IsTrue result ↔ AllPairs NoExtentInBoth runs.old }
     ensures order { AllAdjacentBelow StandsBefore runs.new (length runs.new) }
@@ -27,7 +27,7 @@ pub fn lie_apart(runs: &mut [Run]) -> bool
 }
 
 // Whether each run ends before the next begins.
-fn neighbours_lie_apart(runs: &[Run]) -> bool
+fn neighbours_lie_apart(runs: &[ExtentSpan]) -> bool
     requires { All CanBeSorted runs.now }
     ensures { IsTrue result ↔ AllAdjacentBelow EndsBefore runs.now (length runs.now) }
 {
@@ -40,7 +40,7 @@ fn neighbours_lie_apart(runs: &[Run]) -> bool
 }
 
 // Whether a run ends where the other begins, or before, or the other lies on a later volume.
-fn ends_before(a: &Run, b: &Run) -> bool
+fn ends_before(a: &ExtentSpan, b: &ExtentSpan) -> bool
     requires { CanBeSorted a.now }
     ensures { IsTrue result ↔ EndsBefore a.now b.now }
 {

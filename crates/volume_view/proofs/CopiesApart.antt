@@ -34,11 +34,11 @@ one_way group (leg ∷ legs) [] s s' t accepted free free' here there = absurd (
 one_way group (leg ∷ legs) (leg' ∷ legs') s s' t accepted free free' here there =
     let same : SameAbove here.0 there.0 here.1 there.1 leg.0 leg'.0 leg.1 leg'.1 = one_above group here.0 there.0 here.1 there.1 leg.0 leg'.0 leg.1 leg'.1 t accepted here.3 there.3 in
     let spot : ℕ → ℕ → Spot = λ lv sector. record { on = on.Lv lv; sector = sector } in
-    let above : spot here.0 here.1 ≡ spot there.0 there.1 = ap (λ (n : ℕ). spot n here.1) same.lv_xl ∙ ap (λ (n : ℕ). spot there.0 n) same.sector_xl in
+    let above : spot here.0 here.1 ≡ spot there.0 there.1 = ap (λ (n : ℕ). spot n here.1) same.lv_is ∙ ap (λ (n : ℕ). spot there.0 n) same.sector_is in
     let rest : SameWay s s' legs legs' =
     one_way group legs legs' s s' (spot there.0 there.1) accepted free free' (subst (Leads group legs s) above here.2) there.2 in
     let pair : ℕ → ℕ → ℕ × ℕ = λ a b. (a, b) in
-    let first : pair leg.0 leg.1 ≡ pair leg'.0 leg'.1 = ap (λ (n : ℕ). pair n leg.1) same.segment_xl ∙ ap (pair leg'.0) same.leg_xl in
+    let first : pair leg.0 leg.1 ≡ pair leg'.0 leg'.1 = ap (λ (n : ℕ). pair n leg.1) same.segment_is ∙ ap (pair leg'.0) same.leg_is in
     (rest.0, ap (λ (l : ℕ × ℕ). l ∷ legs) first ∙ ap (λ (l : List (ℕ × ℕ)). leg' ∷ l) rest.1)
 
 -- a place is that of one sector, by one way
@@ -46,7 +46,7 @@ pub copies_apart : (group : Group) (s s' : Spot) (legs legs' : List (ℕ × ℕ)
 copies_apart group s s' legs legs' at accepted free free' here there =
     let pv : here.pv ≡ there.pv = same_Some here.pv there.pv (sym here.is_pv ∙ there.is_pv) in
     let start : here.pv.1.pe_start ≡ there.pv.1.pe_start = ap (λ (p : List ℕ × Pv). p.1.pe_start) pv in
-    let into : here.into ≡ there.into = omega (arith, here.at_xl, there.at_xl) in
+    let into : here.into ≡ there.into = omega (arith, here.at_is, there.at_is) in
     let low : ℕ → Spot = λ n. record { on = on.Pv at.pv; sector = n } in
     one_way group legs legs' s s' (low there.into) accepted free free' (subst (λ (n : ℕ). Leads group legs s (low n)) into here.lead) there.lead
 

@@ -23,7 +23,7 @@ leads_front group lv sector segment leg (l ∷ legs) mid t stands rest = (rest.0
 pub copy_front : (group : Group) (lv sector segment leg : ℕ) (legs : List (ℕ × ℕ)) (mid : Spot) (at : At) → StandsAt group lv sector segment leg mid → HasCopyAt group mid legs at
     → HasCopyAt group (sector_of lv sector) (legs ++ (segment, leg) ∷ []) at
 copy_front group lv sector segment leg legs mid at stands copy =
-    record { into = copy.into; lead = leads_front group lv sector segment leg legs mid _ stands copy.lead; pv = copy.pv; is_pv = copy.is_pv; at_xl = copy.at_xl }
+    record { into = copy.into; lead = leads_front group lv sector segment leg legs mid _ stands copy.lead; pv = copy.pv; is_pv = copy.is_pv; at_is = copy.at_is }
 
 -- the primary leg has the sector
 primary_has : (count : ℕ) (kind : SegKind) (l : ℕ) → HasSectorInLeg kind l (primary_leg count kind l)
@@ -67,7 +67,7 @@ on_pv group pv sector at (Some p) is so =
     let same : here pv (p.1.pe_start + sector) ≡ at = same_Some (here pv (p.1.pe_start + sector)) at so in
     let number : pv ≡ at.pv = ap (λ (a : At). a.pv) same in
     let spot : ℕ → Spot = λ v. record { on = on.Pv v; sector = sector } in
-    record { into = sector; lead = ap spot number; pv = p; is_pv = ap (λ (n : ℕ). slice_get group.pvs n) (sym number) ∙ is; at_xl = sym (ap (λ (a : At). a.sector) same) }
+    record { into = sector; lead = ap spot number; pv = p; is_pv = ap (λ (n : ℕ). slice_get group.pvs n) (sym number) ∙ is; at_is = sym (ap (λ (a : At). a.sector) same) }
 
 -- the place to which primaries lead has a copy, by some legs
 pub down_has_copy : (group : Group) (steps : ℕ) (on : On) (sector : ℕ) (at : At) → down group on steps sector ≡ Some at → (legs : List (ℕ × ℕ)) × HasCopyAt group (record { on = on; sector = sector }) legs at

@@ -20,7 +20,7 @@ leads_join group (leg ∷ low) high s mid t above below = (below.0, below.1, lea
 
 -- so a copy at the end of the lower legs is one at the end of all
 pub copy_join : (group : Group) (low high : List (ℕ × ℕ)) (s mid : Spot) (at : At) → Leads group high s mid → HasCopyAt group mid low at → HasCopyAt group s (low ++ high) at
-copy_join group low high s mid at above copy = record { into = copy.into; lead = leads_join group low high s mid _ above copy.lead; pv = copy.pv; is_pv = copy.is_pv; at_xl = copy.at_xl }
+copy_join group low high s mid at above copy = record { into = copy.into; lead = leads_join group low high s mid _ above copy.lead; pv = copy.pv; is_pv = copy.is_pv; at_is = copy.at_is }
 
 -- a segment on the way of the primary from a spot: legs lead there, and from there on the way is the same
 pub record OnWay (group : Group) (from : Spot) (at : At) (m : Met) : Type 0 where

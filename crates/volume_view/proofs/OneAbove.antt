@@ -94,10 +94,10 @@ same_at extent count (Striped stripe legs) leg l l' whole has has' at =
 
 -- one sector of one volume, and one leg of one segment
 pub record SameAbove (lv lv' sector sector' segment segment' leg leg' : ℕ) : Type 0 where
-  pub lv_xl : lv ≡ lv'
-  pub sector_xl : sector ≡ sector'
-  pub segment_xl : segment ≡ segment'
-  pub leg_xl : leg ≡ leg'
+  pub lv_is : lv ≡ lv'
+  pub sector_is : sector ≡ sector'
+  pub segment_is : segment ≡ segment'
+  pub leg_is : leg ≡ leg'
 
 -- a spot below is that of one sector, by one leg
 pub one_above : (group : Group) (lv lv' sector sector' segment segment' leg leg' : ℕ) (spot : Spot) → IsAccepted group → StandsAt group lv sector segment leg spot → StandsAt group lv' sector' segment' leg' spot
@@ -135,8 +135,8 @@ one_above group lv lv' sector sector' segment segment' leg leg' spot accepted he
     (ap (λ (s : Segment). offset_in s.kind m.at) (sym same) ∙ offsets) in
     let start : m.segment.start * group.extent_size ≡ n.segment.start * group.extent_size = ap (λ (s : Segment). s.start * group.extent_size) same in
     record {
-      lv_xl = lvs;
-      sector_xl = omega (arith, ma.at, mb.at);
-      segment_xl = segments;
-      leg_xl = legs;
+      lv_is = lvs;
+      sector_is = omega (arith, ma.at, mb.at);
+      segment_is = segments;
+      leg_is = legs;
     }

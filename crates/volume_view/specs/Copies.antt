@@ -30,4 +30,4 @@ pub record HasCopyAt (group : Group) (from : Spot) (legs : List (ℕ × ℕ)) (a
   pub lead : Leads group legs from (record { on = on.Pv at.pv; sector = into })
   pub pv : List ℕ × Pv
   pub is_pv : slice_get group.pvs at.pv ≡ Some pv
-  pub at_xl : at.sector ≡ pv.1.pe_start + into
+  pub at_is : at.sector ≡ pv.1.pe_start + into

@@ -10,7 +10,7 @@ use crate::kind::Kind;
 use crate::number::number_of;
 use crate::reader::{Mode, Phase, Reader};
 use crate::refusal::ConfRefusal;
-use crate::tree::{Entry, Scalar};
+use crate::tree::{ConfEntry, Scalar};
 use std::mem;
 
 impl<'a> Reader<'a> {
@@ -83,10 +83,10 @@ impl<'a> Reader<'a> {
     fn add_list(&mut self, scalars: Vec<Scalar>) -> Result<(), ConfRefusal>
         ensures { Gives (λ _. reader_view self.new) result (Ok (spec.with_entry (reader_view self.old) (Assign self.old.name.now (Many (map scalar_view scalars.items))))) }
     {
-        self.add_key(Entry::List(self.name, scalars))
+        self.add_key(ConfEntry::List(self.name, scalars))
     }
 
-    fn add_key(&mut self, entry: Entry<'a>) -> Result<(), ConfRefusal>
+    fn add_key(&mut self, entry: ConfEntry<'a>) -> Result<(), ConfRefusal>
         requires { IsKeyed self.old.name.now (entry_view entry) }
         ensures { Gives (λ _. reader_view self.new) result (Ok (spec.with_entry (reader_view self.old) (entry_view entry.entry))) }
     {
@@ -105,8 +105,8 @@ impl<'a> Reader<'a> {
                 Ok(())
             }
             _ => match scalar {
-                Scalar::Number(number) => self.add_key(Entry::Number(self.name, number)),
-                Scalar::Text(text) => self.add_key(Entry::Text(self.name, text)),
+                Scalar::Number(number) => self.add_key(ConfEntry::Number(self.name, number)),
+                Scalar::Text(text) => self.add_key(ConfEntry::Text(self.name, text)),
             },
         }
     }

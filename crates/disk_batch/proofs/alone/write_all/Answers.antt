@@ -1,7 +1,7 @@
 use Rattle.std.proofs.Common.{◌≡◌, Option, true, false, ap, subst, sym}
-use Rattle.disk_model.specs.Since.{BetweenTold}
+use Rattle.disk_model.specs.Since.{BetweenRecords}
 use Rattle.disk_model.specs.State.{State}
-use Rattle.disk_model.specs.Steps.{Told}
+use Rattle.disk_model.specs.Steps.{Record}
 use Rattle.disk_batch.specs.declared.batching.BatchStep.{BatchStep}
 use Rattle.disk_batch.specs.Alone.{IsOn}
 use Rattle.disk_batch.specs.WriteAll.{WritesAll}
@@ -58,7 +58,7 @@ returns-in-Well-clause-told g c =
     let disks = disks_of c.args.batch in
     let kept = c.loop-done.invariant in
     let same : (g.S.Shelf.state c.settle.new.self).told ≡ last.told = ap (λ (s : State). s.told) c.in_default.ensures.cases.same in
-    subst (λ (t : Option Told). BetweenTold (λ before after. WritesAll before puts disks true after) first.told t) (sym same)
+    subst (λ (t : Option Record). BetweenRecords (λ before after. WritesAll before puts disks true after) first.told t) (sym same)
     (ends_well puts disks first last (g.met.S.Shelf.lawful c.args.shelf.now) (g.met.S.Shelf.lawful c.loop-done.shelf) c.requires.idle
     (subst (λ (s : BatchStep). IsOn s last) c.in-Well.is kept.on)
     (subst (λ (s : BatchStep). CarriesTold puts disks s first.told last.told) c.in-Well.is kept.carries))
@@ -71,6 +71,6 @@ returns-in-Lost-clause-told g c =
     let disks = disks_of c.args.batch in
     let kept = c.loop-done.invariant in
     let same : (g.S.Shelf.state c.settle.new.self).told ≡ last.told = ap (λ (s : State). s.told) c.in_default.ensures.cases.same in
-    subst (λ (t : Option Told). BetweenTold (λ before after. WritesAll before puts disks false after) first.told t) (sym same)
+    subst (λ (t : Option Record). BetweenRecords (λ before after. WritesAll before puts disks false after) first.told t) (sym same)
     (ends_lost puts disks first last c.in-Lost.pv (g.met.S.Shelf.lawful c.args.shelf.now) (g.met.S.Shelf.lawful c.loop-done.shelf) c.requires.idle
     (subst (λ (s : BatchStep). CarriesTold puts disks s first.told last.told) c.in-Lost.is kept.carries))

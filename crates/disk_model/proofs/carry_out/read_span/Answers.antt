@@ -2,7 +2,7 @@ use Rattle.std.proofs.Common.{◌≡◌, Bool, true, Option, IfSome, List, [], �
 use Rattle.sector_base.specs.declared.spans.Span.{Span}
 use Rattle.disk_model.specs.declared.ops.Op.{Op}
 use Rattle.disk_model.specs.declared.ops.Op.TheVariants.{Read}
-use Rattle.disk_model.specs.Steps.{Told, Reading}
+use Rattle.disk_model.specs.Steps.{Record, Reading}
 use Rattle.disk_model.specs.Operations.{work_of}
 use Rattle.disk_model.specs.Reading.{ReadsAll}
 use Rattle.disk_model.specs.Since.{OnlyReads}
@@ -11,7 +11,7 @@ use Rattle.disk_model.proofs.ReadingAlone.{reads_span}
 use Rattle.disk_model.proofs.carry_out.read_span.Goals as goal
 
 -- what a read that went well read, by the operation that it was
-well_read : (told : Option Told) (op : Op) (well : Bool) (span : Span) (sectors : List (List ℕ)) → op ≡ Read span sectors → well ≡ true
+well_read : (told : Option Record) (op : Op) (well : Bool) (span : Span) (sectors : List (List ℕ)) → op ≡ Read span sectors → well ≡ true
     → IfSome told (λ t. ReadsAll t op well) → IfSome told (λ t. ReadsAll t (Read span sectors) true)
 well_read told op well span sectors is went h =
     subst (λ (b : Bool). IfSome told (λ t. ReadsAll t (Read span sectors) b)) went (subst (λ (o : Op). IfSome told (λ t. ReadsAll t o well)) is h)

@@ -1,6 +1,6 @@
 use Rattle.std.proofs.Common.{◌≡◌, ◌+◌, ◌*◌, ◌≤◌, [], ◌∷◌, ◌++◌, length, sym, ap, ◌∙◌, arith}
 use Rattle.std.proofs.lemmas.Option.{MatchOption-at_none}
-use Rattle.meta_model.specs.declared.run.Run.{Run}
+use Rattle.meta_model.specs.declared.extent_span.ExtentSpan.{ExtentSpan}
 use Rattle.extent_map.specs.ByVolume.{lists_of}
 use Rattle.extent_map.specs.Covered.{leg_on}
 use Rattle.extent_map.proofs.Buckets.{each_none, each_set, leg_elsewhere, leg_here, leg_on_lv, lists_long}
@@ -11,7 +11,7 @@ returns-in_ok-push c =
     let here : 0 + c.in-Pv.pv ≡ c.in-Pv.pv = omega arith in
     each_set (λ pv. leg_on pv c.args.share c.args.leg) 0 c.in-Pv.pv c.args.buckets.now.items c.in-Some.bucket.now c.push.new.self c.in-Some.ensures.item.3.0 c.in-Some.ensures.value
     (c.in_ok-push.ensures.items
-    ∙ ap (λ on. c.in-Some.bucket.now.items ++ (let run : Run = record { on = 2 * on; first = c.args.leg.first; count = c.args.share } in run) ∷ []) c.from.ensures
+    ∙ ap (λ on. c.in-Some.bucket.now.items ++ (let run : ExtentSpan = record { on = 2 * on; first = c.args.leg.first; count = c.args.share } in run) ∷ []) c.from.ensures
     ∙ ap (λ some. c.in-Some.bucket.now.items ++ some) (sym (ap (λ n. leg_on n c.args.share c.args.leg) here ∙ leg_here c.in-Pv.pv c.args.share c.args.leg c.in-Pv.is)))
     (λ pv other. leg_elsewhere c.in-Pv.pv c.args.share pv c.args.leg c.in-Pv.is (λ same. other (same ∙ sym here)))
 

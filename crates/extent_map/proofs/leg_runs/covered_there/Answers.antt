@@ -1,6 +1,6 @@
 use Rattle.std.proofs.Common.{ap, arith}
 use Rattle.std.specs.List.{flat_map}
-use Rattle.meta_model.specs.declared.run.Run.{Run}
+use Rattle.meta_model.specs.declared.extent_span.ExtentSpan.{ExtentSpan}
 use Rattle.extent_map.specs.Covered.{extents_in, lv_on, segment_on}
 use Rattle.extent_map.proofs.LegsOnVolume.{legs_of_row}
 use Rattle.extent_map.proofs.Walks.{sum_row}
@@ -16,7 +16,7 @@ covered_by_segments-total-requires-clause-fits c =
       c.requires.fits,
       c.loop-number.invariant,
       ap (λ segments. extents_in (flat_map (segment_on c.args.pv) segments)) c.as_slice.ensures,
-      sum_row (λ (run : Run). run.count) (lv_on c.args.pv) c.args.lvs.now c.loop-number.number (c.get.result.0.now, c.get.result.1.now) c.get.ensures,
+      sum_row (λ (run : ExtentSpan). run.count) (lv_on c.args.pv) c.args.lvs.now c.loop-number.number (c.get.result.0.now, c.get.result.1.now) c.get.ensures,
     )
 
 pub overflow_add-total : goal.overflow_add-total
@@ -27,7 +27,7 @@ overflow_add-total c =
       c.loop-number.invariant,
       c.covered_by_segments-total.ensures,
       ap (λ segments. extents_in (flat_map (segment_on c.args.pv) segments)) c.as_slice.ensures,
-      sum_row (λ (run : Run). run.count) (lv_on c.args.pv) c.args.lvs.now c.loop-number.number (c.get.result.0.now, c.get.result.1.now) c.get.ensures,
+      sum_row (λ (run : ExtentSpan). run.count) (lv_on c.args.pv) c.args.lvs.now c.loop-number.number (c.get.result.0.now, c.get.result.1.now) c.get.ensures,
     )
 
 pub loop-number-preserved : goal.loop-number-preserved
@@ -37,5 +37,5 @@ loop-number-preserved c =
       c.loop-number.invariant,
       c.covered_by_segments-total.ensures,
       ap (λ segments. extents_in (flat_map (segment_on c.args.pv) segments)) c.as_slice.ensures,
-      sum_row (λ (run : Run). run.count) (lv_on c.args.pv) c.args.lvs.now c.loop-number.number (c.get.result.0.now, c.get.result.1.now) c.get.ensures,
+      sum_row (λ (run : ExtentSpan). run.count) (lv_on c.args.pv) c.args.lvs.now c.loop-number.number (c.get.result.0.now, c.get.result.1.now) c.get.ensures,
     )

@@ -21,7 +21,7 @@ returns-in-Err g c =
       result = Err fault.NoMemory;
       given_back = λ judged. absurd judged;
       is = refl;
-      took_xl = refl;
+      took_is = refl;
       again = again_nothing s0 c.requires.idle;
       carried = wanting (state_in c.args.found c.args.names.now None) c.args.line.now c.args.now s0 s0 refl (λ pv. refl);
     }
@@ -45,7 +45,7 @@ returns g c =
       result = c.carry_out.result;
       given_back = λ was. judged.1;
       is = ap (λ (r : Outcome × Option ℕ). r.0) c.outcome_of.ensures;
-      took_xl = ap (λ (r : Outcome × Option ℕ). r.1) c.outcome_of.ensures;
+      took_is = ap (λ (r : Outcome × Option ℕ). r.1) c.outcome_of.ensures;
       again = e.again;
       carried = subst (λ (state : GroupState). IsCarried state c.args.line.now c.args.now (g.S.Shelf.state c.args.shelf.now) c.carry_out.result (g.S.Shelf.state c.carry_out.new.shelf)) judged.2 e.carried;
     }

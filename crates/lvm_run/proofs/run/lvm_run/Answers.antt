@@ -50,7 +50,7 @@ returns g c =
           printed = λ is.
               printed_answers (names_of words) ran.outcome (words_first words c.args.now e.0 from to ids s0 ran.outcome after s1 runs) is
               ∙ ap (λ (l : List (ℕ × Option Answer)). answers_text (names_of words) l) (sym c.finish-status.ensures.answers);
-          answers_xl = c.finish-status.ensures.answers ∙ sym (entered_answers words c.args.now e.0 from to ids s0 ran.outcome after s1 runs);
+          answers_is = c.finish-status.ensures.answers ∙ sym (entered_answers words c.args.now e.0 from to ids s0 ran.outcome after s1 runs);
           entered =
               subst (λ (j : List JournalEntry). IsEntered (names_of words) c.args.now s0 j (lines_of_words words e.0 ids ran.outcome) s1) (sym {A = List JournalEntry} journal)
               (subst (λ (w : List (String _)). IsEntered (names_of (words_of w)) c.args.now s0 (journal_by ran.begun ran.took s1.steps ran.outcome) (lines_of_words (words_of w) e.0 ids ran.outcome) s1) words_are e.2);

@@ -27,8 +27,8 @@ header_is : (c : goal.After-has_ignored_bit) → IsHeader c.args.sector.now (hea
 unfolding header_of
 header_is c = record {
   sound = c.in_default.ensures.sound;
-  start = c.in_default.ensures.start_xl;
-  size = c.in_default.ensures.size_xl;
+  start = c.in_default.ensures.start_is;
+  size = c.in_default.ensures.size_is;
   committed = committed_is c;
   precommitted = inside_precommitted c.args.sector.now c.args.size c.if_inside-2.result c.get_locn-precommitted.result c.get_locn-precommitted.ensures c.if_inside-2.ensures;
   ignored = c.has_ignored_bit.ensures;

@@ -1,18 +1,18 @@
 use Rattle.std.proofs.Common.{rules, sym, ◌∙◌, arith}
 use Rattle.std.proofs.lemmas.Bool.{false≢true}
-use Rattle.meta_model.specs.declared.run.Run.{Run}
+use Rattle.meta_model.specs.declared.extent_span.ExtentSpan.{ExtentSpan}
 use Rattle.vg_check.proofs.MarkedVolumes.{marked_more, told_at}
 use Rattle.vg_check.proofs.moving.locked_are_marked.Goals as goal
 use Rattle.vg_check.proofs.moving.locked_are_marked.Goals.{else-lv-via-then-lv+else-numbers-number-eq0, else-lv-via-else-lv}
 
 pub returns-then-numbers-number-eq0 : goal.returns-then-numbers-number-eq0
 returns-then-numbers-number-eq0 c =
-    let none : Run = record { on = 0; first = 0; count = 0 } in
+    let none : ExtentSpan = record { on = 0; first = 0; count = 0 } in
     (λ is. absurd (false≢true is), λ marked. absurd (omega (arith, marked c.loop-number.number c.lv.result.now c.loop-number-test.true c.lv.ensures c.if-lv.true, told_at c.args.numbers.now c.loop-number.number none c.loop-number-test.true)))
 
 pub loop-number-preserved : goal.loop-number-preserved
 loop-number-preserved c =
-    let none : Run = record { on = 0; first = 0; count = 0 } in
+    let none : ExtentSpan = record { on = 0; first = 0; count = 0 } in
     marked_more c.args.group.now c.args.numbers.now c.loop-number.number c.lv.result.now c.lv.ensures
     (λ locked. elim c.else-lv.branch [
       | else-lv-via-then-lv+else-numbers-number-eq0 w ↦ omega (arith, told_at c.args.numbers.now c.loop-number.number none c.loop-number-test.true)

@@ -14,7 +14,7 @@ use Rattle.group_plan.specs.Added.{IsAdded, added_of, disks_added}
 use Rattle.group_plan.specs.Judging.{IsRefusedBy, first_refusal, unknown_row}
 use Rattle.group_plan.specs.NewGroup.{change_with, text_row}
 use Rattle.group_plan.specs.Plans.{Plans}
-use Rattle.group_plan.specs.declared.added.Added.{Added}
+use Rattle.group_plan.specs.declared.added.AddedPv.{AddedPv}
 use Rattle.group_plan.specs.declared.refusal.PlanRefusal.{PlanRefusal}
 use Rattle.group_plan.specs.declared.state.Change.{Change}
 use Rattle.group_plan.specs.declared.state.GroupState.{GroupState}
@@ -63,14 +63,14 @@ returns-in_err-judge_added c =
     (refused_back (unknown_row c.args.state.now c.args.names.now ∷ []) (extend_rows c.args.state.now c.args.group.now (added_of c.args.state.now c.args.names.now) ++ text_row c.args.state.now (next_version c.args.group.now) c.args.state.now.disk_of (added_of c.args.state.now c.args.names.now) c.args.now ∷ []) _ (none_row _ c.in_ok-all.ensures.0)
     (refused_front (extend_rows c.args.state.now c.args.group.now (added_of c.args.state.now c.args.names.now))
     (text_row c.args.state.now (next_version c.args.group.now) c.args.state.now.disk_of (added_of c.args.state.now c.args.names.now) c.args.now ∷ []) _
-    (subst (λ (l : List Added). IsRefusedBy (first_refusal (extend_rows c.args.state.now c.args.group.now l)) c.in_err-judge_added.field-0.0) (c.deref.ensures.value ∙ c.in_ok-all.ensures.1) refused))))
+    (subst (λ (l : List AddedPv). IsRefusedBy (first_refusal (extend_rows c.args.state.now c.args.group.now l)) c.in_err-judge_added.field-0.0) (c.deref.ensures.value ∙ c.in_ok-all.ensures.1) refused))))
 
 pub commit-requires-clause-few : goal.commit-requires-clause-few
 commit-requires-clause-few c =
     let accepted : IsAccepted c.args.group.now = subst IsAccepted c.group-found.ensures.group c.group-found.ensures.accepted in
     let passed = subst (λ (g : Group). first_refusal (extend_rows c.args.state.now g c.deref.result.now) ≡ None) c.group-found.ensures.group c.in_ok-judge_added.ensures in
     next_few c.args.state.now c.args.group.now c.in_ok-base.base c.in_ok-base.ensures accepted c.in_ok-all.all.items
-    (subst (λ (l : List Added). first_refusal (extend_rows c.args.state.now c.args.group.now l) ≡ None) c.deref.ensures.value passed)
+    (subst (λ (l : List AddedPv). first_refusal (extend_rows c.args.state.now c.args.group.now l) ≡ None) c.deref.ensures.value passed)
 
 pub commit-requires-clause-size : goal.commit-requires-clause-size
 commit-requires-clause-size c =
@@ -85,7 +85,7 @@ commit-requires-clause-accepted c =
     let tree : HasTree c.args.group.now = subst HasTree c.group-found.ensures.group c.group-found.ensures.stands in
     let passed = subst (λ (g : Group). first_refusal (extend_rows c.args.state.now g c.deref.result.now) ≡ None) c.group-found.ensures.group c.in_ok-judge_added.ensures in
     (next_whole c.args.state.now c.requires.state c.args.group.now c.in_ok-base.base c.args.names.now c.in_ok-all.all.items c.requires.found c.in_ok-base.ensures c.in_ok-all.ensures.1 accepted tree
-    (subst (λ (l : List Added). first_refusal (extend_rows c.args.state.now c.args.group.now l) ≡ None) c.deref.ensures.value passed)).accepted
+    (subst (λ (l : List AddedPv). first_refusal (extend_rows c.args.state.now c.args.group.now l) ≡ None) c.deref.ensures.value passed)).accepted
 
 pub commit-requires-clause-tree : goal.commit-requires-clause-tree
 commit-requires-clause-tree c =
@@ -93,7 +93,7 @@ commit-requires-clause-tree c =
     let tree : HasTree c.args.group.now = subst HasTree c.group-found.ensures.group c.group-found.ensures.stands in
     let passed = subst (λ (g : Group). first_refusal (extend_rows c.args.state.now g c.deref.result.now) ≡ None) c.group-found.ensures.group c.in_ok-judge_added.ensures in
     (next_whole c.args.state.now c.requires.state c.args.group.now c.in_ok-base.base c.args.names.now c.in_ok-all.all.items c.requires.found c.in_ok-base.ensures c.in_ok-all.ensures.1 accepted tree
-    (subst (λ (l : List Added). first_refusal (extend_rows c.args.state.now c.args.group.now l) ≡ None) c.deref.ensures.value passed)).tree
+    (subst (λ (l : List AddedPv). first_refusal (extend_rows c.args.state.now c.args.group.now l) ≡ None) c.deref.ensures.value passed)).tree
 
 pub commit-requires-clause-disks : goal.commit-requires-clause-disks
 commit-requires-clause-disks c =
@@ -108,12 +108,12 @@ pub commit-requires-clause-areas : goal.commit-requires-clause-areas
 commit-requires-clause-areas c = areas_take c.args.state.now c.requires.state
 
 -- what the last part plans, at the group, the disks and the volumes that the line names
-planned : (state : GroupState) (base next : Group) (listed disks : List ℕ) (all found : List Added) (now : ℕ) (result : Result Change PlanRefusal) → base ≡ next → listed ≡ disks → all ≡ found
+planned : (state : GroupState) (base next : Group) (listed disks : List ℕ) (all found : List AddedPv) (now : ℕ) (result : Result Change PlanRefusal) → base ≡ next → listed ≡ disks → all ≡ found
     → Plans (text_row state base listed all now ∷ []) (change_with base listed all) result → Plans (text_row state next disks found now ∷ []) (change_with next disks found) result
 planned state base next listed disks all found now result bases lists alls plans =
     subst (λ (g : Group). Plans (text_row state g disks found now ∷ []) (change_with g disks found) result) bases
     (subst (λ (l : List ℕ). Plans (text_row state base l found now ∷ []) (change_with base l found) result) lists
-    (subst (λ (l : List Added). Plans (text_row state base listed l now ∷ []) (change_with base listed l) result) alls plans))
+    (subst (λ (l : List AddedPv). Plans (text_row state base listed l now ∷ []) (change_with base listed l) result) alls plans))
 
 pub returns : goal.returns
 returns c =
@@ -122,7 +122,7 @@ returns c =
     let found = added_of state c.args.names.now in
     let first = subst (λ (g : Group). first_refusal (group_rows g c.args.vg.now) ≡ None) c.group-found.ensures.group c.in_ok-judge_group.ensures in
     let passed = subst (λ (g : Group). first_refusal (extend_rows state g c.deref.result.now) ≡ None) c.group-found.ensures.group c.in_ok-judge_added.ensures in
-    let last = subst (λ (l : List Added). first_refusal (extend_rows state group l) ≡ None) (c.deref.ensures.value ∙ c.in_ok-all.ensures.1) passed in
+    let last = subst (λ (l : List AddedPv). first_refusal (extend_rows state group l) ≡ None) (c.deref.ensures.value ∙ c.in_ok-all.ensures.1) passed in
     plans_back (group_rows group c.args.vg.now ++ unknown_row state c.args.names.now ∷ extend_rows state group found) (text_row state (next_version group) state.disk_of found c.args.now ∷ [])
     (change_with (next_version group) state.disk_of found) c.commit.result
     (none_both (group_rows group c.args.vg.now) (unknown_row state c.args.names.now ∷ extend_rows state group found) first

@@ -2,7 +2,7 @@
 use Rattle.std.proofs.Common.{Some, None, refl}
 use Rattle.std.proofs.lemmas.Result.{err_from_is_err_and}
 use Rattle.disk_model.proofs.ReadingAlone.{holds_always, holds_weaker}
-use Rattle.mda_header.specs.declared.entry.Entry.TheVariants.{Ignored, Nothing, Text, Refused as RefusedFor}
+use Rattle.mda_header.specs.declared.entry.HeaderEntry.TheVariants.{Ignored, Nothing, Text, Refused as RefusedFor}
 use Rattle.disk_contents.proofs.ReadingParts.{well_nothing}
 use Rattle.scan_rules.specs.Decision.{HoldsNone, Refused}
 use Rattle.scan_rules.specs.Readings.{gives_of}

@@ -18,7 +18,7 @@ returns-in_err-sectors-clause-read g c =
     let spans = c.spans-rest.ensures in
     let p = err_from_is_err_and c.from_residual.result c.from_residual.ensures.1 in
     rw (p.1, p.2)
-    (first_ended c.args.area.now c.args.locn c.spans-rest.result spans.spans before after after c.in_err-sectors.field-0.0 spans.in_area.0.pv_xl c.in_err-sectors.ensures)
+    (first_ended c.args.area.now c.args.locn c.spans-rest.result spans.spans before after after c.in_err-sectors.field-0.0 spans.in_area.0.pv_is c.in_err-sectors.ensures)
 
 pub returns-in_err-more-in-Some-clause-read : goal.returns-in_err-more-in-Some-clause-read
 returns-in_err-more-in-Some-clause-read g c =
@@ -58,8 +58,8 @@ returns-in_ok-joined-in-Some-clause-read g c =
     let more = c.in_ok-more-in-Some.more in
     let all = c.in_ok-joined-in-Some.field-0 in
     let went : ReadsWell before (first ∷ []) there = c.in_ok-sectors.ensures.0 in
-    let are : AreSpansOf area locn (first, Some rest) = subst (λ (o : Option Span). AreSpansOf area locn (first, o)) c.in-Some.is (record { count_xl = spans.count; order = spans.order }) in
-    let read : HoldsOfDisk before.told area.pv (IsSpanRead first sectors) = subst (λ (p : ℕ). HoldsOfDisk before.told p (IsSpanRead first sectors)) spans.in_area.0.pv_xl c.in_ok-sectors.ensures.2 in
+    let are : AreSpansOf area locn (first, Some rest) = subst (λ (o : Option Span). AreSpansOf area locn (first, o)) c.in-Some.is (record { count_is = spans.count; order = spans.order }) in
+    let read : HoldsOfDisk before.told area.pv (IsSpanRead first sectors) = subst (λ (p : ℕ). HoldsOfDisk before.told p (IsSpanRead first sectors)) spans.in_area.0.pv_is c.in_ok-sectors.ensures.2 in
     let read' : HoldsOfDisk there.told area.pv (IsSpanRead rest more) =
     subst (λ (p : ℕ). HoldsOfDisk there.told p (IsSpanRead rest more)) (in_area_rest area c.spans-rest.result.1 rest c.in-Some.is spans.in_area.1) c.in_ok-more-in-Some.ensures.2
     in (

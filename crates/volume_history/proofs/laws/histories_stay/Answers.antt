@@ -1,4 +1,4 @@
-use Rattle.volume_history.proofs.Past.{entry_stays, replay_stays, step_stays}
+use Rattle.volume_history.proofs.EarlierMoments.{entry_stays, replay_stays, step_stays}
 use Rattle.volume_history.proofs.Legal.{legal_append, legal_step}
 use Rattle.volume_history.proofs.Bases.{base_moves, source_is_candidate}
 use Rattle.volume_history.proofs.Places.{place_by_ok}

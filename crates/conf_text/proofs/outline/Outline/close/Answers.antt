@@ -1,5 +1,5 @@
 use Rattle.std.proofs.Common.{◌++◌, ◌∷◌, [], map, reverse, ap, sym, ◌∙◌, subst}
-use Rattle.conf_text.specs.declared.tree.Entry.TheVariants as code
+use Rattle.conf_text.specs.declared.tree.ConfEntry.TheVariants as code
 use Rattle.conf_text.specs.Entries.{Close, sections}
 use Rattle.conf_text.specs.Outline.{HasSections}
 use Rattle.conf_text.specs.Views.{entry_view}

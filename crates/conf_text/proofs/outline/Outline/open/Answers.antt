@@ -1,5 +1,5 @@
 use Rattle.std.proofs.Common.{◌≡◌, ◌++◌, ◌∷◌, [], map, reverse, ap, sym, ◌∙◌, subst, refl}
-use Rattle.conf_text.specs.declared.tree.Entry.TheVariants as code
+use Rattle.conf_text.specs.declared.tree.ConfEntry.TheVariants as code
 use Rattle.conf_text.specs.declared.outline.Outer.{Outer}
 use Rattle.conf_text.specs.Entries.{Many, Assign, after_entry, sections}
 use Rattle.conf_text.specs.Outline.{HasSections}
