@@ -1,5 +1,5 @@
-pub mod Counts
+mod Counts
 pub mod ItemsWritten
-pub mod SourceText
+mod SourceText
 pub mod TextsWritten
-pub mod Written
+mod Written

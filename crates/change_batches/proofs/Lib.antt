@@ -1,20 +1,20 @@
-pub mod Adding
-pub mod AreaBatch
+mod Adding
+mod AreaBatch
 pub mod BaseShows
-pub mod ChangeBatches
+mod ChangeBatches
 pub mod ChecksumBound
 pub mod ClearBatch
 pub mod ClearedAreas
 pub mod ClearedImages
-pub mod ClearsAdded
+mod ClearsAdded
 pub mod DiskSets
-pub mod DisksWritten
+mod DisksWritten
 pub mod FarAreas
 pub mod Filtered
 pub mod FittingAreas
 pub mod HeldInDisks
 pub mod KeptImages
-pub mod LabelBatch
+mod LabelBatch
 pub mod LabelPuts
 pub mod LabelsRead
 pub mod UnusedLabels

@@ -1,13 +1,13 @@
-pub mod Ascending
-pub mod PlaceOrder
-pub mod Indices
-pub mod ByNumber
-pub mod Indexed
-pub mod Halving
-pub mod RegionsKept
-pub mod Passing
-pub mod TableKept
-pub mod FreePieces
-pub mod Apart
-pub mod Reached
+mod Ascending
+mod PlaceOrder
+mod Indices
+mod ByNumber
+mod Indexed
+mod Halving
+mod RegionsKept
+mod Passing
+mod TableKept
+mod FreePieces
+mod Apart
+mod Reached
 pub mod Rows

@@ -1,3 +1,3 @@
-pub mod GivenValues
+mod GivenValues
 pub mod Numbered
-pub mod Numbers
+mod Numbers

@@ -1,31 +1,31 @@
-pub mod Bodies
+mod Bodies
 pub mod Adding
 pub mod Lists
 pub mod Reprinted
-pub mod KindTests
-pub mod ScanBytes
-pub mod TokensTaken
-pub mod TokensShown
-pub mod OneOutcome
-pub mod Depth
-pub mod Names
-pub mod Words
-pub mod Going
-pub mod Steps
-pub mod Accepted
-pub mod Refused
-pub mod ByteOf
-pub mod Pieces
-pub mod Fronts
-pub mod Upto
-pub mod Standing
-pub mod Stepping
-pub mod WordStepping
-pub mod Told
-pub mod Runs
-pub mod Parts
-pub mod EntryParts
-pub mod OpenEnds
+mod KindTests
+mod ScanBytes
+mod TokensTaken
+mod TokensShown
+mod OneOutcome
+mod Depth
+mod Names
+mod Words
+mod Going
+mod Steps
+mod Accepted
+mod Refused
+mod ByteOf
+mod Pieces
+mod Fronts
+mod Upto
+mod Standing
+mod Stepping
+mod WordStepping
+mod Told
+mod Runs
+mod Parts
+mod EntryParts
+mod OpenEnds
 pub mod Causes
 mod Rows
 mod MoreRows

@@ -1,15 +1,15 @@
-pub mod Recorded
-pub mod RowSubmits
-pub mod RowCompletes
-pub mod RecordMoments
-pub mod Choosing
-pub mod CrashImage
-pub mod EveryImage
-pub mod FlushedValues
-pub mod Untouched
-pub mod HeldSteps
-pub mod HeldCalls
-pub mod ReadyRecord
-pub mod LettingGo
-pub mod ReadyPlaces
-pub mod Rows
+mod Recorded
+mod RowSubmits
+mod RowCompletes
+mod RecordMoments
+mod Choosing
+mod CrashImage
+mod EveryImage
+mod FlushedValues
+mod Untouched
+mod HeldSteps
+mod HeldCalls
+mod ReadyRecord
+mod LettingGo
+mod ReadyPlaces
+mod Rows

@@ -1,27 +1,27 @@
 pub mod Among
-pub mod Submissions
-pub mod Rising
+mod Submissions
+mod Rising
 pub mod WrittenBy
 pub mod DisksOfSet
-pub mod Progressing
-pub mod Rounding
+mod Progressing
+mod Rounding
 pub mod Calling
-pub mod Beside
-pub mod Flushing
+mod Beside
+mod Flushing
 pub mod Faulting
 pub mod Growing
-pub mod AfterIdle
+mod AfterIdle
 pub mod Carrying
-pub mod AloneRun
-pub mod Written
+mod AloneRun
+mod Written
 pub mod WritesOnImages
-pub mod OneTurn
+mod OneTurn
 pub mod InTurn
 pub mod FrontBatches
-pub mod TurningBatches
+mod TurningBatches
 pub mod Along
 pub mod Elsewhere
 pub mod FlushedStates
 pub mod Starting
 pub mod WritesApart
-pub mod EachFlushed
+mod EachFlushed

@@ -1,8 +1,8 @@
-pub mod AreaList
-pub mod FirstSectors
-pub mod OneArea
+mod AreaList
+mod FirstSectors
+mod OneArea
 pub mod OneFinding
-pub mod OneLabel
+mod OneLabel
 pub mod ReadingParts
 pub mod ReadsAll
-pub mod Usable
+mod Usable

@@ -1,4 +1,4 @@
-pub mod OneStepMore
+mod OneStepMore
 pub mod WritesInFlight
 pub mod Durable
 pub mod EveryMoment
@@ -8,7 +8,7 @@ pub mod Submissions
 pub mod EachMoment
 pub mod SectorImages
 pub mod NowStands
-pub mod Patched
+mod Patched
 pub mod WhereTold
 pub mod OneAtATime
 pub mod Ordered
@@ -18,7 +18,7 @@ pub mod ReadingAlone
 pub mod KeptSectors
 pub mod LastFault
 pub mod IdleAgain
-pub mod PutSectors
-pub mod OnePut
+mod PutSectors
+mod OnePut
 pub mod Lying
-pub mod SectorBytes
+mod SectorBytes

@@ -1,5 +1,5 @@
-pub mod Finding
-pub mod Freed
+mod Finding
+mod Freed
 pub mod Looking
-pub mod Scanning
-pub mod Showing
+mod Scanning
+mod Showing

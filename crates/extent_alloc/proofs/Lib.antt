@@ -1,21 +1,21 @@
-pub mod AllRuns
-pub mod CountedEnds
-pub mod Examples
-pub mod Fewest
-pub mod FirstFit
-pub mod FreeLists
-pub mod FreeOn
-pub mod GivenParts
-pub mod LaidParts
-pub mod LaySteps
-pub mod LongestFirst
-pub mod MoreLegsGiven
-pub mod MoreSources
-pub mod OneLegGiven
+mod AllRuns
+mod CountedEnds
+mod Examples
+mod Fewest
+mod FirstFit
+mod FreeLists
+mod FreeOn
+mod GivenParts
+mod LaidParts
+mod LaySteps
+mod LongestFirst
+mod MoreLegsGiven
+mod MoreSources
+mod OneLegGiven
 pub mod Pairs
-pub mod PartEnds
-pub mod Spots
-pub mod Taken
-pub mod UnusedRuns
-pub mod Walks
-pub mod WhyRefused
+mod PartEnds
+mod Spots
+mod Taken
+mod UnusedRuns
+mod Walks
+mod WhyRefused

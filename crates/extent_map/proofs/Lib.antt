@@ -1,7 +1,7 @@
-pub mod AllFree
-pub mod Buckets
+mod AllFree
+mod Buckets
 pub mod CoveredExtents
-pub mod FreeExtents
+mod FreeExtents
 pub mod GapExtents
 pub mod LegsOnVolume
 pub mod RunsInOrder

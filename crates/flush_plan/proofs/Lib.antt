@@ -1,4 +1,4 @@
-pub mod Orderly
-pub mod Flights
-pub mod Stable
-pub mod Rows
+mod Orderly
+mod Flights
+mod Stable
+mod Rows

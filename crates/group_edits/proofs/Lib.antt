@@ -4,47 +4,47 @@ pub mod PushedRules
 pub mod PushedPrintable
 pub mod Whole
 pub mod OtherNames
-pub mod RenamedPrintable
+mod RenamedPrintable
 pub mod Renamed
-pub mod RenamedRows
+mod RenamedRows
 pub mod Visible
 pub mod Renumbered
-pub mod RenumberedPrintable
+mod RenumberedPrintable
 pub mod Staying
-pub mod StayingRows
-pub mod StayingLegs
-pub mod StayingRules
-pub mod StayingPrintable
+mod StayingRows
+mod StayingLegs
+mod StayingRules
+mod StayingPrintable
 pub mod Removed
-pub mod Marking
-pub mod NumberedRest
-pub mod MarkedRest
+mod Marking
+mod NumberedRest
+mod MarkedRest
 pub mod KeptPlaces
 pub mod RenamedPlaces
-pub mod RenumberedPlaces
+mod RenumberedPlaces
 pub mod RemovedPlaces
 pub mod VisibleStay
 pub mod RenamedGroup
 pub mod OneNamed
-pub mod KeptExtents
+mod KeptExtents
 pub mod ShortFront
-pub mod ShortRuns
-pub mod ShortRows
-pub mod ShortRules
-pub mod ShortPrintable
+mod ShortRuns
+mod ShortRows
+mod ShortRules
+mod ShortPrintable
 pub mod Shortened
 pub mod ShortenedPlaces
-pub mod GivenExamples
-pub mod GrownRules
+mod GivenExamples
+mod GrownRules
 pub mod GivenRuns
 pub mod GivenRules
-pub mod GrownPrintable
-pub mod LastSegment
-pub mod Split
+mod GrownPrintable
+mod LastSegment
+mod Split
 pub mod LongerRules
-pub mod MadePrintable
+mod MadePrintable
 pub mod Longer
-pub mod NewRules
+mod NewRules
 pub mod PrintedIds
 pub mod New
 pub mod FewSectors
@@ -52,12 +52,12 @@ pub mod OnDisks
 pub mod LongerPlaces
 pub mod FreePlaces
 pub mod FirstSectors
-pub mod LastRows
+mod LastRows
 pub mod ReducedRuns
 pub mod ReducedRules
-pub mod ReducedPrintable
+mod ReducedPrintable
 pub mod ReducedGroup
 pub mod ReducedPlaces
 pub mod RestoredGroup
-pub mod Placed
+mod Placed
 mod NineVolumes

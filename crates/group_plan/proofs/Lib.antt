@@ -1,19 +1,19 @@
 pub mod AddedFacts
-pub mod ByDisks
-pub mod ByNames
+mod ByDisks
+mod ByNames
 pub mod Chained
-pub mod Contents
-pub mod DataApart
-pub mod DataPlaces
+mod Contents
+mod DataApart
+mod DataPlaces
 pub mod Disks
 pub mod ExtendedGroup
 pub mod FewAdded
 pub mod FoundIds
-pub mod FreeNames
-pub mod NamedPvs
+mod FreeNames
+mod NamedPvs
 pub mod Passed
 pub mod PlacedGroup
 pub mod PlacedVolumes
-pub mod RowWalks
+mod RowWalks
 pub mod Rows
 pub mod StateFacts

@@ -1,3 +1,3 @@
-pub mod Entries
+mod Entries
 pub mod Found
-pub mod Walked
+mod Walked

@@ -10,28 +10,28 @@ pub mod Labels
 pub mod DiskAgain
 pub mod SettledBase
 pub mod BaseEntries
-pub mod CommittedGroup
+mod CommittedGroup
 pub mod CommitOnTheWay
-pub mod Makes
+mod Makes
 pub mod ReadingShapes
 pub mod CommitScans
-pub mod HeldText
+mod HeldText
 pub mod CommitLine
 pub mod CommitCommands
-pub mod RestoredCommit
-pub mod Quiet
+mod RestoredCommit
+mod Quiet
 pub mod Placed
-pub mod NewPlaces
-pub mod NewVolume
+mod NewPlaces
+mod NewVolume
 pub mod Lines
 pub mod NoWrites
-pub mod OneDisk
-pub mod QuietVersion
-pub mod NewPv
-pub mod NewPvEnd
+mod OneDisk
+mod QuietVersion
+mod NewPv
+mod NewPvEnd
 pub mod LineScans
 pub mod BesideAreas
-pub mod BesideScan
+mod BesideScan
 pub mod Zeroes
 pub mod NoLater
 pub mod MetAreas

@@ -1,3 +1,3 @@
 mod AnswerRows
-pub mod HexDigits
+mod HexDigits
 pub mod NamesFound

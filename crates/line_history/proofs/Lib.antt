@@ -1,43 +1,43 @@
-pub mod KeptVolumes
-pub mod ReadBackups
-pub mod RenamedVolumes
-pub mod ShortenedVolumes
-pub mod LongerVolumes
-pub mod RemovedVolumes
-pub mod RestoredVolumes
-pub mod ChangedVolumes
-pub mod Untouched
-pub mod Unwritten
+mod KeptVolumes
+mod ReadBackups
+mod RenamedVolumes
+mod ShortenedVolumes
+mod LongerVolumes
+mod RemovedVolumes
+mod RestoredVolumes
+mod ChangedVolumes
+mod Untouched
+mod Unwritten
 pub mod Seen
-pub mod Settled
-pub mod Stays
-pub mod Images
-pub mod Finding
-pub mod Origins
-pub mod LineKinds
-pub mod NewZeroes
-pub mod Lines
-pub mod OneDisk
-pub mod NewDisk
-pub mod Submitted
-pub mod LongerLaws
-pub mod Clearing
-pub mod ClearedLines
-pub mod RemovedGroup
-pub mod Histories
+mod Settled
+mod Stays
+mod Images
+mod Finding
+mod Origins
+mod LineKinds
+mod NewZeroes
+mod Lines
+mod OneDisk
+mod NewDisk
+mod Submitted
+mod LongerLaws
+mod Clearing
+mod ClearedLines
+mod RemovedGroup
+mod Histories
 pub mod Looks
-pub mod WritesLieAny
-pub mod WritesLieLine
-pub mod WritesLieRepair
-pub mod WritesLieZeros
-pub mod WritesLieClears
-pub mod EachSetRestored
-pub mod EachSetListed
-pub mod EachSetAreas
-pub mod EachSetDisks
-pub mod EachSetCleared
-pub mod EachSetScan
-pub mod EachSet
-pub mod EachSetRemoved
-pub mod DoneSets
-pub mod LeftVolumes
+mod WritesLieAny
+mod WritesLieLine
+mod WritesLieRepair
+mod WritesLieZeros
+mod WritesLieClears
+mod EachSetRestored
+mod EachSetListed
+mod EachSetAreas
+mod EachSetDisks
+mod EachSetCleared
+mod EachSetScan
+mod EachSet
+mod EachSetRemoved
+mod DoneSets
+mod LeftVolumes

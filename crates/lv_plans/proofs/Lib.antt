@@ -4,5 +4,5 @@ pub mod Extending
 pub mod GivenParts
 pub mod Reducing
 pub mod RowsOnVolume
-pub mod SpaceRows
-pub mod ZeroedExtents
+mod SpaceRows
+mod ZeroedExtents

@@ -1,1 +1,1 @@
-pub mod OpenedDisks
+mod OpenedDisks

@@ -1,8 +1,8 @@
-pub mod FreeSums
-pub mod GroupLine
-pub mod MarkedVolumes
-pub mod OneLine
-pub mod OneReport
-pub mod PvNumbers
-pub mod Rows
-pub mod VolumeLines
+mod FreeSums
+mod GroupLine
+mod MarkedVolumes
+mod OneLine
+mod OneReport
+mod PvNumbers
+mod Rows
+mod VolumeLines

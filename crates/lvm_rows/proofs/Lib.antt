@@ -1,1 +1,1 @@
-pub mod NewDisks
+mod NewDisks

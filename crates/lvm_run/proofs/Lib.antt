@@ -1,23 +1,23 @@
-pub mod AskedLines
-pub mod AskedTasks
-pub mod BackingUp
-pub mod BuiltCommands
-pub mod CarriedOut
-pub mod ChangedDisks
-pub mod Checking
-pub mod EachNamed
-pub mod FlushedAndScanned
-pub mod InTime
-pub mod LookedFirst
-pub mod MeantWords
-pub mod NamedDisks
-pub mod PlannedWords
-pub mod Promised
-pub mod PromisedReports
-pub mod Refusals
-pub mod Reporting
-pub mod ScannedEntries
-pub mod SourcedLines
-pub mod StraysApart
-pub mod Undone
-pub mod ValuesWritten
+mod AskedLines
+mod AskedTasks
+mod BackingUp
+mod BuiltCommands
+mod CarriedOut
+mod ChangedDisks
+mod Checking
+mod EachNamed
+mod FlushedAndScanned
+mod InTime
+mod LookedFirst
+mod MeantWords
+mod NamedDisks
+mod PlannedWords
+mod Promised
+mod PromisedReports
+mod Refusals
+mod Reporting
+mod ScannedEntries
+mod SourcedLines
+mod StraysApart
+mod Undone
+mod ValuesWritten

@@ -1,9 +1,9 @@
-pub mod DrawnLines
+mod DrawnLines
 mod LineRows
-pub mod LineWords
-pub mod Lines
+mod LineWords
+mod Lines
 mod MeaningRows
-pub mod Refused
-pub mod ScriptLines
+mod Refused
+mod ScriptLines
 mod ScriptRows
 mod WordRows

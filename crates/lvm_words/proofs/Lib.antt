@@ -1,16 +1,16 @@
-pub mod Differing
+mod Differing
 pub mod FaultFree
-pub mod Find
-pub mod Forms
-pub mod Found
-pub mod Fronts
-pub mod MatchedValues
+mod Find
+mod Forms
+mod Found
+mod Fronts
+mod MatchedValues
 pub mod LineNames
-pub mod Link
-pub mod Outcome
-pub mod Passing
-pub mod Requests
-pub mod Rows
+mod Link
+mod Outcome
+mod Passing
+mod Requests
+mod Rows
 pub mod Spellings
-pub mod Steps
-pub mod Strays
+mod Steps
+mod Strays

@@ -1,7 +1,7 @@
-pub mod EntryBytes
+mod EntryBytes
 pub mod NextPlace
 pub mod RingPlaces
-pub mod SectorParts
+mod SectorParts
 pub mod SpanLaws
 pub mod TextBytes
 mod Rows

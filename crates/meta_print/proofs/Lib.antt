@@ -1,24 +1,24 @@
-pub mod Sections
+mod Sections
 pub mod Printable
 pub mod NamesOfText
-pub mod PvAgain
-pub mod WordsAgain
+mod PvAgain
+mod WordsAgain
 pub mod Numbered
-pub mod SegmentAgain
-pub mod LvAgain
-pub mod VolumesAgain
-pub mod GroupAgain
-pub mod TreeAgain
-pub mod Limits
-pub mod Fitting
-pub mod GroupFits
-pub mod Inverting
-pub mod TextParts
-pub mod FromTree
+mod SegmentAgain
+mod LvAgain
+mod VolumesAgain
+mod GroupAgain
+mod TreeAgain
+mod Limits
+mod Fitting
+mod GroupFits
+mod Inverting
+mod TextParts
+mod FromTree
 pub mod GroupFrom
 pub mod ReadAgain
-pub mod WordLists
-pub mod RowLists
-pub mod Chains
-pub mod SegmentLists
+mod WordLists
+mod RowLists
+mod Chains
+mod SegmentLists
 mod Rows

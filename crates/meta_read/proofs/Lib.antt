@@ -1,12 +1,12 @@
-pub mod Each
-pub mod Finding
-pub mod Grouped
-pub mod Left
-pub mod NamedRows
-pub mod PairLists
-pub mod Passing
+mod Each
+mod Finding
+mod Grouped
+mod Left
+mod NamedRows
+mod PairLists
+mod Passing
 pub mod PrintedIds
-pub mod Steps
-pub mod WordLists
+mod Steps
+mod WordLists
 mod WorkedRows
 mod KeyRows

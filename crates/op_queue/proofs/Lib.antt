@@ -1,4 +1,4 @@
-pub mod Fresh
+mod Fresh
 pub mod Removed
 pub mod Telling
 pub mod Completion

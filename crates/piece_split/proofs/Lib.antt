@@ -1,3 +1,3 @@
-pub mod Cutting
-pub mod InBlocks
+mod Cutting
+mod InBlocks
 mod Rows

@@ -1,8 +1,8 @@
 pub mod OneAnswer
 pub mod Overlaps
-pub mod Placed
-pub mod Filled
-pub mod ReadLists
-pub mod WrittenLists
+mod Placed
+mod Filled
+mod ReadLists
+mod WrittenLists
 pub mod WrittenHeader
 mod Rows

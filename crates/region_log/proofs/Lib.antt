@@ -1,1 +1,1 @@
-pub mod FirstUnsynced
+mod FirstUnsynced

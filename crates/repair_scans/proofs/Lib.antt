@@ -1,13 +1,13 @@
 pub mod RepairOnTheWay
 pub mod RepairFound
 pub mod StraysApart
-pub mod RepairedReadings
-pub mod NumberedAreas
-pub mod PublishedHeaders
-pub mod UnwrittenAreas
-pub mod RepairedAreas
-pub mod RepairedLabels
-pub mod RepairedDisks
+mod RepairedReadings
+mod NumberedAreas
+mod PublishedHeaders
+mod UnwrittenAreas
+mod RepairedAreas
+mod RepairedLabels
+mod RepairedDisks
 pub mod RepairEnd
 pub mod FoundGroup
 pub mod RepairPlaces

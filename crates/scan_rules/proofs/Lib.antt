@@ -1,13 +1,13 @@
-pub mod Answering
-pub mod FlatLists
-pub mod FoundIds
-pub mod Greatest
+mod Answering
+mod FlatLists
+mod FoundIds
+mod Greatest
 pub mod Members
-pub mod OlderCopies
+mod OlderCopies
 pub mod OnePv
 pub mod Repairs
 pub mod SameLists
 pub mod SameShape
 pub mod Scanning
-pub mod Silent
-pub mod Steps
+mod Silent
+mod Steps

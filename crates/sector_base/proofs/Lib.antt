@@ -1,7 +1,7 @@
 pub mod Checksums
-pub mod DivisionTable
+mod DivisionTable
 pub mod Positions
-pub mod PvSetLemmas
+mod PvSetLemmas
 pub mod Puts
-pub mod SectorBytes
+mod SectorBytes
 pub mod Walks

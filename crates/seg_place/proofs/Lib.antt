@@ -1,9 +1,9 @@
-pub mod DecidingSegments
-pub mod Descending
-pub mod FoundSegments
-pub mod Halving
+mod DecidingSegments
+mod Descending
+mod FoundSegments
+mod Halving
 pub mod MarkedVolumes
-pub mod OtherLegs
-pub mod Rows
-pub mod Spots
-pub mod Volumes
+mod OtherLegs
+mod Rows
+mod Spots
+mod Volumes

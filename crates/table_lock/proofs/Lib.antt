@@ -1,7 +1,7 @@
-pub mod Prefixes
-pub mod Totals
-pub mod Histories
-pub mod Views
-pub mod Keeps
-pub mod Steps
-pub mod Rows
+mod Prefixes
+mod Totals
+mod Histories
+mod Views
+mod Keeps
+mod Steps
+mod Rows

@@ -1,9 +1,9 @@
-pub mod AddedLabels
+mod AddedLabels
 pub mod Carried
-pub mod LineImages
+mod LineImages
 pub mod LineLabels
 pub mod Sound
-pub mod SoundCommit
-pub mod SoundPvcreate
-pub mod TextRoom
-pub mod WrittenBoth
+mod SoundCommit
+mod SoundPvcreate
+mod TextRoom
+mod WrittenBoth

@@ -1,19 +1,19 @@
-pub mod AllIds
-pub mod BlockOfIds
-pub mod Climbs
-pub mod Covering
+mod AllIds
+mod BlockOfIds
+mod Climbs
+mod Covering
 pub mod Ends
 pub mod Fronts
-pub mod HiddenVolumes
-pub mod MarkedVolumes
-pub mod OffenceBreaks
+mod HiddenVolumes
+mod MarkedVolumes
+mod OffenceBreaks
 pub mod OneBit
-pub mod Putting
-pub mod Refusals
-pub mod ShortWays
-pub mod SortedIds
-pub mod SortedLegs
-pub mod TheMove
-pub mod UsedExtents
+mod Putting
+mod Refusals
+mod ShortWays
+mod SortedIds
+mod SortedLegs
+mod TheMove
+mod UsedExtents
 pub mod Walks
-pub mod Within
+mod Within

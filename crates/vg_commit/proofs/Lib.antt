@@ -2,13 +2,13 @@ pub mod ShownSectors
 pub mod AreaPuts
 pub mod AreasCommit
 pub mod Disks
-pub mod Lying
-pub mod Planning
-pub mod CommitInTurn
+mod Lying
+mod Planning
+mod CommitInTurn
 pub mod CommitImages
 pub mod CommitCanRun
-pub mod CommitTargets
-pub mod CommitGoes
-pub mod CommitLaws
-pub mod CommitBeside
-pub mod CommitRoom
+mod CommitTargets
+mod CommitGoes
+mod CommitLaws
+mod CommitBeside
+mod CommitRoom

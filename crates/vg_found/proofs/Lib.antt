@@ -1,5 +1,5 @@
-pub mod AllRead
+mod AllRead
 pub mod HeaderDisks
-pub mod HeaderNumbers
+mod HeaderNumbers
 pub mod KeptLists
 pub mod ShapedAreas

@@ -1,6 +1,6 @@
 pub mod Accepted
-pub mod CountedSegments
-pub mod EmptyGroup
+mod CountedSegments
+mod EmptyGroup
 pub mod Leaving
 pub mod PlacedAgain
 pub mod Restoring

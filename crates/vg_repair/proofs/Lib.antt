@@ -1,16 +1,16 @@
 pub mod Sublists
-pub mod AreaDisks
+mod AreaDisks
 pub mod HeldAreas
-pub mod TextBatches
+mod TextBatches
 pub mod StrayLabels
-pub mod RepairBatches
+mod RepairBatches
 pub mod Numbered
 pub mod RepairedShape
-pub mod KeptTexts
+mod KeptTexts
 pub mod StaleOthers
-pub mod KeptImages
+mod KeptImages
 pub mod Nothing
-pub mod TakenOff
-pub mod Flagged
+mod TakenOff
+mod Flagged
 pub mod RepairedEntries
 pub mod RepairedSizes

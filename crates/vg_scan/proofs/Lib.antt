@@ -1,15 +1,15 @@
-pub mod AreaLists
-pub mod Continued
-pub mod Deciding
-pub mod DiskReads
-pub mod EntryReading
-pub mod Judging
-pub mod KnownTexts
-pub mod NumberedCopies
-pub mod OneReading
-pub mod OutcomeShape
-pub mod PvParts
-pub mod ScanEnds
-pub mod ScannedDisks
-pub mod TakenTexts
-pub mod TextSectors
+mod AreaLists
+mod Continued
+mod Deciding
+mod DiskReads
+mod EntryReading
+mod Judging
+mod KnownTexts
+mod NumberedCopies
+mod OneReading
+mod OutcomeShape
+mod PvParts
+mod ScanEnds
+mod ScannedDisks
+mod TakenTexts
+mod TextSectors

@@ -4,5 +4,5 @@ pub mod LegRuns
 pub mod MovingVolumes
 pub mod NamedVolumes
 pub mod Permuted
-pub mod Rounds
+mod Rounds
 pub mod Sorted

@@ -1,14 +1,14 @@
-pub mod AcceptedExample
+mod AcceptedExample
 pub mod CopiesApart
-pub mod ExampleLaws
-pub mod Examples
+mod ExampleLaws
+mod Examples
 pub mod GoingDown
 pub mod MetSegments
 pub mod OnTheWay
 pub mod OneAbove
 pub mod OthersApart
-pub mod Pieces
-pub mod PrimariesApart
+mod Pieces
+mod PrimariesApart
 pub mod PrimariesStand
 pub mod SideBySide
 pub mod Stripes
