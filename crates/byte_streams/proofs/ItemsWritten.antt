@@ -1,5 +1,6 @@
 -- A text that is a front and the texts of items, written one item after another.
-use Rattle.std.proofs.Common.{◌≡◌, ◌<◌, ℕ, ◌+◌, true, false, List, ◌++◌, take, drop, length, get_or, Option, ap, sym, subst, ◌∙◌, append_assoc}
+use Rattle.std.proofs.Common.{◌≡◌, ◌<◌, ℕ, ◌+◌, true, false, List, ◌++◌, take, drop, length, get_or, Option, ap, sym, subst, ◌∙◌,
+    append_assoc}
 use Rattle.std.proofs.lemmas.Grind.{flat_map-append}
 use Rattle.std.proofs.lemmas.List.{flat_map_more, take-append-drop, take_more}
 use Rattle.std.specs.List.{flat_map}
@@ -19,7 +20,8 @@ all_of f front items i =
     ∙ sym (append_assoc front (flat_map f (take i items)) (flat_map f (drop i items)))
 
 -- so many were written, and then one more
-pub next_written : {A : Type 0} (f : A → List ℕ) (b0 b1 b2 : Option (List ℕ)) (f0 f1 f2 : ℕ) (front : List ℕ) (items : List A) (i : ℕ) (item : A) → i < length items → item ≡ get_or items i item
+pub next_written : {A : Type 0} (f : A → List ℕ) (b0 b1 b2 : Option (List ℕ)) (f0 f1 f2 : ℕ) (front : List ℕ) (items : List A) (i : ℕ)
+    (item : A) → i < length items → item ≡ get_or items i item
     → WritesText b0 f0 (front ++ flat_map f (take i items)) true b1 f1 → WritesText b1 f1 (f item) true b2 f2
     → WritesText b0 f0 (front ++ flat_map f (take (i + 1) items)) true b2 f2
 next_written f b0 b1 b2 f0 f1 f2 front items i item within is before here =
@@ -28,7 +30,8 @@ next_written f b0 b1 b2 f0 f1 f2 front items i item within is before here =
     (written_both b0 b1 b2 f0 f1 f2 (front ++ flat_map f (take i items)) (f (get_or items i item)) true before next)
 
 -- so many were written, and then one in part
-pub stopped_at : {A : Type 0} (f : A → List ℕ) (b0 b1 b2 : Option (List ℕ)) (f0 f1 f2 : ℕ) (front : List ℕ) (items : List A) (i : ℕ) (item : A) → i < length items → item ≡ get_or items i item
+pub stopped_at : {A : Type 0} (f : A → List ℕ) (b0 b1 b2 : Option (List ℕ)) (f0 f1 f2 : ℕ) (front : List ℕ) (items : List A) (i : ℕ)
+    (item : A) → i < length items → item ≡ get_or items i item
     → WritesText b0 f0 (front ++ flat_map f (take i items)) true b1 f1 → WritesText b1 f1 (f item) false b2 f2
     → WritesText b0 f0 (front ++ flat_map f items) false b2 f2
 stopped_at f b0 b1 b2 f0 f1 f2 front items i item within is before part =

@@ -29,23 +29,30 @@ pub added_none : (puts : List Put) (old new : List Batch) → length puts ≡ 0 
 added_none [] old new none same = same
 added_none (put ∷ puts) old new none same = absurd (omega (arith, none))
 
-pub added_one : (puts : List Put) (old new : List Batch) (batch : Batch) → 0 < length puts → new ≡ old ++ batch ∷ [] → Is puts (set_of (disks_written puts)) batch → IsAdded puts old new
+pub added_one : (puts : List Put) (old new : List Batch) (batch : Batch) → 0 < length puts → new ≡ old ++ batch ∷ []
+    → Is puts (set_of (disks_written puts)) batch → IsAdded puts old new
 added_one [] old new batch some behind is = absurd (omega (arith, some))
 added_one (put ∷ puts) old new batch some behind is = (batch, behind, is)
 
 -- a batch more
 pub added_writes : (puts : List Put) (old new : List Batch) → IsAdded puts old new → map writes_of new ≡ map writes_of old ++ batch_if puts
 added_writes [] old new is = ap (map writes_of) is ∙ sym (append-nil (map writes_of old))
-added_writes (put ∷ puts) old new is = ap (map writes_of) is.1 ∙ map-append writes_of old (is.0 ∷ []) ∙ ap (λ (w : List Put). map writes_of old ++ w ∷ []) is.2.writes
+added_writes (put ∷ puts) old new is =
+    ap (map writes_of) is.1 ∙ map-append writes_of old (is.0 ∷ []) ∙ ap (λ (w : List Put). map writes_of old ++ w ∷ []) is.2.writes
 
-pub added_run : (sizes : List ℕ) (puts : List Put) (old new : List Batch) → IsAdded puts old new → AreApart sizes puts → All (CanRun sizes) old → All (CanRun sizes) new
+pub added_run : (sizes : List ℕ) (puts : List Put) (old new : List Batch) → IsAdded puts old new → AreApart sizes puts
+    → All (CanRun sizes) old → All (CanRun sizes) new
 added_run sizes [] old new is are all = subst (All (CanRun sizes)) (sym is) all
-added_run sizes (put ∷ puts) old new is are all = subst (All (CanRun sizes)) (sym is.1) (All-push (CanRun sizes) old is.0 all (runs sizes put puts is.0 are is.2))
+added_run sizes (put ∷ puts) old new is are all =
+    subst (All (CanRun sizes)) (sym is.1) (All-push (CanRun sizes) old is.0 all (runs sizes put puts is.0 are is.2))
 
 -- the three of a commit are added
-pub commit_added : (areas : List (Area × Option Locn)) (flush : FinSet nat_cmp) (group : Group) (now : ℕ) (text : List ℕ) (prepared : Prepared) (texts headers publish : Batch) (old first second new : List Batch)
-    → IsPrepared prepared areas flush text → text ≡ printed (tree_of group now) → (texts ≡ prepared.texts) × (headers ≡ prepared.headers) × (publish ≡ prepared.publish)
-    → first ≡ old ++ texts ∷ [] → second ≡ first ++ headers ∷ [] → new ≡ second ++ publish ∷ [] → IsCommitAdded areas flush group now old new
+pub commit_added : (areas : List (Area × Option Locn)) (flush : FinSet nat_cmp) (group : Group) (now : ℕ) (text : List ℕ)
+    (prepared : Prepared) (texts headers publish : Batch) (old first second new : List Batch)
+    → IsPrepared prepared areas flush text → text ≡ printed (tree_of group now)
+    → (texts ≡ prepared.texts) × (headers ≡ prepared.headers) × (publish ≡ prepared.publish)
+    → first ≡ old ++ texts ∷ [] → second ≡ first ++ headers ∷ [] → new ≡ second ++ publish ∷ []
+    → IsCommitAdded areas flush group now old new
 commit_added areas flush group now text prepared texts headers publish old first second new is same parts a b c = record {
   texts = prepared.texts;
   headers = prepared.headers;
@@ -56,7 +63,10 @@ commit_added areas flush group now text prepared texts headers publish old first
       ∙ append_assoc (old ++ texts ∷ []) (headers ∷ []) (publish ∷ [])
       ∙ append_assoc old (texts ∷ []) (headers ∷ publish ∷ [])
       ∙ ap (λ (l : List Batch). old ++ l) (three parts.0 parts.1 parts.2);
-  writes = three is.texts is.headers is.publish ∙ ap (λ (t : List ℕ). texts_of (map (area_writes t) areas) ∷ headers_of (map (area_writes t) areas) ∷ publish_of (map (area_writes t) areas) ∷ []) same;
+  writes =
+      three is.texts is.headers is.publish ∙ ap
+          (λ (t : List ℕ). texts_of (map (area_writes t) areas) ∷ headers_of (map (area_writes t) areas)
+          ∷ publish_of (map (area_writes t) areas) ∷ []) same;
   text_disks = is.text_disks;
   header_disks = is.header_disks;
   publish_disks = is.publish_disks;
@@ -67,7 +77,8 @@ commit_added areas flush group now text prepared texts headers publish old first
     three e f g = cc
 
 -- the same of areas and disks that were first put into a list and a set
-pub prepared_for : (prepared : Prepared) (listed disk_of : List ℕ) (all areas on : List (Area × Option Locn)) (flush : FinSet nat_cmp) (text : List ℕ) → listed ≡ disk_of → flush ≡ set_of listed → all ≡ areas → on ≡ areas_on flush all
+pub prepared_for : (prepared : Prepared) (listed disk_of : List ℕ) (all areas on : List (Area × Option Locn)) (flush : FinSet nat_cmp)
+    (text : List ℕ) → listed ≡ disk_of → flush ≡ set_of listed → all ≡ areas → on ≡ areas_on flush all
     → IsPrepared prepared on flush text → IsPrepared prepared (areas_on (set_of disk_of) areas) (set_of disk_of) text
 prepared_for prepared listed disk_of all areas on flush text same_listed is_set same_all is_on is =
     let set : flush ≡ set_of disk_of = is_set ∙ ap set_of same_listed in
@@ -80,18 +91,26 @@ CommitAdded None areas flush now old new = new ≡ old
 CommitAdded (Some group) areas flush now old new = IsCommitAdded areas flush group now old new
 
 module _ (areas : List (Area × Option Locn)) (flush : FinSet nat_cmp) (now : ℕ) (old new : List Batch) where
-  pub commit_writes : (group : Option Group) → CommitAdded group areas flush now old new → map writes_of new ≡ map writes_of old ++ commit_batches group now areas
+  pub commit_writes : (group : Option Group) → CommitAdded group areas flush now old new
+      → map writes_of new ≡ map writes_of old ++ commit_batches group now areas
   commit_writes None is = ap (map writes_of) is ∙ sym (append-nil (map writes_of old))
-  commit_writes (Some group) is = ap (map writes_of) is.behind ∙ map-append writes_of old (is.texts ∷ is.headers ∷ is.publish ∷ []) ∙ ap (λ (w : List (List Put)). map writes_of old ++ w) is.writes
+  commit_writes (Some group) is =
+      ap (map writes_of) is.behind ∙ map-append writes_of old (is.texts ∷ is.headers ∷ is.publish ∷ [])
+          ∙ ap (λ (w : List (List Put)). map writes_of old ++ w) is.writes
 
-  three_run : (sizes : List ℕ) (group : Group) → IsCommitAdded areas flush group now old new → AreCommitted areas flush → first_too_large (printed (tree_of group now)) areas ≡ None → AreWithin sizes areas flush → All (CanRun sizes) old → All (CanRun sizes) new
+  three_run : (sizes : List ℕ) (group : Group) → IsCommitAdded areas flush group now old new → AreCommitted areas flush
+      → first_too_large (printed (tree_of group now)) areas ≡ None → AreWithin sizes areas flush → All (CanRun sizes) old
+      → All (CanRun sizes) new
   three_run sizes group is committed room inside all =
       let text : List ℕ = printed (tree_of group now) in
       subst (All (CanRun sizes)) (sym is.behind)
       (All-append (CanRun sizes) old (is.texts ∷ is.headers ∷ is.publish ∷ []) all
-      (All-cons (CanRun sizes) is.texts (is.headers ∷ is.publish ∷ []) (texts_can_run text areas flush committed room sizes inside is.texts (first_of is.writes) is.text_disks)
-      (All-cons (CanRun sizes) is.headers (is.publish ∷ []) (headers_can_run text areas flush committed room sizes inside is.headers (second_of is.writes) is.header_disks)
-      (All-cons (CanRun sizes) is.publish [] (publish_can_run text areas flush committed room sizes inside is.publish (third_of is.writes) is.publish_disks) (All-nil (CanRun sizes))))))
+      (All-cons (CanRun sizes) is.texts (is.headers ∷ is.publish ∷ [])
+          (texts_can_run text areas flush committed room sizes inside is.texts (first_of is.writes) is.text_disks)
+      (All-cons (CanRun sizes) is.headers (is.publish ∷ [])
+          (headers_can_run text areas flush committed room sizes inside is.headers (second_of is.writes) is.header_disks)
+      (All-cons (CanRun sizes) is.publish [] (publish_can_run text areas flush committed room sizes inside is.publish (third_of is.writes)
+          is.publish_disks) (All-nil (CanRun sizes))))))
     where
       first_of : {a b c x y z : List Put} → (a ∷ b ∷ c ∷ []) ≡ (x ∷ y ∷ z ∷ []) → a ≡ x
       first_of e = cc
@@ -103,6 +122,7 @@ module _ (areas : List (Area × Option Locn)) (flush : FinSet nat_cmp) (now : �
       third_of e = cc
 
   pub commit_run : (sizes : List ℕ) (group : Option Group) → CommitAdded group areas flush now old new
-      → ((g : Group) → group ≡ Some g → AreCommitted areas flush × (first_too_large (printed (tree_of g now)) areas ≡ None) × AreWithin sizes areas flush) → All (CanRun sizes) old → All (CanRun sizes) new
+      → ((g : Group) → group ≡ Some g → AreCommitted areas flush × (first_too_large (printed (tree_of g now)) areas ≡ None)
+      × AreWithin sizes areas flush) → All (CanRun sizes) old → All (CanRun sizes) new
   commit_run sizes None is can all = subst (All (CanRun sizes)) (sym is) all
   commit_run sizes (Some group) is can all = let c = can group refl in three_run sizes group is c.0 c.1 c.2 all

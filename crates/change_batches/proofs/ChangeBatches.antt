@@ -27,59 +27,77 @@ use Rattle.change_batches.proofs.DisksWritten.{AreApart}
 use Rattle.change_batches.proofs.LabelBatch.{label_batch}
 
 -- the headers of areas come first where no group is committed
-pub areas_added : (group : Option Group) (labels : List NewLabel) (none : Bool) (old new : List Batch) → is_some group ≡ not none → none ≡ true → old ≡ [] → IsAdded (flat_map area_puts labels) old new → IsAdded (new_area_puts group labels) [] new
-areas_added None labels none old new is holds empty added = subst (λ (l : List Batch). IsAdded (flat_map area_puts labels) l new) empty added
+pub areas_added : (group : Option Group) (labels : List NewLabel) (none : Bool) (old new : List Batch) → is_some group ≡ not none
+    → none ≡ true → old ≡ [] → IsAdded (flat_map area_puts labels) old new → IsAdded (new_area_puts group labels) [] new
+areas_added None labels none old new is holds empty added =
+    subst (λ (l : List Batch). IsAdded (flat_map area_puts labels) l new) empty added
 areas_added (Some group) labels none old new is holds empty added = absurd (true≢false (is ∙ ap not holds))
 
-pub no_areas : (group : Option Group) (labels : List NewLabel) (none : Bool) (new : List Batch) → is_some group ≡ not none → none ≡ false → new ≡ [] → IsAdded (new_area_puts group labels) [] new
+pub no_areas : (group : Option Group) (labels : List NewLabel) (none : Bool) (new : List Batch) → is_some group ≡ not none → none ≡ false
+    → new ≡ [] → IsAdded (new_area_puts group labels) [] new
 no_areas None labels none new is other empty = absurd (true≢false (sym (is ∙ ap not other)))
 no_areas (Some group) labels none new is other empty = empty
 
 -- the commit's come last where one is
-pub group_added : (change : Option Group) (group shown : Group) (areas : List (Area × Option Locn)) (disks : List ℕ) (now : ℕ) (old new : List Batch) → change ≡ Some group → shown ≡ group → IsCommitAdded areas (set_of disks) shown now old new
+pub group_added : (change : Option Group) (group shown : Group) (areas : List (Area × Option Locn)) (disks : List ℕ) (now : ℕ)
+    (old new : List Batch) → change ≡ Some group → shown ≡ group → IsCommitAdded areas (set_of disks) shown now old new
     → CommitAdded change areas (set_of disks) now old new
 group_added change group shown areas disks now old new is same added =
     subst (λ (o : Option Group). CommitAdded o areas (set_of disks) now old new) (sym (is ∙ ap Some (sym same))) added
 
-pub no_commit : (change : Option Group) (areas : List (Area × Option Locn)) (disks : List ℕ) (now : ℕ) (old new : List Batch) → ((group : Group) → change ≡ Some group → ⊥) → new ≡ old → CommitAdded change areas (set_of disks) now old new
+pub no_commit : (change : Option Group) (areas : List (Area × Option Locn)) (disks : List ℕ) (now : ℕ) (old new : List Batch)
+    → ((group : Group) → change ≡ Some group → ⊥) → new ≡ old → CommitAdded change areas (set_of disks) now old new
 no_commit None areas disks now old new other same = same
 no_commit (Some group) areas disks now old new other same = absurd (other group refl)
 
 -- its text has room
-pub has_room : (areas : List (Area × Option Locn)) (change : Change) (now : ℕ) (group shown : Group) → CanMake areas change now → change.group ≡ Some group → shown ≡ group → first_too_large (printed (tree_of shown now)) (areas_of change areas) ≡ None
-has_room areas change now group shown can is same = subst (λ (g : Group). first_too_large (printed (tree_of g now)) (areas_of change areas) ≡ None) (sym same) (can.commit group is).room
+pub has_room : (areas : List (Area × Option Locn)) (change : Change) (now : ℕ) (group shown : Group) → CanMake areas change now
+    → change.group ≡ Some group → shown ≡ group → first_too_large (printed (tree_of shown now)) (areas_of change areas) ≡ None
+has_room areas change now group shown can is same =
+    subst (λ (g : Group). first_too_large (printed (tree_of g now)) (areas_of change areas) ≡ None) (sym same) (can.commit group is).room
 
 -- its headers are read again as they are
-commit_read : (areas : List (Area × Option Locn)) (disks : List ℕ) (now : ℕ) (old new : List Batch) (o : Option Group) → CommitAdded o areas (set_of disks) now old new
+commit_read : (areas : List (Area × Option Locn)) (disks : List ℕ) (now : ℕ) (old new : List Batch) (o : Option Group)
+    → CommitAdded o areas (set_of disks) now old new
     → (group : Group) → o ≡ Some group → All (HeadersRead (printed (tree_of group now))) areas
 commit_read areas disks now old new None is group some = absurd cc
-commit_read areas disks now old new (Some own) is group some = subst (λ (g : Group). All (HeadersRead (printed (tree_of g now))) areas) (same_Some own group some) is.read
+commit_read areas disks now old new (Some own) is group some =
+    subst (λ (g : Group). All (HeadersRead (printed (tree_of g now))) areas) (same_Some own group some) is.read
 
 -- and so is all that it writes
-pub all_read : (change : Change) (areas : List (Area × Option Locn)) (now : ℕ) (old new : List Batch) (labels : List NewLabel) → labels ≡ change.labels → All FitsFields labels
+pub all_read : (change : Change) (areas : List (Area × Option Locn)) (now : ℕ) (old new : List Batch) (labels : List NewLabel)
+    → labels ≡ change.labels → All FitsFields labels
     → CommitAdded change.group (areas_of change areas) (set_of change.disk_of) now old new → IsReadAgain areas change now
 all_read change areas now old new labels same fit commit_is = record {
   labels = subst (λ (l : List NewLabel). All FitsFields l) same fit;
   commit = commit_read (areas_of change areas) change.disk_of now old new change.group commit_is;
 }
 
-areas_apart : (sizes : List ℕ) (labels : List NewLabel) (group : Option Group) → (group ≡ None → AreApart sizes (flat_map area_puts labels)) → AreApart sizes [] → AreApart sizes (new_area_puts group labels)
+areas_apart : (sizes : List ℕ) (labels : List NewLabel) (group : Option Group) → (group ≡ None → AreApart sizes (flat_map area_puts labels))
+    → AreApart sizes [] → AreApart sizes (new_area_puts group labels)
 areas_apart sizes labels None new none = new refl
 areas_apart sizes labels (Some group) new none = none
 
-module _ (change : Change) (areas : List (Area × Option Locn)) (now : ℕ) (first second third : List Batch) (areas_are : IsAdded (new_area_puts change.group change.labels) [] first) (labels_are : IsAdded (map label_put change.labels) first second) (commit_is : CommitAdded change.group (areas_of change areas) (set_of change.disk_of) now second third) where
+module _ (change : Change) (areas : List (Area × Option Locn)) (now : ℕ) (first second third : List Batch)
+    (areas_are : IsAdded (new_area_puts change.group change.labels) [] first)
+    (labels_are : IsAdded (map label_put change.labels) first second)
+    (commit_is : CommitAdded change.group (areas_of change areas) (set_of change.disk_of) now second third) where
   pub all_writes : map writes_of third ≡ change_batches change areas now
   all_writes =
       commit_writes (areas_of change areas) (set_of change.disk_of) now second third change.group commit_is
       ∙ ap (λ (l : List (List Put)). l ++ commit_batches change.group now (areas_of change areas))
       (added_writes (map label_put change.labels) first second labels_are
-      ∙ ap (λ (l : List (List Put)). l ++ batch_if (map label_put change.labels)) (added_writes (new_area_puts change.group change.labels) [] first areas_are))
+      ∙ ap (λ (l : List (List Put)). l ++ batch_if (map label_put change.labels))
+      (added_writes (new_area_puts change.group change.labels) [] first areas_are))
 
   pub all_run : CanMake areas change now → (sizes : List ℕ) → LiesOn sizes areas change → All (CanRun sizes) third
   all_run can sizes lies =
       let new : AreApart sizes (new_area_puts change.group change.labels) =
-      areas_apart sizes change.labels change.group (λ none. area_batch sizes change.labels can.labels (lies.new_areas none) lies.differ) (record { few = All-nil IsOnFew; lie = All-nil (λ (put : Put). Fills sizes put.0 put.1); apart = tt })
+      areas_apart sizes change.labels change.group (λ none. area_batch sizes change.labels can.labels (lies.new_areas none) lies.differ)
+          (record { few = All-nil IsOnFew; lie = All-nil (λ (put : Put). Fills sizes put.0 put.1); apart = tt })
       in
-      commit_run (areas_of change areas) (set_of change.disk_of) now second third sizes change.group commit_is (λ group is. let text = can.commit group is in (text.committed, text.room, lies.commit group is))
-      (added_run sizes (map label_put change.labels) first second labels_are (label_batch sizes change.labels can.labels lies.labels lies.differ)
+      commit_run (areas_of change areas) (set_of change.disk_of) now second third sizes change.group commit_is
+          (λ group is. let text = can.commit group is in (text.committed, text.room, lies.commit group is))
+      (added_run sizes (map label_put change.labels) first second labels_are
+          (label_batch sizes change.labels can.labels lies.labels lies.differ)
       (added_run sizes (new_area_puts change.group change.labels) [] first areas_are new (All-nil (CanRun sizes))))

@@ -1,5 +1,6 @@
 -- What every image keeps while disks are cleared, and what is found once they are.
-use Rattle.std.proofs.Common.{◌≡◌, ◌≤◌, ◌<◌, ◌⊎◌, ℕ, ◌+◌, ◌/◌, ◌^◌, List, [], ◌∷◌, ◌++◌, length, map, get_or, Option, None, inl, inr, ⊎_elim, sym, ap, subst, ◌∙◌, arith}
+use Rattle.std.proofs.Common.{◌≡◌, ◌≤◌, ◌<◌, ◌⊎◌, ℕ, ◌+◌, ◌/◌, ◌^◌, List, [], ◌∷◌, ◌++◌, length, map, get_or, Option, None, inl, inr,
+    ⊎_elim, sym, ap, subst, ◌∙◌, arith}
 use Rattle.std.specs.Prelude.{All, take as front_of}
 use Rattle.std.specs.Ordering.{nat_cmp}
 use Rattle.std.specs.FinSet as set
@@ -49,10 +50,12 @@ module _ (disks : List Disk) (areas : List (Area × Option Locn)) (scanned : Are
   -- ---- what the batches keep
 
   labels_keep : (pv sector : ℕ) → 4 ≤ sector → All (KeepsSector pv sector) label_batches
-  labels_keep pv sector far = all_if (KeepsSector pv sector) (map label_put labels) (labels_keep_far labels (labels_can disks areas scanned cleared) pv sector far)
+  labels_keep pv sector far =
+      all_if (KeepsSector pv sector) (map label_put labels) (labels_keep_far labels (labels_can disks areas scanned cleared) pv sector far)
 
   header_far : (k : ℕ) (d : Area × Option Locn) → k < length on → 4 ≤ (get_or on k d).0.start / 512
-  header_far k d within = let begins : 2048 ≤ (get_or on k d).0.start = cleared_far disks areas scanned cleared k d within in omega (arith, begins)
+  header_far k d within =
+      let begins : 2048 ≤ (get_or on k d).0.start = cleared_far disks areas scanned cleared k d within in omega (arith, begins)
 
   -- the empty headers leave the first four sectors
   headers_keep : (pv sector : ℕ) → sector < 4 → All (KeepsSector pv sector) header_batches
@@ -66,12 +69,14 @@ module _ (disks : List Disk) (areas : List (Area × Option Locn)) (scanned : Are
       omega (arith, t.1, far, low)))
 
   -- both leave a sector that is none of those which they write
-  pub all_keep : (pv sector : ℕ) → IsUncleared cleared disks areas pv sector → All (KeepsSector pv sector) (clear_batches cleared disks areas)
+  pub all_keep : (pv sector : ℕ) → IsUncleared cleared disks areas pv sector
+      → All (KeepsSector pv sector) (clear_batches cleared disks areas)
   all_keep pv sector other =
       All-append (KeepsSector pv sector) label_batches header_batches
       (all_if (KeepsSector pv sector) (map label_put labels)
       (keeps_sector (map label_put labels) pv sector
-      (λ value by. let w = label_where labels no_label pv sector value by in ⊎_elim (λ disk. disk w.2) (λ at. at w.3) (other.labels w.0 no_label w.1))))
+      (λ value by. let w = label_where labels no_label pv sector value by in ⊎_elim (λ disk. disk w.2) (λ at. at w.3)
+          (other.labels w.0 no_label w.1))))
       (all_if (KeepsSector pv sector) (map clear_put on)
       (keeps_sector (map clear_put on) pv sector
       (λ value by. let w = clear_where on no_area pv sector value by in true≢false (sym w.2 ∙ other.headers w.0 no_area w.1))))
@@ -80,12 +85,15 @@ module _ (disks : List Disk) (areas : List (Area × Option Locn)) (scanned : Are
     abbrev first : Image
     first = with_batches label_batches base
 
-    label_first : (k : ℕ) (d : NewLabel) → k < length labels → first (get_or labels k d).disk (get_or labels k d).sector ≡ label_bytes (get_or labels k d)
+    label_first : (k : ℕ) (d : NewLabel) → k < length labels
+        → first (get_or labels k d).disk (get_or labels k d).sector ≡ label_bytes (get_or labels k d)
     label_first k d within =
         let label : NewLabel = get_or labels k d in
-        ap (λ (i : Image). i label.disk label.sector) (with_if (map label_put labels) base) ∙ labels_there labels base (labels_differ disks areas scanned cleared) k d within
+        ap (λ (i : Image). i label.disk label.sector) (with_if (map label_put labels) base)
+            ∙ labels_there labels base (labels_differ disks areas scanned cleared) k d within
 
-    header_first : (k : ℕ) (d : Area × Option Locn) → k < length on → first (get_or on k d).0.pv ((get_or on k d).0.start / 512) ≡ base (get_or on k d).0.pv ((get_or on k d).0.start / 512)
+    header_first : (k : ℕ) (d : Area × Option Locn) → k < length on
+        → first (get_or on k d).0.pv ((get_or on k d).0.start / 512) ≡ base (get_or on k d).0.pv ((get_or on k d).0.start / 512)
     header_first k d within =
         let a : Area × Option Locn = get_or on k d in
         batches_kept label_batches base a.0.pv (a.0.start / 512) (labels_keep a.0.pv (a.0.start / 512) (header_far k d within))
@@ -102,10 +110,13 @@ module _ (disks : List Disk) (areas : List (Area × Option Locn)) (scanned : Are
         (λ new. inr (new ∙ labels_there labels base (labels_differ disks areas scanned cleared) k d within))
         (if_either (map label_put labels) base image label.disk label.sector in_labels))
         (λ in_headers.
-        inr (front_kept header_batches first image label.disk label.sector (headers_keep label.disk label.sector (labels_can disks areas scanned cleared k d within).sector_below) in_headers ∙ label_first k d within))
+        inr (front_kept header_batches first image label.disk label.sector
+            (headers_keep label.disk label.sector (labels_can disks areas scanned cleared k d within).sector_below) in_headers
+            ∙ label_first k d within))
         (first_or_more label_batches header_batches base image h)
 
-    header_either : (image : Image) → HasFirstBatches (clear_batches cleared disks areas) base image → (k : ℕ) (d : Area × Option Locn) → k < length on
+    header_either : (image : Image) → HasFirstBatches (clear_batches cleared disks areas) base image → (k : ℕ) (d : Area × Option Locn)
+        → k < length on
         → (image (get_or on k d).0.pv ((get_or on k d).0.start / 512) ≡ base (get_or on k d).0.pv ((get_or on k d).0.start / 512))
         ⊎ (image (get_or on k d).0.pv ((get_or on k d).0.start / 512) ≡ header_bytes (header_of (get_or on k d).0 None None))
     header_either image h k d within =
@@ -123,9 +134,11 @@ module _ (disks : List Disk) (areas : List (Area × Option Locn)) (scanned : Are
     headers_kept : (image : Image) → HasFirstBatches (clear_batches cleared disks areas) base image → All (IsKeptOrEmpty base image) on
     headers_kept image h k d within =
         let a : Area × Option Locn = get_or on k d in
-        subst (λ (n : ℕ). (image a.0.pv n ≡ base a.0.pv n) ⊎ (image a.0.pv n ≡ header_bytes (header_of a.0 None None))) (let e : a.0.start / 512 ≡ a.0.start / 512 + 0 = omega arith in e) (header_either image h k d within)
+        subst (λ (n : ℕ). (image a.0.pv n ≡ base a.0.pv n) ⊎ (image a.0.pv n ≡ header_bytes (header_of a.0 None None)))
+            (let e : a.0.start / 512 ≡ a.0.start / 512 + 0 = omega arith in e) (header_either image h k d within)
 
-    pub is_kept : (image : Image) → HasFirstBatches (clear_batches cleared disks areas) base image → ClearsKeep cleared disks areas base image
+    pub is_kept : (image : Image) → HasFirstBatches (clear_batches cleared disks areas) base image
+        → ClearsKeep cleared disks areas base image
     is_kept image h = record {
       labels = labels_kept image h;
       headers = headers_kept image h;
@@ -133,8 +146,10 @@ module _ (disks : List Disk) (areas : List (Area × Option Locn)) (scanned : Are
     }
 
     -- until the headers are begun
-    uncleared_by : (of : List (Area × Option Locn)) → ((k : ℕ) (d : Area × Option Locn) → k < length of → 4 ≤ (get_or of k d).0.start / 512) → (image : Image) (n : ℕ) → n < length (label_batches ++ batch_if (map clear_put of))
-        → HasFirstBatches (front_of n (label_batches ++ batch_if (map clear_put of))) base image → All (λ (area : Area × Option Locn). sectors_of area.0 image 0 ≡ sectors_of area.0 base 0) of
+    uncleared_by : (of : List (Area × Option Locn)) → ((k : ℕ) (d : Area × Option Locn) → k < length of → 4 ≤ (get_or of k d).0.start / 512)
+        → (image : Image) (n : ℕ) → n < length (label_batches ++ batch_if (map clear_put of))
+        → HasFirstBatches (front_of n (label_batches ++ batch_if (map clear_put of))) base image
+        → All (λ (area : Area × Option Locn). sectors_of area.0 image 0 ≡ sectors_of area.0 base 0) of
     uncleared_by [] far image n less h k d within = absurd (omega (arith, within))
     uncleared_by (area ∷ more) far image n less h k d within =
         let a : Area × Option Locn = get_or (area ∷ more) k d in
@@ -150,31 +165,42 @@ module _ (disks : List Disk) (areas : List (Area × Option Locn)) (scanned : Are
     last_is : (pv sector : ℕ) → last pv sector ≡ with_batches header_batches first pv sector
     last_is pv sector = ap (λ (i : Image). i pv sector) (batches_append label_batches header_batches base)
 
-    label_last : (k : ℕ) (d : NewLabel) → k < length labels → last (get_or labels k d).disk (get_or labels k d).sector ≡ label_bytes (get_or labels k d)
+    label_last : (k : ℕ) (d : NewLabel) → k < length labels
+        → last (get_or labels k d).disk (get_or labels k d).sector ≡ label_bytes (get_or labels k d)
     label_last k d within =
         let label : NewLabel = get_or labels k d in
-        last_is label.disk label.sector ∙ batches_kept header_batches first label.disk label.sector (headers_keep label.disk label.sector (labels_can disks areas scanned cleared k d within).sector_below) ∙ label_first k d within
+        last_is label.disk label.sector ∙ batches_kept header_batches first label.disk label.sector
+            (headers_keep label.disk label.sector (labels_can disks areas scanned cleared k d within).sector_below) ∙ label_first k d within
 
-    header_last : (k : ℕ) (d : Area × Option Locn) → k < length on → last (get_or on k d).0.pv ((get_or on k d).0.start / 512) ≡ header_bytes (header_of (get_or on k d).0 None None)
+    header_last : (k : ℕ) (d : Area × Option Locn) → k < length on
+        → last (get_or on k d).0.pv ((get_or on k d).0.start / 512) ≡ header_bytes (header_of (get_or on k d).0 None None)
     header_last k d within =
         let a : Area × Option Locn = get_or on k d in
-        last_is a.0.pv (a.0.start / 512) ∙ ap (λ (i : Image). i a.0.pv (a.0.start / 512)) (with_if (map clear_put on) first) ∙ clear_there on first (cleared_held disks areas scanned cleared) k d within
+        last_is a.0.pv (a.0.start / 512) ∙ ap (λ (i : Image). i a.0.pv (a.0.start / 512)) (with_if (map clear_put on) first)
+            ∙ clear_there on first (cleared_held disks areas scanned cleared) k d within
 
     header_empty : (k : ℕ) (d : Area × Option Locn) → k < length on → IsEmpty last (get_or on k d)
     header_empty k d within =
         let a : Area × Option Locn = get_or on k d in
         let takes : CanTake a = (cleared_held disks areas scanned cleared).take k d within in
         let ends : a.0.start + a.0.size ≤ 2 ^ 49 = takes.0.ends in
-        let at : last a.0.pv (a.0.start / 512 + 0) ≡ header_bytes (header_of a.0 None None) = ap (λ (n : ℕ). last a.0.pv n) (let e : a.0.start / 512 + 0 ≡ a.0.start / 512 = omega arith in e) ∙ header_last k d within in
-        subst (λ (sector : List ℕ). IsHeader sector (header_of a.0 None None)) (sym at) (empty_read (record { offset = a.0.start; size = a.0.size }) (omega (arith, ends)) (omega (arith, ends)))
+        let at : last a.0.pv (a.0.start / 512 + 0) ≡ header_bytes (header_of a.0 None None) =
+            ap (λ (n : ℕ). last a.0.pv n) (let e : a.0.start / 512 + 0 ≡ a.0.start / 512 = omega arith in e) ∙ header_last k d within in
+        subst (λ (sector : List ℕ). IsHeader sector (header_of a.0 None None)) (sym at)
+            (empty_read (record { offset = a.0.start; size = a.0.size }) (omega (arith, ends)) (omega (arith, ends)))
 
     pub are_cleared : All FitsFields labels → AreCleared cleared disks areas last
     are_cleared fields = record {
       labels = λ k d within.
           let label : NewLabel = get_or labels k d in
           record {
-            label = subst (λ (sector : List ℕ). IsLabel sector label.sector) (sym (label_last k d within)) (label_read label (labels_can disks areas scanned cleared k d within));
-            header = subst (λ (sector : List ℕ). IsPvHeader sector label.header []) (sym (label_last k d within)) (header_found label (labels_can disks areas scanned cleared k d within) (fields k d within) (labels_found disks areas scanned cleared k d within));
+            label =
+                subst (λ (sector : List ℕ). IsLabel sector label.sector) (sym (label_last k d within))
+                    (label_read label (labels_can disks areas scanned cleared k d within));
+            header =
+                subst (λ (sector : List ℕ). IsPvHeader sector label.header []) (sym (label_last k d within))
+                    (header_found label (labels_can disks areas scanned cleared k d within) (fields k d within)
+                    (labels_found disks areas scanned cleared k d within));
           };
       headers = header_empty;
     }
@@ -185,5 +211,7 @@ module _ (disks : List Disk) (areas : List (Area × Option Locn)) (scanned : Are
     kept = λ base image h. is_kept base image h;
     uncleared = λ base image n less h. uncleared_by base on header_far image n less h;
     done = λ base. are_cleared base fields;
-    read = λ k d within. header_found (get_or labels k d) (labels_can disks areas scanned cleared k d within) (fields k d within) (labels_found disks areas scanned cleared k d within);
+    read =
+        λ k d within. header_found (get_or labels k d) (labels_can disks areas scanned cleared k d within) (fields k d within)
+            (labels_found disks areas scanned cleared k d within);
   }

@@ -20,23 +20,31 @@ use Rattle.change_batches.proofs.ClearedAreas.{cleared_held, cleared_lie}
 use Rattle.change_batches.proofs.LabelBatch.{label_batch}
 use Rattle.change_batches.proofs.UnusedLabels.{labels_can, labels_differ, labels_lie}
 
-module _ (disks : List Disk) (areas : List (Area × Option Locn)) (scanned : AreScanned disks areas) (cleared : set.FinSet nat_cmp) (old middle new : List Batch) (labels : IsAdded (map label_put (unused_labels cleared disks)) old middle)
+module _ (disks : List Disk) (areas : List (Area × Option Locn)) (scanned : AreScanned disks areas) (cleared : set.FinSet nat_cmp)
+    (old middle new : List Batch) (labels : IsAdded (map label_put (unused_labels cleared disks)) old middle)
     (headers : IsAdded (map clear_put (cleared_areas cleared areas)) middle new) where
   pub clears_added : All FitsFields (unused_labels cleared disks) → AreClearsAdded cleared disks areas old new
   clears_added fields = record {
     writes =
         added_writes (map clear_put (cleared_areas cleared areas)) middle new headers
-        ∙ ap (λ (l : List (List Put)). l ++ batch_if (map clear_put (cleared_areas cleared areas))) (added_writes (map label_put (unused_labels cleared disks)) old middle labels)
-        ∙ append_assoc (map writes_of old) (batch_if (map label_put (unused_labels cleared disks))) (batch_if (map clear_put (cleared_areas cleared areas)));
+        ∙ ap (λ (l : List (List Put)). l ++ batch_if (map clear_put (cleared_areas cleared areas)))
+        (added_writes (map label_put (unused_labels cleared disks)) old middle labels)
+        ∙ append_assoc (map writes_of old) (batch_if (map label_put (unused_labels cleared disks)))
+        (batch_if (map clear_put (cleared_areas cleared areas)));
     run = λ all.
-        added_run (sizes_of disks) (map clear_put (cleared_areas cleared areas)) middle new headers (clear_batch (sizes_of disks) (cleared_areas cleared areas) (cleared_held disks areas scanned cleared) (cleared_lie disks areas scanned cleared))
+        added_run (sizes_of disks) (map clear_put (cleared_areas cleared areas)) middle new headers
+            (clear_batch (sizes_of disks) (cleared_areas cleared areas) (cleared_held disks areas scanned cleared)
+            (cleared_lie disks areas scanned cleared))
         (added_run (sizes_of disks) (map label_put (unused_labels cleared disks)) old middle labels
-        (label_batch (sizes_of disks) (unused_labels cleared disks) (labels_can disks areas scanned cleared) (labels_lie disks areas scanned cleared) (labels_differ disks areas scanned cleared)) all);
+        (label_batch (sizes_of disks) (unused_labels cleared disks) (labels_can disks areas scanned cleared)
+            (labels_lie disks areas scanned cleared) (labels_differ disks areas scanned cleared)) all);
     fields = fields;
   }
 
 -- the same disks and areas by other names, behind no batch
-pub from_none : (cleared : set.FinSet nat_cmp) (disks disks' : List Disk) (areas areas' : List (Area × Option Locn)) (old new : List Batch) → disks' ≡ disks → areas' ≡ areas → old ≡ [] → AreClearsAdded cleared disks' areas' old new → AreClearsAdded cleared disks areas [] new
+pub from_none : (cleared : set.FinSet nat_cmp) (disks disks' : List Disk) (areas areas' : List (Area × Option Locn)) (old new : List Batch)
+    → disks' ≡ disks → areas' ≡ areas → old ≡ [] → AreClearsAdded cleared disks' areas' old new → AreClearsAdded cleared disks areas [] new
 from_none cleared disks disks' areas areas' old new same_disks same_areas none added =
     subst (λ (d : List Disk). AreClearsAdded cleared d areas [] new) same_disks
-    (subst (λ (a : List (Area × Option Locn)). AreClearsAdded cleared disks' a [] new) same_areas (subst (λ (l : List Batch). AreClearsAdded cleared disks' areas' l new) none added))
+    (subst (λ (a : List (Area × Option Locn)). AreClearsAdded cleared disks' a [] new) same_areas
+        (subst (λ (l : List Batch). AreClearsAdded cleared disks' areas' l new) none added))

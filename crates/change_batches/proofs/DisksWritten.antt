@@ -18,7 +18,8 @@ use Rattle.group_plan.proofs.Passed.{absent}
 use Rattle.change_batches.specs.Building.{Is, IsOnFew, disks_written}
 
 -- what holds of a set and of further numbers holds of the set with them
-only_in : (P : ℕ → Type 0) (numbers : List ℕ) (taken : FinSet nat_cmp) → ((pv : ℕ) → contains taken pv ≡ true → P pv) → All P numbers → (pv : ℕ) → contains (with_all taken numbers) pv ≡ true → P pv
+only_in : (P : ℕ → Type 0) (numbers : List ℕ) (taken : FinSet nat_cmp) → ((pv : ℕ) → contains taken pv ≡ true → P pv) → All P numbers
+    → (pv : ℕ) → contains (with_all taken numbers) pv ≡ true → P pv
 only_in P [] taken old all pv is = old pv is
 only_in P (n ∷ numbers) taken old all pv is =
     only_in P numbers (insert taken n)
@@ -26,12 +27,15 @@ only_in P (n ∷ numbers) taken old all pv is =
     ⊎_elim
     (λ same. subst P (sym (eqb-true q n same)) (All-head P n numbers all))
     (λ before. old q before)
-    (or_cases (q == n) (contains taken q) (sym (contains-insert nat_cmp_total taken n q ∙ ap (λ (t : Bool). t || contains taken q) (unsigned_tied q n)) ∙ there)))
+    (or_cases (q == n) (contains taken q) (sym
+        (contains-insert nat_cmp_total taken n q ∙ ap (λ (t : Bool). t || contains taken q) (unsigned_tied q n)) ∙ there)))
     (All-tail P n numbers all) pv is
 
 -- what holds of all numbers holds of each of their set
 pub set_has : (P : ℕ → Type 0) (numbers : List ℕ) → All P numbers → All P (disks_in (set_of numbers))
-set_has P numbers all = disks_have (set_of numbers) P (λ pv is. only_in P numbers empty (λ q none. absurd (true≢false (sym none ∙ contains-empty nat_cmp q))) all pv is)
+set_has P numbers all =
+    disks_have (set_of numbers) P (λ pv is. only_in P numbers empty (λ q none. absurd (true≢false (sym none ∙ contains-empty nat_cmp q)))
+        all pv is)
 
 -- the disk of a write is in the set
 disk_in : (puts : List Put) → All (λ (put : Put). contains (set_of (disks_written puts)) put.0.pv ≡ true) puts
@@ -39,16 +43,20 @@ disk_in puts k d within =
     let pv : ℕ = (get_or puts k d).0.pv in
     true_from_ne_false (contains (set_of (disks_written puts)) pv)
     (λ no.
-    All-from_recursion (λ (n : ℕ). n ≢ pv) (disks_written puts) (absent empty (disks_written puts) pv no).1 k d.0.pv (omega (arith, within, length-map puts (λ (put : Put). put.0.pv)))
+    All-from_recursion (λ (n : ℕ). n ≢ pv) (disks_written puts) (absent empty (disks_written puts) pv no).1 k d.0.pv
+        (omega (arith, within, length-map puts (λ (put : Put). put.0.pv)))
     (get_or-map (λ (put : Put). put.0.pv) puts k d d.0.pv within))
 
 disk_flushed : (puts : List Put) → All IsOnFew puts → All (λ (put : Put). IsAmong (disks_in (set_of (disks_written puts))) put.0.pv) puts
-disk_flushed puts few k d within = among_disks (set_of (disks_written puts)) (get_or puts k d).0.pv (few k d within) (disk_in puts k d within)
+disk_flushed puts few k d within =
+    among_disks (set_of (disks_written puts)) (get_or puts k d).0.pv (few k d within) (disk_in puts k d within)
 
 some_flushed : (put : Put) (puts : List Put) → All IsOnFew (put ∷ puts) → 0 < length (disks_in (set_of (disks_written (put ∷ puts))))
-some_flushed put puts few = some_disk (set_of (disks_written (put ∷ puts))) put.0.pv (few 0 put (omega arith)) (disk_in (put ∷ puts) 0 put (omega arith))
+some_flushed put puts few =
+    some_disk (set_of (disks_written (put ∷ puts))) put.0.pv (few 0 put (omega arith)) (disk_in (put ∷ puts) 0 put (omega arith))
 
-pub flushes_some : (puts : List Put) (disks : FinSet nat_cmp) → 0 < length puts → All IsOnFew puts → disks ≡ set_of (disks_written puts) → 0 < length (disks_in disks)
+pub flushes_some : (puts : List Put) (disks : FinSet nat_cmp) → 0 < length puts → All IsOnFew puts → disks ≡ set_of (disks_written puts)
+    → 0 < length (disks_in disks)
 flushes_some [] disks some few is = absurd (omega (arith, some))
 flushes_some (put ∷ puts) disks some few is = subst (λ (s : FinSet nat_cmp). 0 < length (disks_in s)) (sym is) (some_flushed put puts few)
 
@@ -59,8 +67,11 @@ pub record AreApart (sizes : List ℕ) (puts : List Put) : Type 0 where
   pub apart : ShareNoSector puts
 
 -- and so it can run
-pub runs : (sizes : List ℕ) (put : Put) (puts : List Put) (batch : Batch) → AreApart sizes (put ∷ puts) → Is (put ∷ puts) (set_of (disks_written (put ∷ puts))) batch → CanRun sizes batch
+pub runs : (sizes : List ℕ) (put : Put) (puts : List Put) (batch : Batch) → AreApart sizes (put ∷ puts)
+    → Is (put ∷ puts) (set_of (disks_written (put ∷ puts))) batch → CanRun sizes batch
 runs sizes put puts batch are is =
-    can_run sizes (put ∷ puts) (disks_in (set_of (disks_written (put ∷ puts)))) batch is.writes is.flushes (omega arith) (some_flushed put puts are.few) are.lie
-    (set_has (λ (pv : ℕ). pv < length sizes) (disks_written (put ∷ puts)) (All-map (λ (pv : ℕ). pv < length sizes) (λ (p : Put). p.0.pv) (put ∷ puts) (λ k d within. (are.lie k d within).disk)))
+    can_run sizes (put ∷ puts) (disks_in (set_of (disks_written (put ∷ puts)))) batch is.writes is.flushes (omega arith)
+        (some_flushed put puts are.few) are.lie
+    (set_has (λ (pv : ℕ). pv < length sizes) (disks_written (put ∷ puts))
+        (All-map (λ (pv : ℕ). pv < length sizes) (λ (p : Put). p.0.pv) (put ∷ puts) (λ k d within. (are.lie k d within).disk)))
     are.apart (disk_flushed (put ∷ puts) are.few)

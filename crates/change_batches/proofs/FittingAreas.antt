@@ -9,7 +9,8 @@ use Rattle.pv_header.specs.Extents.{Fits64}
 
 -- areas that lie on a disk of fewer than 2^64 bytes
 module _ (bytes : ℕ) (few : bytes < 2 ^ 64) where
-  fits_here : (area : Extent) (rest : Option Extent) (b : Bool) → is_outside bytes area ≡ b → cond b (Some area) rest ≡ None → Fits64 area × (rest ≡ None)
+  fits_here : (area : Extent) (rest : Option Extent) (b : Bool) → is_outside bytes area ≡ b → cond b (Some area) rest ≡ None
+      → Fits64 area × (rest ≡ None)
   fits_here area rest true is none = absurd cc
   fits_here area rest false is none =
       let inside : area.offset + area.size ≤ bytes = ltb-false bytes (area.offset + area.size) is in
@@ -18,7 +19,8 @@ module _ (bytes : ℕ) (few : bytes < 2 ^ 64) where
   fit : (xs : List Extent) → find (is_outside bytes) xs ≡ None → All Fits64 xs
   fit [] none = All-nil Fits64
   fit (area ∷ xs) none =
-      let here = fits_here area (find (is_outside bytes) xs) (is_outside bytes area) refl none in All-cons Fits64 area xs here.0 (fit xs here.1)
+      let here = fits_here area (find (is_outside bytes) xs) (is_outside bytes area) refl none in
+      All-cons Fits64 area xs here.0 (fit xs here.1)
 
   pub fit_both : (xs ys : List Extent) → find (is_outside bytes) (xs ++ ys) ≡ None → All Fits64 xs × All Fits64 ys
   fit_both [] ys none = (All-nil Fits64, fit ys none)

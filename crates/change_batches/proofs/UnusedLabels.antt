@@ -1,5 +1,6 @@
 -- The label sectors of disks that are cleared can be written, each on a disk of its own, and are read again.
-use Rattle.std.proofs.Common.{◌≡◌, ◌≢◌, ◌≤◌, ◌<◌, ℕ, suc, ◌+◌, ◌*◌, ◌^◌, Bool, true, false, cond, List, [], ◌∷◌, length, Option, Some, None, refl, sym, subst, arith}
+use Rattle.std.proofs.Common.{◌≡◌, ◌≢◌, ◌≤◌, ◌<◌, ℕ, suc, ◌+◌, ◌*◌, ◌^◌, Bool, true, false, cond, List, [], ◌∷◌, length, Option, Some, None,
+    refl, sym, subst, arith}
 use Rattle.std.specs.Prelude.{All, AllPairs, option_map, slice_get}
 use Rattle.std.specs.List.{cons_option, enumerate_from, filter_map}
 use Rattle.std.specs.Option.{option_and_then}
@@ -40,7 +41,8 @@ lists_fit : (sector : List ℕ) (header : PvHeader) → IsPvHeader sector header
 lists_fit sector header is = omega (arith, is.bootloader_at.within)
 
 -- the header of a physical volume that was found can be read again
-header_reads : (sector : List ℕ) (sectors : ℕ) (header : PvHeader) → sectors ≤ 2 ^ 40 → Reads sector (sectors * 512) header → CanBeFound (unused header)
+header_reads : (sector : List ℕ) (sectors : ℕ) (header : PvHeader) → sectors ≤ 2 ^ 40 → Reads sector (sectors * 512) header
+    → CanBeFound (unused header)
 header_reads sector sectors header most reads =
     let fits = fit_both (sectors * 512) (omega (arith, most)) header.data_areas header.areas reads.areas.inside in
     record {
@@ -48,7 +50,9 @@ header_reads sector sectors header most reads =
       version = refl;
       data_fit = fits.0;
       areas_fit = fits.1;
-      offsets = All-append (λ (area : Extent). area.offset ≢ 0) header.data_areas header.areas reads.fields.data_at.offsets reads.fields.areas_at.offsets;
+      offsets =
+          All-append (λ (area : Extent). area.offset ≢ 0) header.data_areas header.areas reads.fields.data_at.offsets
+              reads.fields.areas_at.offsets;
     }
 
 abbrev label_with : ℕ → ℕ × PvHeader → NewLabel
@@ -56,7 +60,8 @@ label_with pv found = record { disk = pv; sector = found.0; header = unused foun
 
 -- ---- the label of one disk
 
-module _ (sizes : List ℕ) (pv sectors : ℕ) (few : pv < 64) (least : 8 ≤ sectors) (most : sectors ≤ 2 ^ 40) (has : HasSize sizes pv sectors) where
+module _ (sizes : List ℕ) (pv sectors : ℕ) (few : pv < 64) (least : 8 ≤ sectors) (most : sectors ≤ 2 ^ 40) (has : HasSize sizes pv sectors)
+    where
   abbrev EachIs : Option NewLabel → Type 0
   EachIs o = (label : NewLabel) → o ≡ Some label → IsLabelOf sizes pv label
 
@@ -69,7 +74,8 @@ module _ (sizes : List ℕ) (pv sectors : ℕ) (few : pv < 64) (least : 8 ≤ se
       same : (x y : NewLabel) → Some x ≡ Some y → x ≡ y
       same x y e = cc
 
-  whole_is : (label : ℕ) (header : PvHeader) (areas : List AreaFound) → ContentsCanStand pv sectors (Some (Whole label header areas)) → IsLabelOf sizes pv (label_with pv (label, header))
+  whole_is : (label : ℕ) (header : PvHeader) (areas : List AreaFound) → ContentsCanStand pv sectors (Some (Whole label header areas))
+      → IsLabelOf sizes pv (label_with pv (label, header))
   whole_is label header areas stands = record {
     same = refl;
     can = record { disk_below = few; sector_below = stands.0; fits = lists_fit stands.1.0 header stands.1.1.fields };
@@ -82,7 +88,8 @@ module _ (sizes : List ℕ) (pv sectors : ℕ) (few : pv < 64) (least : 8 ≤ se
   in_found (NoHeader label refusal) stands = none_is
   in_found (Whole label header areas) stands = one_is (label_with pv (label, header)) (whole_is label header areas stands)
 
-  in_contents : (contents : Option PvFound) → ContentsCanStand pv sectors contents → EachIs (option_map (label_with pv) (option_and_then pv_in contents))
+  in_contents : (contents : Option PvFound) → ContentsCanStand pv sectors contents
+      → EachIs (option_map (label_with pv) (option_and_then pv_in contents))
   in_contents None stands = none_is
   in_contents (Some found) stands = in_found found stands
 
@@ -90,8 +97,11 @@ module _ (sizes : List ℕ) (pv sectors : ℕ) (few : pv < 64) (least : 8 ≤ se
   if_cleared true o each = each
   if_cleared false o each = none_is
 
-  pub on_one : (cleared : set.FinSet nat_cmp) (disk : Disk) → disk.sectors ≡ sectors → ContentsCanStand pv sectors disk.contents → EachIs (unused_label cleared (pv, disk))
-  on_one cleared disk same stands = if_cleared (set.contains cleared pv) (option_map (label_with pv) (option_and_then pv_in disk.contents)) (in_contents disk.contents stands)
+  pub on_one : (cleared : set.FinSet nat_cmp) (disk : Disk) → disk.sectors ≡ sectors → ContentsCanStand pv sectors disk.contents
+      → EachIs (unused_label cleared (pv, disk))
+  on_one cleared disk same stands =
+      if_cleared (set.contains cleared pv) (option_map (label_with pv) (option_and_then pv_in disk.contents))
+          (in_contents disk.contents stands)
 
 -- ---- those of all
 
@@ -111,27 +121,36 @@ module _ (all : List Disk) (few : length all ≤ 64) (cleared : set.FinSet nat_c
   abbrev Good : ℕ → List NewLabel → Type 0
   Good pv labels = All (IsFrom sizes pv) labels × AllPairs Differ labels
 
-  one_more : (pv : ℕ) (o : Option NewLabel) (labels : List NewLabel) → ((label : NewLabel) → o ≡ Some label → IsLabelOf sizes pv label) → Good (pv + 1) labels → Good pv (cons_option o labels)
-  one_more pv None labels each good = (All-weaker (IsFrom sizes (pv + 1)) (IsFrom sizes pv) (λ label is. (omega (arith, is.0), is.1)) labels good.0, good.1)
+  one_more : (pv : ℕ) (o : Option NewLabel) (labels : List NewLabel) → ((label : NewLabel) → o ≡ Some label → IsLabelOf sizes pv label)
+      → Good (pv + 1) labels → Good pv (cons_option o labels)
+  one_more pv None labels each good =
+      (All-weaker (IsFrom sizes (pv + 1)) (IsFrom sizes pv) (λ label is. (omega (arith, is.0), is.1)) labels good.0, good.1)
   one_more pv (Some label) labels each good =
       let own : IsLabelOf sizes pv label = each label refl in
       let here : IsFrom sizes pv label = (omega (arith, own.same), subst (λ (n : ℕ). IsLabelOf sizes n label) (sym own.same) own) in
-      let later : All (IsFrom sizes pv) labels = All-weaker (IsFrom sizes (pv + 1)) (IsFrom sizes pv) (λ other is. (omega (arith, is.0), is.1)) labels good.0 in
-      let apart : All (Differ label) labels = All-weaker (IsFrom sizes (pv + 1)) (Differ label) (λ other is same. omega (arith, is.0, own.same, same)) labels good.0 in
+      let later : All (IsFrom sizes pv) labels =
+          All-weaker (IsFrom sizes (pv + 1)) (IsFrom sizes pv) (λ other is. (omega (arith, is.0), is.1)) labels good.0 in
+      let apart : All (Differ label) labels =
+          All-weaker (IsFrom sizes (pv + 1)) (Differ label) (λ other is same. omega (arith, is.0, own.same, same)) labels good.0 in
       (All-cons (IsFrom sizes pv) label labels here later, AllPairs-cons Differ label labels apart good.1)
 
   from_disk : (pv : ℕ) (disks : List Disk) → AreThere pv disks → Good pv (filter_map (unused_label cleared) (enumerate_from pv disks))
   from_disk pv [] each = (All-nil (IsFrom sizes pv), λ i j d before within. absurd (omega (arith, before, within)))
   from_disk pv (disk ∷ disks) each =
-      let here : IsDisk pv disk × (slice_get all pv ≡ Some disk) = subst (λ (n : ℕ). IsDisk n disk × (slice_get all n ≡ Some disk)) (omega arith) (each 0 disk refl) in
+      let here : IsDisk pv disk × (slice_get all pv ≡ Some disk) =
+          subst (λ (n : ℕ). IsDisk n disk × (slice_get all n ≡ Some disk)) (omega arith) (each 0 disk refl) in
       let within : pv < length all = slice_get_within all pv disk here.1 in
       one_more pv (unused_label cleared (pv, disk)) (filter_map (unused_label cleared) (enumerate_from (pv + 1) disks))
-      (on_one sizes pv disk.sectors (omega (arith, within, few)) here.0.least here.0.most (has_size all pv disk here.1) cleared disk refl here.0.contents)
+      (on_one sizes pv disk.sectors (omega (arith, within, few)) here.0.least here.0.most (has_size all pv disk here.1) cleared disk refl
+          here.0.contents)
       (from_disk (pv + 1) disks (λ k d is. subst (λ (n : ℕ). IsDisk n d × (slice_get all n ≡ Some d)) (omega arith) (each (suc k) d is)))
 
 module _ (disks : List Disk) (areas : List (Area × Option Locn)) (scanned : AreScanned disks areas) (cleared : set.FinSet nat_cmp) where
   good : Good disks scanned.few cleared 0 (unused_labels cleared disks)
-  good = from_disk disks scanned.few cleared 0 disks (λ k disk there. subst (λ (n : ℕ). IsDisk n disk × (slice_get disks n ≡ Some disk)) (omega arith) (scanned.each k disk there, there))
+  good =
+      from_disk disks scanned.few cleared 0 disks
+          (λ k disk there. subst (λ (n : ℕ). IsDisk n disk × (slice_get disks n ≡ Some disk)) (omega arith)
+          (scanned.each k disk there, there))
 
   pub labels_can : All CanLabel (unused_labels cleared disks)
   labels_can k d within = (good.0 k d within).1.can
@@ -146,7 +165,9 @@ module _ (disks : List Disk) (areas : List (Area × Option Locn)) (scanned : Are
   labels_found k d within = (good.0 k d within).1.found
 
   -- that of one disk
-  pub label_is : (pv : ℕ) (disk : Disk) → slice_get disks pv ≡ Some disk → (label : NewLabel) → unused_label cleared (pv, disk) ≡ Some label → IsLabelOf (sizes_of disks) pv label
+  pub label_is : (pv : ℕ) (disk : Disk) → slice_get disks pv ≡ Some disk → (label : NewLabel) → unused_label cleared (pv, disk) ≡ Some label
+      → IsLabelOf (sizes_of disks) pv label
   label_is pv disk there =
       let is : IsDisk pv disk = scanned.each pv disk there in
-      on_one (sizes_of disks) pv disk.sectors (omega (arith, slice_get_within disks pv disk there, scanned.few)) is.least is.most (has_size disks pv disk there) cleared disk refl is.contents
+      on_one (sizes_of disks) pv disk.sectors (omega (arith, slice_get_within disks pv disk there, scanned.few)) is.least is.most
+          (has_size disks pv disk there) cleared disk refl is.contents

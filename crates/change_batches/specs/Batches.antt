@@ -90,7 +90,8 @@ clear_put area = (header_span area.0, mda_bytes (header_of area.0 None None) ∷
 
 -- those of the disks that are cleared: their label sectors, and then the headers of their areas
 abbrev pub clear_batches : set.FinSet nat_cmp → List Disk → List (Area × Option Locn) → List (List Put)
-clear_batches cleared disks areas = batch_if (map label_put (unused_labels cleared disks)) ++ batch_if (map clear_put (cleared_areas cleared areas))
+clear_batches cleared disks areas =
+    batch_if (map label_put (unused_labels cleared disks)) ++ batch_if (map clear_put (cleared_areas cleared areas))
 
 -- ---- all of it
 

@@ -47,7 +47,8 @@ abbrev pub areas_on : set.FinSet nat_cmp → List (Area × Option Locn) → List
 areas_on disks areas = filter (lies_on disks) areas
 
 -- the three batches of a commit stand behind the others: the first flushes all disks of the group, the others those of the areas
-pub record IsCommitAdded (areas : List (Area × Option Locn)) (flush : set.FinSet nat_cmp) (group : Group) (now : ℕ) (old new : List Batch) : Type 0 where
+pub record IsCommitAdded (areas : List (Area × Option Locn)) (flush : set.FinSet nat_cmp) (group : Group) (now : ℕ)
+    (old new : List Batch) : Type 0 where
   pub texts : Batch
   pub headers : Batch
   pub publish : Batch
@@ -75,7 +76,8 @@ pub record AreScanned (disks : List Disk) (areas : List (Area × Option Locn)) :
   pub held : areas ≡ held_areas 0 disks
 
 -- the batches that clear these disks stand behind the others, and can run on the disks; what is written of labels fits its fields
-pub record AreClearsAdded (cleared : set.FinSet nat_cmp) (disks : List Disk) (areas : List (Area × Option Locn)) (old new : List Batch) : Type 0 where
+pub record AreClearsAdded (cleared : set.FinSet nat_cmp) (disks : List Disk) (areas : List (Area × Option Locn))
+    (old new : List Batch) : Type 0 where
   pub writes : map writes_of new ≡ map writes_of old ++ clear_batches cleared disks areas
   pub run : All (CanRun (sizes_of disks)) old → All (CanRun (sizes_of disks)) new
   pub fields : All FitsFields (unused_labels cleared disks)

@@ -45,13 +45,15 @@ IsOnOther labels area = All (λ (label : NewLabel). label.disk ≢ area.0.pv) la
 -- each area does so where a group is committed; else each shows what it shows in the base, but on a disk that becomes a new
 -- physical volume
 abbrev pub AreasKeptBy : Option Group → ℕ → Change → List (Area × Option Locn) → Image → Image → Type 0
-AreasKeptBy None now change areas base image = All (λ (area : Area × Option Locn). IsOnOther change.labels area → ShowsBy (old_reading (text_in base)) image area) areas
+AreasKeptBy None now change areas base image =
+    All (λ (area : Area × Option Locn). IsOnOther change.labels area → ShowsBy (old_reading (text_in base)) image area) areas
 AreasKeptBy (Some group) now change areas base image = All (IsKeptOrNew (printed (tree_of group now)) base image) areas
 
 -- each label sector is as in the base or the new one, whole
 abbrev pub LabelsKept : List NewLabel → Image → Image → Type 0
 LabelsKept labels base image =
-    All (λ (label : NewLabel). (image label.disk label.sector ≡ base label.disk label.sector) ⊎ (image label.disk label.sector ≡ label_bytes label)) labels
+    All (λ (label : NewLabel). (image label.disk label.sector ≡ base label.disk label.sector)
+        ⊎ (image label.disk label.sector ≡ label_bytes label)) labels
 
 -- lvm2's readers find the label and the header in its sector
 pub record HasLabel (image : Image) (new : NewLabel) : Type 0 where
@@ -62,14 +64,17 @@ pub record HasLabel (image : Image) (new : NewLabel) : Type 0 where
 -- the areas behind the labels are empty
 abbrev pub HoldsAfter : Option Group → ℕ → Change → List (Area × Option Locn) → Image → Type 0
 HoldsAfter None now change areas image =
-    All (λ (label : NewLabel). All (λ (area : Extent). IsHeader (sectors_of (record { pv = label.disk; start = area.offset; size = area.size }) image 0) (empty_area area)) label.header.areas) change.labels
+    All (λ (label : NewLabel). All (λ (area : Extent). IsHeader
+        (sectors_of (record { pv = label.disk; start = area.offset; size = area.size }) image 0) (empty_area area)) label.header.areas)
+        change.labels
 HoldsAfter (Some group) now change areas image = All (ShowsBy (new_reading (printed (tree_of group now))) image) (areas_of change areas)
 
 -- ---- disks that are cleared
 
 -- the header of the area is as in the base, or empty
 abbrev pub IsKeptOrEmpty : Image → Image → Area × Option Locn → Type 0
-IsKeptOrEmpty base image area = (sectors_of area.0 image 0 ≡ sectors_of area.0 base 0) ⊎ (sectors_of area.0 image 0 ≡ header_bytes (header_of area.0 None None))
+IsKeptOrEmpty base image area =
+    (sectors_of area.0 image 0 ≡ sectors_of area.0 base 0) ⊎ (sectors_of area.0 image 0 ≡ header_bytes (header_of area.0 None None))
 
 -- the header of the area says that no text stands in it
 abbrev pub IsEmpty : Image → Area × Option Locn → Type 0
@@ -82,7 +87,8 @@ pub record IsUncleared (cleared : set.FinSet nat_cmp) (disks : List Disk) (areas
 
 -- what an image keeps of the base while these disks are cleared: each label sector is the old or the new one, each header of an
 -- area the old one or empty, and no other sector is written
-pub record ClearsKeep (cleared : set.FinSet nat_cmp) (disks : List Disk) (areas : List (Area × Option Locn)) (base image : Image) : Type 0 where
+pub record ClearsKeep (cleared : set.FinSet nat_cmp) (disks : List Disk) (areas : List (Area × Option Locn)) (base image : Image) : Type 0
+    where
   pub labels : LabelsKept (unused_labels cleared disks) base image
   pub headers : All (IsKeptOrEmpty base image) (cleared_areas cleared areas)
   pub others : (pv sector : ℕ) → IsUncleared cleared disks areas pv sector → image pv sector ≡ base pv sector
@@ -95,8 +101,10 @@ pub record AreCleared (cleared : set.FinSet nat_cmp) (disks : List Disk) (areas 
 -- over any base every image on the way keeps what the base holds, each header until the last batch is begun; and once all is
 -- written the disks are cleared
 pub record ClearsImages (cleared : set.FinSet nat_cmp) (disks : List Disk) (areas : List (Area × Option Locn)) : Type 0 where
-  pub kept : (base image : Image) → HasFirstBatches (clear_batches cleared disks areas) base image → ClearsKeep cleared disks areas base image
-  pub uncleared : (base image : Image) (n : ℕ) → n < length (clear_batches cleared disks areas) → HasFirstBatches (take n (clear_batches cleared disks areas)) base image
+  pub kept : (base image : Image) → HasFirstBatches (clear_batches cleared disks areas) base image
+      → ClearsKeep cleared disks areas base image
+  pub uncleared : (base image : Image) (n : ℕ) → n < length (clear_batches cleared disks areas)
+      → HasFirstBatches (take n (clear_batches cleared disks areas)) base image
       → All (λ (area : Area × Option Locn). sectors_of area.0 image 0 ≡ sectors_of area.0 base 0) (cleared_areas cleared areas)
   pub done : (base : Image) → AreCleared cleared disks areas (with_batches (clear_batches cleared disks areas) base)
   -- lvm2's reader finds the header in each label sector that is written

@@ -1,5 +1,6 @@
 -- Halving a sorted list of numbers: what is known of its parts, and how many comparisons it takes.
-use Rattle.std.proofs.Common.{◌≡◌, ◌<◌, ◌≤◌, ℕ, zero, suc, ◌+◌, ◌-◌, ◌*◌, ◌/◌, ◌^◌, Bool, true, false, cond, List, length, get_or, nat_eq, nat_lt, refl, ap, subst, arith}
+use Rattle.std.proofs.Common.{◌≡◌, ◌<◌, ◌≤◌, ℕ, zero, suc, ◌+◌, ◌-◌, ◌*◌, ◌/◌, ◌^◌, Bool, true, false, cond, List, length, get_or, nat_eq,
+    nat_lt, refl, ap, subst, arith}
 use Rattle.std.specs.List.{list_any}
 use Rattle.std.specs.Ordering.{MatchOrdering, is_lt, nat_cmp}
 use Rattle.std.specs.declared.cmp.Ordering.{Ordering}
@@ -59,7 +60,8 @@ not_less a b h =
     ] refl h
 
 -- numbers don't fall
-rises : (numbers : List ℕ) → IsAscending nat_cmp numbers → (i j d : ℕ) → i ≤ j → j < length numbers → get_or numbers i d ≤ get_or numbers j d
+rises : (numbers : List ℕ) → IsAscending nat_cmp numbers → (i j d : ℕ) → i ≤ j → j < length numbers
+    → get_or numbers i d ≤ get_or numbers j d
 rises numbers up i j d le lt =
     elim (nat_eq i j) as (λ t. nat_eq i j ≡ t → get_or numbers i d ≤ get_or numbers j d) [
       | true ↦ λ t. rw (eqb-true i j t) (omega arith)
@@ -67,7 +69,8 @@ rises numbers up i j d le lt =
     ] refl
 
 -- the one in the middle is below the number
-pub halving_up : (numbers : List ℕ) (number low high taken next middle e : ℕ) → IsAscending nat_cmp numbers → IsHalving numbers number low high taken → low < high → middle ≡ low + (high - low) / 2
+pub halving_up : (numbers : List ℕ) (number low high taken next middle e : ℕ) → IsAscending nat_cmp numbers
+    → IsHalving numbers number low high taken → low < high → middle ≡ low + (high - low) / 2
     → next ≡ taken + 1 → nat_cmp (get_or numbers middle e) number ≡ Less → IsHalving numbers number (middle + 1) high next
 halving_up numbers number low high taken next middle e up h lt is more less =
     let within : middle < length numbers = omega (arith, is, lt, h.within) in
@@ -81,11 +84,13 @@ halving_up numbers number low high taken next middle e up h lt is more less =
       above = h.above;
       left = λ further le.
           let same : next + further ≡ taken + (1 + further) = omega (arith, more) in
-          rw (same) (h.left (1 + further) (halved further (high - (middle + 1)) (high - low) (omega (arith, is, lt)) (omega (arith, lt)) le));
+          rw (same) (h.left (1 + further) (halved further (high - (middle + 1)) (high - low) (omega (arith, is, lt)) (omega (arith, lt))
+              le));
     }
 
 -- the one in the middle is above it
-pub halving_down : (numbers : List ℕ) (number low high taken next middle e : ℕ) → IsAscending nat_cmp numbers → IsHalving numbers number low high taken → low < high → middle ≡ low + (high - low) / 2
+pub halving_down : (numbers : List ℕ) (number low high taken next middle e : ℕ) → IsAscending nat_cmp numbers
+    → IsHalving numbers number low high taken → low < high → middle ≡ low + (high - low) / 2
     → next ≡ taken + 1 → nat_cmp (get_or numbers middle e) number ≡ Greater → IsHalving numbers number low middle next
 halving_down numbers number low high taken next middle e up h lt is more greater =
     let within : middle < length numbers = omega (arith, is, lt, h.within) in
@@ -103,23 +108,28 @@ halving_down numbers number low high taken next middle e up h lt is more greater
     }
 
 -- the one in the middle is it
-pub halving_found : (numbers : List ℕ) (number low high taken middle e : ℕ) → IsHalving numbers number low high taken → low < high → middle ≡ low + (high - low) / 2
+pub halving_found : (numbers : List ℕ) (number low high taken middle e : ℕ) → IsHalving numbers number low high taken → low < high
+    → middle ≡ low + (high - low) / 2
     → nat_cmp (get_or numbers middle e) number ≡ Equal → list_any (λ (n : ℕ). nat_eq n number) numbers ≡ true
 halving_found numbers number low high taken middle e h lt is equal =
-    list_any_at (λ (n : ℕ). nat_eq n number) numbers middle e (omega (arith, is, lt, h.within)) (eq-eqb (get_or numbers middle e) number (is_equal (get_or numbers middle e) number equal))
+    list_any_at (λ (n : ℕ). nat_eq n number) numbers middle e (omega (arith, is, lt, h.within))
+        (eq-eqb (get_or numbers middle e) number (is_equal (get_or numbers middle e) number equal))
 
-pub halving_found_bound : (numbers : List ℕ) (number low high taken next : ℕ) → IsHalving numbers number low high taken → low < high → next ≡ taken + 1 → 2 ^ next ≤ 2 * length numbers + 1
+pub halving_found_bound : (numbers : List ℕ) (number low high taken next : ℕ) → IsHalving numbers number low high taken → low < high
+    → next ≡ taken + 1 → 2 ^ next ≤ 2 * length numbers + 1
 halving_found_bound numbers number low high taken next h lt more = rw (more) (h.left 1 (omega (arith, lt)))
 
 -- nothing is left
-pub halving_over : (numbers : List ℕ) (number low high taken : ℕ) → IsHalving numbers number low high taken → high ≤ low → list_any (λ (n : ℕ). nat_eq n number) numbers ≡ false
+pub halving_over : (numbers : List ℕ) (number low high taken : ℕ) → IsHalving numbers number low high taken → high ≤ low
+    → list_any (λ (n : ℕ). nat_eq n number) numbers ≡ false
 halving_over numbers number low high taken h end = list_any_none (λ (n : ℕ). nat_eq n number) numbers (λ k d lt.
     elim (nat_lt k low) as (λ t. nat_lt k low ≡ t → nat_eq (get_or numbers k d) number ≡ false) [
       | true ↦ λ t. ne_eqb (get_or numbers k d) number (λ same. omega (arith, same, h.below k d (ltb-true k low t)))
       | false ↦ λ t. ne_eqb (get_or numbers k d) number (λ same. omega (arith, same, h.above k d (omega (arith, ltb-false k low t)) lt))
     ] refl)
 
-pub halving_over_bound : (numbers : List ℕ) (number low high taken : ℕ) → IsHalving numbers number low high taken → 2 ^ taken ≤ 2 * length numbers + 1
+pub halving_over_bound : (numbers : List ℕ) (number low high taken : ℕ) → IsHalving numbers number low high taken
+    → 2 ^ taken ≤ 2 * length numbers + 1
 halving_over_bound numbers number low high taken h =
     let same : taken + 0 ≡ taken = omega arith in
     rw (← same) (h.left 0 (omega arith))

@@ -13,7 +13,8 @@ and_right true b h = h
 and_right false b h = cc
 
 -- where no item passes, each fails
-pub none_at : {X : Type 0} (p : X → Bool) (xs : List X) → list_any p xs ≡ false → (k : ℕ) (d : X) → k < length xs → p (get_or xs k d) ≡ false
+pub none_at : {X : Type 0} (p : X → Bool) (xs : List X) → list_any p xs ≡ false → (k : ℕ) (d : X) → k < length xs
+    → p (get_or xs k d) ≡ false
 none_at p xs e k d lt =
     elim (p (get_or xs k d)) as (λ b. p (get_or xs k d) ≡ b → b ≡ false) [
       | true ↦ λ h. sym (list_any_at p xs k d lt h) ∙ e

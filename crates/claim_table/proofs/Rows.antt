@@ -11,7 +11,8 @@ use Rattle.claim_table.specs.Steps.{after_enter, after_leave, after_ready, no_cl
 
 -- so many sectors of volume 0 from this one on, in no region
 abbrev piece_of : ℕ → ℕ → ℕ → Bool → Claim
-piece_of number first count write = record { number = number; piece = record { volume = 0; first = first; count = count; write = write }; region = None }
+piece_of number first count write =
+    record { number = number; piece = record { volume = 0; first = first; count = count; write = write }; region = None }
 
 -- a write of sectors 0 to 8 is under way
 abbrev one_write : Claims
@@ -56,7 +57,9 @@ second_is_ready = refl
 
 -- a write of sectors 0 to 8 started; one of 4 to 12 comes in two pieces, cut at a multiple of 8, of which the first waits
 abbrev two_writes : Claims
-two_writes = after_enter (after_enter (after_enter (record no_claims { spare = 3 }) (piece_of 0 0 8 true) Started) (piece_of 1 4 4 true) (Deferred (Piece 0))) (piece_of 2 8 4 true) Started
+two_writes =
+    after_enter (after_enter (after_enter (record no_claims { spare = 3 }) (piece_of 0 0 8 true) Started) (piece_of 1 4 4 true)
+        (Deferred (Piece 0))) (piece_of 2 8 4 true) Started
 
 first_starts : is_free (record no_claims { spare = 3 }) [] (piece_of 0 0 8 true) ≡ true
 first_starts = refl
@@ -81,7 +84,8 @@ ten_steps taken bound =
       | true ↦ λ t.
           let over : taken ≡ 11 + (taken - 11) = omega (arith, ltb-true 10 taken t) in
           let parts : 2 ^ taken ≡ 2 ^ 11 * 2 ^ (taken - 11) = ap (λ (n : ℕ). 2 ^ n) over ∙ pow-add 2 11 (taken - 11) in
-          let least : 2048 * 1 ≤ 2048 * 2 ^ (taken - 11) = mul-le 2048 1 2048 (2 ^ (taken - 11)) (omega arith) (omega (arith, pow_pos (taken - 11))) in
+          let least : 2048 * 1 ≤ 2048 * 2 ^ (taken - 11) =
+              mul-le 2048 1 2048 (2 ^ (taken - 11)) (omega arith) (omega (arith, pow_pos (taken - 11))) in
           absurd (omega (arith, bound, parts, least))
       | false ↦ λ t. ltb-false 10 taken t
     ] refl

@@ -14,7 +14,8 @@ numbered_more : (number : ℕ) (words : List Word) (word : Word)
     → numbered_from number (words ++ word ∷ []) ≡ numbered_from number words ++ (word, number + length words) ∷ []
 numbered_more number [] word = ap (λ n. (word, n) ∷ []) (sym (add-zero number))
 numbered_more number (first ∷ words) word =
-    ap (λ more. (first, number) ∷ more) (numbered_more (number + 1) words word ∙ ap (λ n. numbered_from (number + 1) words ++ (word, n) ∷ []) (omega arith))
+    ap (λ more. (first, number) ∷ more) (numbered_more (number + 1) words word
+        ∙ ap (λ n. numbered_from (number + 1) words ++ (word, n) ∷ []) (omega arith))
 
 words_more : {A : Type 0} (words : List (String A)) (at : ℕ) (word : String A) → at < length words → word ≡ get_or words at word
     → words_of (take (at + 1) words) ≡ words_of (take at words) ++ string_bytes word ∷ []
@@ -28,8 +29,10 @@ many : {A : Type 0} (words : List (String A)) (at : ℕ) → at < length words �
 many words at within = length-map (take at words) string_bytes ∙ length-take-le at words (omega (arith, within))
 
 -- the words up to a place, with the next one
-pub read_more : {A : Type 0} (name : CommandName) (words : List (String A)) (at : ℕ) (word : String A) → at < length words → word ≡ get_or words at word
-    → after_word name (read name (numbered_from 1 (words_of (take at words)))) (string_bytes word, 1 + at) ≡ read name (numbered_from 1 (words_of (take (at + 1) words)))
+pub read_more : {A : Type 0} (name : CommandName) (words : List (String A)) (at : ℕ) (word : String A) → at < length words
+    → word ≡ get_or words at word
+    → after_word name (read name (numbered_from 1 (words_of (take at words)))) (string_bytes word, 1 + at)
+    ≡ read name (numbered_from 1 (words_of (take (at + 1) words)))
 read_more name words at word within is =
     rw (words_more words at word within is, numbered_more 1 (words_of (take at words)) (string_bytes word), many words at within)
     (sym (fold-append (after_word name) nothing_read (numbered_from 1 (words_of (take at words))) ((string_bytes word, 1 + at) ∷ [])))

@@ -1,5 +1,6 @@
 -- The number of a word, as `parse` reads it.
-use Rattle.std.proofs.Common.{◌≡◌, ◌<◌, ◌^◌, ◌==◌, ℕ, not, true, false, nat_lt, nat_le, List, [], ◌∷◌, length, Some, None, Result, Ok, Err, refl, ap, sym, subst, inl, inr, ◌⊎◌, arith, lt-ltb, ltb-true, leb-true}
+use Rattle.std.proofs.Common.{◌≡◌, ◌<◌, ◌^◌, ◌==◌, ℕ, not, true, false, nat_lt, nat_le, List, [], ◌∷◌, length, Some, None, Result, Ok, Err,
+    refl, ap, sym, subst, inl, inr, ◌⊎◌, arith, lt-ltb, ltb-true, leb-true}
 use Rattle.std.proofs.lemmas.Bool.{and_parts, cases_Bool, true≢false, ne_eqb}
 use Rattle.std.proofs.lemmas.Str.{IsUtf8-from_ascii}
 use Rattle.std.proofs.lemmas.Str.Ascii.{IsAscii-cons, IsAscii-nil}
@@ -39,7 +40,8 @@ parsed ds (Err e) numeral is parses = go (cases_Bool (nat_lt (digits_value 10 ds
     go (inl fits) = absurd (parses (is, ltb-true (digits_value 10 ds) (2 ^ 64) fits))
     go (inr past) = rw (numeral, past) refl
 
-pub parsed_number : {E : Type 0} (ds : List ℕ) (r : Result ℕ E) → is_numeral ds ≡ true → ParsesUnsigned 64 10 ds r → result_ok r ≡ number_of ds
+pub parsed_number : {E : Type 0} (ds : List ℕ) (r : Result ℕ E) → is_numeral ds ≡ true → ParsesUnsigned 64 10 ds r
+    → result_ok r ≡ number_of ds
 parsed_number ds r numeral parses =
     let both = and_parts (not (length ds == 0)) (list_all is_digit ds) numeral in
     parsed ds r numeral (some_length ds both.0, all_digits ds both.1)

@@ -1,5 +1,6 @@
 -- What the words of a command mean.
-use Rattle.std.specs.Prelude.{ℕ, ◌+◌, ◌^◌, length, Bool, true, false, not, ◌&&◌, ◌||◌, nat_lt, if◌then◌else◌, List, [], ◌∷◌, Option, Some, None, Result, Ok, Err, find, is_some, unwrap_or, option_map, option_and_then, map}
+use Rattle.std.specs.Prelude.{ℕ, ◌+◌, ◌^◌, length, Bool, true, false, not, ◌&&◌, ◌||◌, nat_lt, if◌then◌else◌, List, [], ◌∷◌, Option, Some,
+    None, Result, Ok, Err, find, is_some, unwrap_or, option_map, option_and_then, map}
 use Rattle.std.specs.Option.{option_map_or}
 use Rattle.std.specs.Str.{bytes_eq}
 use Rattle.std.specs.Prelude.{codes}
@@ -8,7 +9,9 @@ use Rattle.command_table.specs.declared.amount.Amount.TheVariants.{Extents, Sect
 use Rattle.command_table.specs.declared.amount.Growth.{Growth}
 use Rattle.command_table.specs.declared.amount.Growth.TheVariants.{To, By}
 use Rattle.command_table.specs.declared.command.Command.{Command}
-use Rattle.command_table.specs.declared.command.Command.TheVariants.{Pvcreate, Pvmove, Pvck, Pvs, Vgcreate, Vgextend, Vgreduce, Vgremove, Vgrename, Vgcfgbackup, Vgcfgrestore, Vgck, Vgs, Lvcreate, Lvextend, Lvreduce, Lvremove, Lvrename, Lvs, Read, Fill, Write, List as ListVolumes, Wait, Resync}
+use Rattle.command_table.specs.declared.command.Command.TheVariants.{Pvcreate, Pvmove, Pvck, Pvs, Vgcreate, Vgextend, Vgreduce, Vgremove,
+    Vgrename, Vgcfgbackup, Vgcfgrestore, Vgck, Vgs, Lvcreate, Lvextend, Lvreduce, Lvremove, Lvrename, Lvs, Read, Fill, Write,
+    List as ListVolumes, Wait, Resync}
 use Rattle.command_table.specs.declared.command.Moving.TheVariants.{From, GoOn, Abort}
 use Rattle.command_table.specs.declared.command.Path.{Path}
 use Rattle.command_table.specs.declared.request.Request.{Request}
@@ -193,7 +196,8 @@ from_sector _ _ command = None
 
 -- sectors of a volume: the first, and how many
 abbrev pub read_words : List Word → Option Command
-read_words (path ∷ start ∷ count ∷ []) = from_sector (path_in path) (number_of start) (λ path start. option_map (Read path start) (number_of count))
+read_words (path ∷ start ∷ count ∷ []) =
+    from_sector (path_in path) (number_of start) (λ path start. option_map (Read path start) (number_of count))
 read_words _ = None
 
 abbrev filled : Path → ℕ → Option ℕ → Option ℕ → Option Command
@@ -202,7 +206,8 @@ filled path start _ _ = None
 
 -- the same, and the number in the first
 abbrev pub fill_words : List Word → Option Command
-fill_words (path ∷ start ∷ count ∷ value ∷ []) = from_sector (path_in path) (number_of start) (λ path start. filled path start (number_of count) (number_of value))
+fill_words (path ∷ start ∷ count ∷ value ∷ []) =
+    from_sector (path_in path) (number_of start) (λ path start. filled path start (number_of count) (number_of value))
 fill_words _ = None
 
 -- sectors of a volume: the first, and the digits of all

@@ -64,7 +64,8 @@ role_of rows split word = if is_dashed word then role_of_option split (option_na
 abbrev pub after_role : Split → Word → Role → Split
 after_role split word role.Stray = record split { waiting = None }
 after_role split word (role.Option row) = record split { seen = split.seen ++ row.key ∷ []; waiting = Some row }
-after_role split word (role.Flag key) = record split { seen = split.seen ++ key ∷ []; given = split.given ++ (key, []) ∷ []; waiting = None }
+after_role split word (role.Flag key) =
+    record split { seen = split.seen ++ key ∷ []; given = split.given ++ (key, []) ∷ []; waiting = None }
 after_role split word (role.Value row) = record split { given = split.given ++ (row.key, word) ∷ []; waiting = None }
 after_role split word (role.Argument number) = record split { arguments = split.arguments ++ word ∷ [] }
 

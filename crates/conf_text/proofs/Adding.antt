@@ -15,12 +15,14 @@ module _ {S : Type 0} {Adds : S → List ℕ → S → Type 0} (laws : SinkLaws 
   adds_as {a} {b} h e = subst (λ text. Adds a text b) e h
 
   -- what a last call adds, where it went well
-  pub ends_with : {A E : Type 0} {a b : S} {xs : List ℕ} (c : S) (ys : List ℕ) (r : Result A E) (text : List ℕ) → Adds a xs b → IfOk r (λ _. Adds b ys c) → xs ++ ys ≡ text → IfOk r (λ _. Adds a text c)
+  pub ends_with : {A E : Type 0} {a b : S} {xs : List ℕ} (c : S) (ys : List ℕ) (r : Result A E) (text : List ℕ) → Adds a xs b
+      → IfOk r (λ _. Adds b ys c) → xs ++ ys ≡ text → IfOk r (λ _. Adds a text c)
   ends_with c ys (Ok x) text h k e = adds_as (laws.both h k) e
   ends_with c ys (Err x) text h k e = tt
 
   -- the same of entries
-  pub prints_with : {A E : Type 0} {a b : S} {xs : List ℕ} (c : S) (ys : List ℕ) (r : Result A E) (es : List ConfEntry) → Adds a xs b → IfOk r (λ _. Adds b ys c) → xs ++ ys ≡ printed es → IfOk r (λ _. Prints Adds a es c)
+  pub prints_with : {A E : Type 0} {a b : S} {xs : List ℕ} (c : S) (ys : List ℕ) (r : Result A E) (es : List ConfEntry) → Adds a xs b
+      → IfOk r (λ _. Adds b ys c) → xs ++ ys ≡ printed es → IfOk r (λ _. Prints Adds a es c)
   prints_with c ys (Ok x) es h k e = record { text = adds_as (laws.both h k) e }
   prints_with c ys (Err x) es h k e = tt
 
@@ -33,7 +35,8 @@ module _ {S : Type 0} {Adds : S → List ℕ → S → Type 0} (laws : SinkLaws 
   prints_both {a} {b} {c} {es} {fs} h k = record { text = rw (printed-append es fs) (laws.both h.text k.text) }
 
   -- and those that a last call prints, where it went well
-  pub prints_last : {A E : Type 0} {a b : S} {es : List ConfEntry} (c : S) (fs : List ConfEntry) (r : Result A E) → Prints Adds a es b → IfOk r (λ _. Prints Adds b fs c) → IfOk r (λ _. Prints Adds a (es ++ fs) c)
+  pub prints_last : {A E : Type 0} {a b : S} {es : List ConfEntry} (c : S) (fs : List ConfEntry) (r : Result A E) → Prints Adds a es b
+      → IfOk r (λ _. Prints Adds b fs c) → IfOk r (λ _. Prints Adds a (es ++ fs) c)
   prints_last c fs (Ok x) h k = prints_both h k
   prints_last c fs (Err x) h k = tt
 

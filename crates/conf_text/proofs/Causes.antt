@@ -1,5 +1,6 @@
 -- The answer is the tree that the text stands for, or the cause why it has none, and nothing else.
-use Rattle.std.proofs.Common.{◌≡◌, ◌≢◌, ℕ, suc, ◌+◌, ◌<◌, ◌≤◌, Bool, true, false, ltb, List, [], ◌∷◌, ◌++◌, length, take, drop, Result, Ok, Err, refl, sym, ap, subst, ◌∙◌, append_assoc, length-append, arith, inl, inr}
+use Rattle.std.proofs.Common.{◌≡◌, ◌≢◌, ℕ, suc, ◌+◌, ◌<◌, ◌≤◌, Bool, true, false, ltb, List, [], ◌∷◌, ◌++◌, length, take, drop, Result, Ok,
+    Err, refl, sym, ap, subst, ◌∙◌, append_assoc, length-append, arith, inl, inr}
 use Rattle.std.proofs.Math.Seq.{take-length}
 use Rattle.std.proofs.lemmas.List.{append-nil, take-append-drop, length-take}
 use Rattle.std.proofs.lemmas.Bool.{ltb-true, ltb-false, cases_order, cases_lt}
@@ -10,7 +11,8 @@ use Rattle.conf_text.specs.Entries.{ConfEntry, Open}
 use Rattle.conf_text.specs.Grammar.{Spells, IsTextOf}
 use Rattle.conf_text.specs.Reader.{start, reading}
 use Rattle.conf_text.specs.ReaderViews.{Fails}
-use Rattle.conf_text.specs.Refusals.{IsDuplicate, IsTooWide, IsTooDeep, KeepsTo, IsOpenString, IsOpenArray, IsOpenBrace, IsInnermost, Begins, IsFirstBad, IsCut, IsBadToken, IsUnclosed, IsCause}
+use Rattle.conf_text.specs.Refusals.{IsDuplicate, IsTooWide, IsTooDeep, KeepsTo, IsOpenString, IsOpenArray, IsOpenBrace, IsInnermost,
+    Begins, IsFirstBad, IsCut, IsBadToken, IsUnclosed, IsCause}
 use Rattle.conf_text.proofs.Accepted.{accepted}
 use Rattle.conf_text.proofs.OpenEnds.{string_read, array_read, brace_read, begins_last}
 use Rattle.conf_text.proofs.Parts.{Halts}
@@ -50,12 +52,16 @@ one_byte text p b c (z, x, first, at) (w, y, second, place) = same_byte z w x y 
 string_byte : (text : List ℕ) (p : ℕ) → IsOpenString text p → HasByte text p 34
 string_byte text p h =
     let (u, whole) = begins_suffix h.before text (h.front ++ 34 ∷ h.inside) h.entries in
-    (u ++ h.front, h.inside, whole ∙ sym (append_assoc u h.front (34 ∷ h.inside)), omega (arith, h.place_is, ap length whole, length-append u (h.front ++ 34 ∷ h.inside), length-append h.front (34 ∷ h.inside), length-append u h.front))
+    (u ++ h.front, h.inside, whole ∙ sym (append_assoc u h.front (34 ∷ h.inside)),
+        omega (arith, h.place_is, ap length whole, length-append u (h.front ++ 34 ∷ h.inside), length-append h.front (34 ∷ h.inside),
+        length-append u h.front))
 
 array_byte : (text : List ℕ) (p : ℕ) → IsOpenArray text p → HasByte text p 91
 array_byte text p h =
     let (u, whole) = begins_suffix h.before text (h.key ++ 91 ∷ h.inside) h.entries in
-    (u ++ h.key, h.inside, whole ∙ sym (append_assoc u h.key (91 ∷ h.inside)), omega (arith, h.place_is, ap length whole, length-append u (h.key ++ 91 ∷ h.inside), length-append h.key (91 ∷ h.inside), length-append u h.key))
+    (u ++ h.key, h.inside, whole ∙ sym (append_assoc u h.key (91 ∷ h.inside)),
+        omega (arith, h.place_is, ap length whole, length-append u (h.key ++ 91 ∷ h.inside), length-append h.key (91 ∷ h.inside),
+        length-append u h.key))
 
 brace_byte : (text : List ℕ) (p : ℕ) → IsOpenBrace text p → HasByte text p 123
 brace_byte text p h =
@@ -86,10 +92,13 @@ unclosed_open n p a e = subst (MayEndOpen n) (sym e) tt
 
 halts_open : (c : Bool) (p : ℕ) (text : List ℕ) → Halts c p 0 start text → MayEndOpen (length text) (reading text)
 halts_open c p text (inl e) = unclosed_open (length text) p (reading text) e
-halts_open c p text (inr (inl stops)) = let n : 0 + length text ≡ length text = omega arith in stopped_open (length text) (reading text) (subst (λ n. IsStopped true n (reading text)) n stops)
+halts_open c p text (inr (inl stops)) =
+    let n : 0 + length text ≡ length text = omega arith in stopped_open (length text) (reading text)
+        (subst (λ n. IsStopped true n (reading text)) n stops)
 halts_open c p text (inr (inr (z, b, y, byte, parts, e))) = unclosed_open (length text) (0 + length z) (reading text) e
 
-string_open : (p : ℕ) (text : List ℕ) → (reading text ≡ refused (Unclosed p)) ⊎ IsStopped true (length text) (reading text) → MayEndOpen (length text) (reading text)
+string_open : (p : ℕ) (text : List ℕ) → (reading text ≡ refused (Unclosed p)) ⊎ IsStopped true (length text) (reading text)
+    → MayEndOpen (length text) (reading text)
 string_open p text (inl e) = unclosed_open (length text) p (reading text) e
 string_open p text (inr stops) = stopped_open (length text) (reading text) stops
 
@@ -121,7 +130,8 @@ array_place text p q e h = place (array_read text p h)
         let at : 0 + length z ≡ q = cc in
         inr (z, y, subst (λ k. text ≡ z ++ (k ∷ y)) byte parts, omega (arith, at))
 
-brace_place : (text : List ℕ) (p q : ℕ) → reading text ≡ refused (Unclosed q) → IsOpenBrace text p → (p ≡ q) ⊎ (HasByte text q 34 ⊎ HasByte text q 91)
+brace_place : (text : List ℕ) (p q : ℕ) → reading text ≡ refused (Unclosed q) → IsOpenBrace text p
+    → (p ≡ q) ⊎ (HasByte text q 34 ⊎ HasByte text q 91)
 brace_place text p q e h = place (brace_read text p h)
   where
     at_byte : (z y : List ℕ) (b : ℕ) → (b ≡ 34) ⊎ (b ≡ 91) → text ≡ z ++ (b ∷ y) → length z ≡ q → HasByte text q 34 ⊎ HasByte text q 91
@@ -150,8 +160,11 @@ no_array text p q e byte h = no (array_place text p q e h)
 
 open_innermost : (text : List ℕ) (q : ℕ) → reading text ≡ refused (Unclosed q) → IsOpen text q → IsInnermost text q
 open_innermost text q e (inl h) = inl h
-open_innermost text q e (inr (inl h)) = inr (inl (h, λ p s. no_string text p q 91 e (array_byte text q h) (λ k. absurd (omega (arith, k))) s))
-open_innermost text q e (inr (inr h)) = inr (inr (h, λ p. (λ s. no_string text p q 123 e (brace_byte text q h) (λ k. absurd (omega (arith, k))) s, λ a. no_array text p q e (brace_byte text q h) a)))
+open_innermost text q e (inr (inl h)) =
+    inr (inl (h, λ p s. no_string text p q 91 e (array_byte text q h) (λ k. absurd (omega (arith, k))) s))
+open_innermost text q e (inr (inr h)) =
+    inr (inr (h, λ p. (λ s. no_string text p q 123 e (brace_byte text q h) (λ k. absurd (omega (arith, k))) s,
+        λ a. no_array text p q e (brace_byte text q h) a)))
 
 array_only : (text : List ℕ) (p q : ℕ) → ((k : ℕ) → ¬ IsOpenString text k) → IsOpen text q → (p ≡ q) ⊎ HasByte text q 34 → p ≡ q
 array_only text p q none is (inl place) = place
@@ -159,7 +172,8 @@ array_only text p q none (inl h) (inr byte) = absurd (none q h)
 array_only text p q none (inr (inl h)) (inr byte) = absurd (omega (arith, one_byte text q 91 34 (array_byte text q h) byte))
 array_only text p q none (inr (inr h)) (inr byte) = absurd (omega (arith, one_byte text q 123 34 (brace_byte text q h) byte))
 
-brace_only : (text : List ℕ) (p q : ℕ) → ((k : ℕ) → ¬ IsOpenString text k × ¬ IsOpenArray text k) → IsOpen text q → (p ≡ q) ⊎ (HasByte text q 34 ⊎ HasByte text q 91) → p ≡ q
+brace_only : (text : List ℕ) (p q : ℕ) → ((k : ℕ) → ¬ IsOpenString text k × ¬ IsOpenArray text k) → IsOpen text q
+    → (p ≡ q) ⊎ (HasByte text q 34 ⊎ HasByte text q 91) → p ≡ q
 brace_only text p q none is (inl place) = place
 brace_only text p q none (inl h) (inr byte) = absurd ((none q).0 h)
 brace_only text p q none (inr (inl h)) (inr byte) = absurd ((none q).1 h)
@@ -190,7 +204,8 @@ keeps text e h same n = λ p less broken. no p broken
     no p (inr (inl k)) = token_only e (NumberTooWide p) h (sym (too_wide_refused text p k) ∙ same)
     no p (inr (inr k)) = token_only e (TooDeep p) h (sym (too_deep_refused text p k) ∙ same)
 
-not_bad : (n p : ℕ) (a : Result (List ConfEntry) ConfRefusal) (es : List ConfEntry) → a ≡ refused (BadToken p) → (a ≡ read es) ⊎ IsStopped false n a → ⊥
+not_bad : (n p : ℕ) (a : Result (List ConfEntry) ConfRefusal) (es : List ConfEntry) → a ≡ refused (BadToken p)
+    → (a ≡ read es) ⊎ IsStopped false n a → ⊥
 not_bad n p a es e (inl h) = not_both es (BadToken p) (sym h ∙ e)
 not_bad n p a es e (inr stops) = subst (IsStopped false n) e stops
 
@@ -200,9 +215,11 @@ not_begins text p e less (more, es, spells) =
     let front = take (suc p) text in
     let whole : reading (front ++ drop (suc p) text) ≡ refused (BadToken p) = ap reading (take-append-drop (suc p) text) ∙ e in
     let within : p < length front = omega (arith, length-take (suc p) text, less) in
-    not_bad (length (front ++ more)) p (reading (front ++ more)) es (bad_after front (drop (suc p) text) more p whole within) (spelled_read (front ++ more) es spells)
+    not_bad (length (front ++ more)) p (reading (front ++ more)) es (bad_after front (drop (suc p) text) more p whole within)
+        (spelled_read (front ++ more) es spells)
 
-bad_kind : (c : Bool) (text : List ℕ) (p : ℕ) → ltb p (length text) ≡ c → reading text ≡ refused (BadToken p) → p ≤ length text → Begins (take p text) → IsFirstBad text p ⊎ ((p ≡ length text) × IsCut text)
+bad_kind : (c : Bool) (text : List ℕ) (p : ℕ) → ltb p (length text) ≡ c → reading text ≡ refused (BadToken p) → p ≤ length text
+    → Begins (take p text) → IsFirstBad text p ⊎ ((p ≡ length text) × IsCut text)
 bad_kind true text p c e inside begins = let less = ltb-true p (length text) c in inl (less, begins, not_begins text p e less)
 bad_kind false text p c e inside begins =
     let last : p ≡ length text = omega (arith, inside, ltb-false p (length text) c) in
@@ -212,13 +229,15 @@ bad_kind false text p c e inside begins =
       (
         subst Begins whole begins,
         λ es spells. not_bad (length text) p (reading text) es e (spelled_read text es spells),
-        λ q innermost. let less : p < length text = subst (MayEndOpen (length text)) e (innermost_open text q innermost) in absurd (omega (arith, less, last)),
+        λ q innermost. let less : p < length text = subst (MayEndOpen (length text)) e (innermost_open text q innermost) in absurd
+            (omega (arith, less, last)),
       ),
     )
 
 told_cause : (text : List ℕ) (e : ConfRefusal) → reading text ≡ refused e → Tells 0 text (refused e) → IsCause text e
 told_cause text NoMemory e h = absurd h
-told_cause text (BadToken p) e (from, inside, begins) = (keeps text (BadToken p) tt e p, bad_kind (ltb p (length text)) text p refl e inside begins)
+told_cause text (BadToken p) e (from, inside, begins) =
+    (keeps text (BadToken p) tt e p, bad_kind (ltb p (length text)) text p refl e inside begins)
 told_cause text (Unclosed p) e (begins, is) = (keeps text (Unclosed p) tt e (length text), begins, open_innermost text p e is)
 told_cause text (DuplicateKey p) e h = h.0
 told_cause text (NumberTooWide p) e h = h.0
@@ -235,7 +254,8 @@ read_text text es same = subst (Tells 0 text) same (reading_told text)
 -- of two fronts, the shorter one
 shorter : (text : List ℕ) (n m : ℕ) → n ≤ m → m ≤ length text → Begins (take m text) → Begins (take n text)
 shorter text n m less inside h =
-    subst (λ z. Begins (take n z)) (take-append-drop m text) (begins_front (take m text) (drop m text) n (omega (arith, length-take m text, less, inside)) h)
+    subst (λ z. Begins (take n z)) (take-append-drop m text)
+        (begins_front (take m text) (drop m text) n (omega (arith, length-take m text, less, inside)) h)
 
 spelled_begins : (text : List ℕ) (es : List ConfEntry) → Spells text es → Begins text
 spelled_begins text es h = ([], es, subst (λ z. Spells z es) (sym (append-nil text)) h)
@@ -267,13 +287,15 @@ limit_not text p q none inside begins (inl h) = first_not text p (suc q) h (late
     later (inr more) = omega (arith, more)
 limit_not text p q none inside begins (inr (last, cut)) = none (omega (arith, last, inside))
 
-both_first : (text : List ℕ) (p q : ℕ) → reading text ≡ refused (BadToken q) → q ≤ length text → Begins (take q text) → IsFirstBad text p → (p ≡ q) ⊎ ((p < q) ⊎ (q < p)) → p ≡ q
+both_first : (text : List ℕ) (p q : ℕ) → reading text ≡ refused (BadToken q) → q ≤ length text → Begins (take q text) → IsFirstBad text p
+    → (p ≡ q) ⊎ ((p < q) ⊎ (q < p)) → p ≡ q
 both_first text p q e inside begins h (inl same) = same
 both_first text p q e inside begins h (inr (inl less)) = absurd (first_not text p q h less inside begins)
 both_first text p q e inside begins h (inr (inr less)) =
     absurd (not_begins text q e (omega (arith, less, h.0)) (shorter text (suc q) p less (omega (arith, h.0)) h.1))
 
-cut_last : (text : List ℕ) (p q : ℕ) → reading text ≡ refused (BadToken q) → q ≤ length text → p ≡ length text → IsCut text → (q < length text) ⊎ (length text ≤ q) → p ≡ q
+cut_last : (text : List ℕ) (p q : ℕ) → reading text ≡ refused (BadToken q) → q ≤ length text → p ≡ length text → IsCut text
+    → (q < length text) ⊎ (length text ≤ q) → p ≡ q
 cut_last text p q e inside last cut (inl less) = absurd (not_begins text q e less (begins_less text (suc q) cut.0))
 cut_last text p q e inside last cut (inr more) = omega (arith, inside, last, more)
 
@@ -289,25 +311,32 @@ not_tree : (text : List ℕ) (p : ℕ) (es : List ConfEntry) → IsTextOf text e
 not_tree text p es is (inl h) = first_not_all text p h (spelled_begins text es is.spelled)
 not_tree text p es is (inr (last, cut)) = cut.1 es is.spelled
 
-bad_of : (text : List ℕ) (p : ℕ) (a : Result (List ConfEntry) ConfRefusal) → reading text ≡ a → Tells 0 text a → IsBadToken text p → a ≡ refused (BadToken p)
+bad_of : (text : List ℕ) (p : ℕ) (a : Result (List ConfEntry) ConfRefusal) → reading text ≡ a → Tells 0 text a → IsBadToken text p
+    → a ≡ refused (BadToken p)
 bad_of text p (Ok es) e h (keep, bad) = absurd (not_tree text p es h bad)
 bad_of text p (Err NoMemory) e h (keep, bad) = absurd h
-bad_of text p (Err (BadToken q)) e (from, inside, begins) (keep, bad) = ap (λ z. refused (BadToken z)) (sym (same_bad text p q e inside begins bad))
+bad_of text p (Err (BadToken q)) e (from, inside, begins) (keep, bad) =
+    ap (λ z. refused (BadToken z)) (sym (same_bad text p q e inside begins bad))
 bad_of text p (Err (Unclosed q)) e (begins, is) (keep, bad) = absurd (not_unclosed text p q e begins is bad)
-bad_of text p (Err (DuplicateKey q)) e (h, begins) (keep, bad) = absurd (limit_not text p q (λ less. keep q less (inl h)) (duplicate_inside text q h) begins bad)
-bad_of text p (Err (NumberTooWide q)) e (h, begins) (keep, bad) = absurd (limit_not text p q (λ less. keep q less (inr (inl h))) (wide_inside text q h) begins bad)
-bad_of text p (Err (TooDeep q)) e (h, begins) (keep, bad) = absurd (limit_not text p q (λ less. keep q less (inr (inr h))) (deep_inside text q h) begins bad)
+bad_of text p (Err (DuplicateKey q)) e (h, begins) (keep, bad) =
+    absurd (limit_not text p q (λ less. keep q less (inl h)) (duplicate_inside text q h) begins bad)
+bad_of text p (Err (NumberTooWide q)) e (h, begins) (keep, bad) =
+    absurd (limit_not text p q (λ less. keep q less (inr (inl h))) (wide_inside text q h) begins bad)
+bad_of text p (Err (TooDeep q)) e (h, begins) (keep, bad) =
+    absurd (limit_not text p q (λ less. keep q less (inr (inr h))) (deep_inside text q h) begins bad)
 
 bad_open : (text : List ℕ) (p q : ℕ) → reading text ≡ refused (BadToken q) → Begins text → IsInnermost text p → ⊥
 bad_open text p q e begins innermost =
     let less : q < length text = subst (MayEndOpen (length text)) e (innermost_open text p innermost) in
     not_begins text q e less (begins_less text (suc q) begins)
 
-unclosed_of : (text : List ℕ) (p : ℕ) (a : Result (List ConfEntry) ConfRefusal) → reading text ≡ a → Tells 0 text a → IsUnclosed text p → a ≡ refused (Unclosed p)
+unclosed_of : (text : List ℕ) (p : ℕ) (a : Result (List ConfEntry) ConfRefusal) → reading text ≡ a → Tells 0 text a → IsUnclosed text p
+    → a ≡ refused (Unclosed p)
 unclosed_of text p (Ok es) e h (keep, begins, innermost) = absurd (subst (MayEndOpen (length text)) e (innermost_open text p innermost))
 unclosed_of text p (Err NoMemory) e h (keep, begins, innermost) = absurd h
 unclosed_of text p (Err (BadToken q)) e h (keep, begins, innermost) = absurd (bad_open text p q e begins innermost)
-unclosed_of text p (Err (Unclosed q)) e (starts, is) (keep, begins, innermost) = ap (λ z. refused (Unclosed z)) (sym (innermost_place text p q e is innermost))
+unclosed_of text p (Err (Unclosed q)) e (starts, is) (keep, begins, innermost) =
+    ap (λ z. refused (Unclosed z)) (sym (innermost_place text p q e is innermost))
 unclosed_of text p (Err (DuplicateKey q)) e (h, starts) (keep, begins, innermost) = absurd (keep q (duplicate_inside text q h) (inl h))
 unclosed_of text p (Err (NumberTooWide q)) e (h, starts) (keep, begins, innermost) = absurd (keep q (wide_inside text q h) (inr (inl h)))
 unclosed_of text p (Err (TooDeep q)) e (h, starts) (keep, begins, innermost) = absurd (keep q (deep_inside text q h) (inr (inr h)))

@@ -7,7 +7,8 @@ use Rattle.conf_text.specs.declared.refusal.ConfRefusal.TheVariants.{NoMemory, B
 use Rattle.conf_text.specs.ReaderViews.{Fails}
 use Rattle.conf_text.specs.Reader.{Reader, Read, ◌>>=◌, step, outcome, ended}
 
-pub outcome-drop : (text : List ℕ) (at : ℕ) (r : Reader) → at < length text → outcome at r (drop at text) ≡ (step at (get_or text at 0) r >>= λ s. outcome (at + 1) s (drop (at + 1) text))
+pub outcome-drop : (text : List ℕ) (at : ℕ) (r : Reader) → at < length text
+    → outcome at r (drop at text) ≡ (step at (get_or text at 0) r >>= λ s. outcome (at + 1) s (drop (at + 1) text))
 unfolding outcome
 outcome-drop text at r h =
     let next : suc at ≡ at + 1 = omega arith in

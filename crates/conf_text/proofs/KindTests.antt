@@ -2,7 +2,8 @@
 use Rattle.std.proofs.Common.{◌≡◌, ℕ, Bool, true, false, Some, None, refl, arith}
 use Rattle.std.proofs.lemmas.Bool.Decides.{nat_tests}
 use Rattle.conf_text.specs.declared.kind.Kind.{Kind}
-use Rattle.conf_text.specs.declared.kind.Kind.TheVariants.{Digit, Letter, LineFeed, Quote, Backslash, OpenBrace, CloseBrace, OpenBracket, CloseBracket, Equals, Comma, Zero, Other}
+use Rattle.conf_text.specs.declared.kind.Kind.TheVariants.{Digit, Letter, LineFeed, Quote, Backslash, OpenBrace, CloseBrace, OpenBracket,
+    CloseBracket, Equals, Comma, Zero, Other}
 use Rattle.conf_text.specs.Bytes.{kind}
 use Rattle.conf_text.specs.Grammar.{is_name, gap_byte, is_escaped, is_allowed}
 use Rattle.conf_text.specs.Scan.{is_quote, string_byte}
@@ -52,7 +53,8 @@ pub in_comment_bad : (k : Kind) → gap_byte true k ≡ None → may_stand true 
 in_comment_bad Zero e = refl
 in_comment_bad _ e = absurd cc
 
-pub nothing_bad : (k : Kind) → gap_byte false k ≡ None → is_name k ≡ false → is_quote k ≡ false → is_mark k ≡ false → may_stand false k ≡ false
+pub nothing_bad : (k : Kind) → gap_byte false k ≡ None → is_name k ≡ false → is_quote k ≡ false → is_mark k ≡ false
+    → may_stand false k ≡ false
 nothing_bad Backslash e f g h = refl
 nothing_bad Zero e f g h = refl
 nothing_bad Other e f g h = refl

@@ -19,28 +19,35 @@ gap_gap a b h k = gap_append false a b false false h k
 
 -- an array with a gap more
 pub array_gap : (ss : List Scalar) (s : Scalar) (list k : List ℕ) → IsArray list (s ∷ ss) → IsGap k → IsArray (list ++ k) (s ∷ ss)
-array_gap [] s list k (g, x, h, gap, scalar, gap_h, parts) gap_k = (g, x, h ++ k, gap, scalar, gap_gap h k gap_h gap_k, rw parts (simp append_assoc refl))
+array_gap [] s list k (g, x, h, gap, scalar, gap_h, parts) gap_k =
+    (g, x, h ++ k, gap, scalar, gap_gap h k gap_h gap_k, rw parts (simp append_assoc refl))
 array_gap (t ∷ ss) s list k (g, x, h, rest, gap, scalar, gap_h, others, parts) gap_k =
     (g, x, h, rest ++ k, gap, scalar, gap_h, array_gap ss t rest k others gap_k, rw parts (simp append_assoc refl))
 
 -- an array with a scalar more
-pub array_more : (ss : List Scalar) (s t : Scalar) (list k y : List ℕ) → IsArray list (s ∷ ss) → IsGap k → IsScalar y t → IsArray (list ++ (44 ∷ (k ++ y))) (s ∷ (ss ++ t ∷ []))
+pub array_more : (ss : List Scalar) (s t : Scalar) (list k y : List ℕ) → IsArray list (s ∷ ss) → IsGap k → IsScalar y t
+    → IsArray (list ++ (44 ∷ (k ++ y))) (s ∷ (ss ++ t ∷ []))
 array_more [] s t list k y (g, x, h, gap, scalar, gap_h, parts) gap_k last =
-    (g, x, h, k ++ y, gap, scalar, gap_h, (k, y, [], gap_k, last, refl, simp (append_assoc, append-nil) refl), rw parts (simp append_assoc refl))
+    (g, x, h, k ++ y, gap, scalar, gap_h, (k, y, [], gap_k, last, refl, simp (append_assoc, append-nil) refl),
+        rw parts (simp append_assoc refl))
 array_more (u ∷ ss) s t list k y (g, x, h, rest, gap, scalar, gap_h, others, parts) gap_k last =
     (g, x, h, rest ++ (44 ∷ (k ++ y)), gap, scalar, gap_h, array_more ss u t rest k y others gap_k last, rw parts (simp append_assoc refl))
 
 -- ---- texts that begin with entries
 
 -- one entry more
-pub begins_more : (es : List ConfEntry) (text x more : List ℕ) (e : ConfEntry) → BeginsWith text es (x ++ more) → IsEntry x e → EndsEntry e more → BeginsWith text (es ++ e ∷ []) more
+pub begins_more : (es : List ConfEntry) (text x more : List ℕ) (e : ConfEntry) → BeginsWith text es (x ++ more) → IsEntry x e
+    → EndsEntry e more → BeginsWith text (es ++ e ∷ []) more
 begins_more [] text x more e same entry ends = (x, more, same, entry, ends, refl)
-begins_more (f ∷ es) text x more e (y, rest, parts, first, first_ends, others) entry ends = (y, rest, parts, first, first_ends, begins_more es rest x more e others entry ends)
+begins_more (f ∷ es) text x more e (y, rest, parts, first, first_ends, others) entry ends =
+    (y, rest, parts, first, first_ends, begins_more es rest x more e others entry ends)
 
 -- more entries
-pub begins_both : (es fs : List ConfEntry) (text middle rest : List ℕ) → BeginsWith text es middle → BeginsWith middle fs rest → BeginsWith text (es ++ fs) rest
+pub begins_both : (es fs : List ConfEntry) (text middle rest : List ℕ) → BeginsWith text es middle → BeginsWith middle fs rest
+    → BeginsWith text (es ++ fs) rest
 begins_both [] fs text middle rest same others = subst (λ x. BeginsWith x fs rest) (sym same) others
-begins_both (e ∷ es) fs text middle rest (x, more, parts, entry, ends, inner) others = (x, more, parts, entry, ends, begins_both es fs more middle rest inner others)
+begins_both (e ∷ es) fs text middle rest (x, more, parts, entry, ends, inner) others =
+    (x, more, parts, entry, ends, begins_both es fs more middle rest inner others)
 
 -- the rest is the end of the text
 pub begins_suffix : (es : List ConfEntry) (text rest : List ℕ) → BeginsWith text es rest → (front : List ℕ) × (text ≡ front ++ rest)

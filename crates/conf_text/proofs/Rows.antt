@@ -14,12 +14,18 @@ unfolding outcome step ended kind
 open_brace = refl
 
 -- 'a{a{a{a{a{a{a{a{a{a{a{a{a{a{a{a{a{'
-seventeen : reading (97 ∷ 123 ∷ 97 ∷ 123 ∷ 97 ∷ 123 ∷ 97 ∷ 123 ∷ 97 ∷ 123 ∷ 97 ∷ 123 ∷ 97 ∷ 123 ∷ 97 ∷ 123 ∷ 97 ∷ 123 ∷ 97 ∷ 123 ∷ 97 ∷ 123 ∷ 97 ∷ 123 ∷ 97 ∷ 123 ∷ 97 ∷ 123 ∷ 97 ∷ 123 ∷ 97 ∷ 123 ∷ 97 ∷ 123 ∷ []) ≡ Err (TooDeep 33)
+seventeen : reading (97 ∷ 123 ∷ 97 ∷ 123 ∷ 97 ∷ 123 ∷ 97 ∷ 123 ∷ 97 ∷ 123 ∷ 97 ∷ 123 ∷ 97 ∷ 123 ∷ 97 ∷ 123 ∷ 97 ∷ 123 ∷ 97 ∷ 123 ∷ 97 ∷ 123
+    ∷ 97 ∷ 123 ∷ 97 ∷ 123 ∷ 97 ∷ 123 ∷ 97 ∷ 123 ∷ 97 ∷ 123 ∷ 97 ∷ 123 ∷ []) ≡ Err (TooDeep 33)
 unfolding outcome step ended kind
 seventeen = refl
 
 -- 'a{a{a{a{a{a{a{a{a{a{a{a{a{a{a{a{}}}}}}}}}}}}}}}}'
-sixteen : reading (97 ∷ 123 ∷ 97 ∷ 123 ∷ 97 ∷ 123 ∷ 97 ∷ 123 ∷ 97 ∷ 123 ∷ 97 ∷ 123 ∷ 97 ∷ 123 ∷ 97 ∷ 123 ∷ 97 ∷ 123 ∷ 97 ∷ 123 ∷ 97 ∷ 123 ∷ 97 ∷ 123 ∷ 97 ∷ 123 ∷ 97 ∷ 123 ∷ 97 ∷ 123 ∷ 97 ∷ 123 ∷ 125 ∷ 125 ∷ 125 ∷ 125 ∷ 125 ∷ 125 ∷ 125 ∷ 125 ∷ 125 ∷ 125 ∷ 125 ∷ 125 ∷ 125 ∷ 125 ∷ 125 ∷ 125 ∷ []) ≡ Ok (Open (97 ∷ []) ∷ Open (97 ∷ []) ∷ Open (97 ∷ []) ∷ Open (97 ∷ []) ∷ Open (97 ∷ []) ∷ Open (97 ∷ []) ∷ Open (97 ∷ []) ∷ Open (97 ∷ []) ∷ Open (97 ∷ []) ∷ Open (97 ∷ []) ∷ Open (97 ∷ []) ∷ Open (97 ∷ []) ∷ Open (97 ∷ []) ∷ Open (97 ∷ []) ∷ Open (97 ∷ []) ∷ Open (97 ∷ []) ∷ Close ∷ Close ∷ Close ∷ Close ∷ Close ∷ Close ∷ Close ∷ Close ∷ Close ∷ Close ∷ Close ∷ Close ∷ Close ∷ Close ∷ Close ∷ Close ∷ [])
+sixteen : reading (97 ∷ 123 ∷ 97 ∷ 123 ∷ 97 ∷ 123 ∷ 97 ∷ 123 ∷ 97 ∷ 123 ∷ 97 ∷ 123 ∷ 97 ∷ 123 ∷ 97 ∷ 123 ∷ 97 ∷ 123 ∷ 97 ∷ 123 ∷ 97 ∷ 123
+    ∷ 97 ∷ 123 ∷ 97 ∷ 123 ∷ 97 ∷ 123 ∷ 97 ∷ 123 ∷ 97 ∷ 123 ∷ 125 ∷ 125 ∷ 125 ∷ 125 ∷ 125 ∷ 125 ∷ 125 ∷ 125 ∷ 125 ∷ 125 ∷ 125 ∷ 125 ∷ 125
+    ∷ 125 ∷ 125 ∷ 125 ∷ []) ≡ Ok (Open (97 ∷ []) ∷ Open (97 ∷ []) ∷ Open (97 ∷ []) ∷ Open (97 ∷ []) ∷ Open (97 ∷ []) ∷ Open (97 ∷ [])
+    ∷ Open (97 ∷ []) ∷ Open (97 ∷ []) ∷ Open (97 ∷ []) ∷ Open (97 ∷ []) ∷ Open (97 ∷ []) ∷ Open (97 ∷ []) ∷ Open (97 ∷ []) ∷ Open (97 ∷ [])
+    ∷ Open (97 ∷ []) ∷ Open (97 ∷ []) ∷ Close ∷ Close ∷ Close ∷ Close ∷ Close ∷ Close ∷ Close ∷ Close ∷ Close ∷ Close ∷ Close ∷ Close
+    ∷ Close ∷ Close ∷ Close ∷ Close ∷ [])
 unfolding outcome step ended kind
 sixteen = refl
 
@@ -59,7 +65,8 @@ unfolding outcome step ended kind
 one_array = refl
 
 -- 'a=007#c\nb="x\\"\\\\"'
-two_items : reading (97 ∷ 61 ∷ 48 ∷ 48 ∷ 55 ∷ 35 ∷ 99 ∷ 10 ∷ 98 ∷ 61 ∷ 34 ∷ 120 ∷ 92 ∷ 34 ∷ 92 ∷ 92 ∷ 34 ∷ []) ≡ Ok (Assign (97 ∷ []) (One (Number 7)) ∷ Assign (98 ∷ []) (One (Text (120 ∷ 34 ∷ 92 ∷ []))) ∷ [])
+two_items : reading (97 ∷ 61 ∷ 48 ∷ 48 ∷ 55 ∷ 35 ∷ 99 ∷ 10 ∷ 98 ∷ 61 ∷ 34 ∷ 120 ∷ 92 ∷ 34 ∷ 92 ∷ 92 ∷ 34 ∷ [])
+    ≡ Ok (Assign (97 ∷ []) (One (Number 7)) ∷ Assign (98 ∷ []) (One (Text (120 ∷ 34 ∷ 92 ∷ []))) ∷ [])
 unfolding outcome step ended kind
 two_items = refl
 
@@ -69,17 +76,20 @@ unfolding outcome step ended kind
 empty_array = refl
 
 -- 'a=18446744073709551615'
-widest : reading (97 ∷ 61 ∷ 49 ∷ 56 ∷ 52 ∷ 52 ∷ 54 ∷ 55 ∷ 52 ∷ 52 ∷ 48 ∷ 55 ∷ 51 ∷ 55 ∷ 48 ∷ 57 ∷ 53 ∷ 53 ∷ 49 ∷ 54 ∷ 49 ∷ 53 ∷ []) ≡ Ok (Assign (97 ∷ []) (One (Number 18446744073709551615)) ∷ [])
+widest : reading (97 ∷ 61 ∷ 49 ∷ 56 ∷ 52 ∷ 52 ∷ 54 ∷ 55 ∷ 52 ∷ 52 ∷ 48 ∷ 55 ∷ 51 ∷ 55 ∷ 48 ∷ 57 ∷ 53 ∷ 53 ∷ 49 ∷ 54 ∷ 49 ∷ 53 ∷ [])
+    ≡ Ok (Assign (97 ∷ []) (One (Number 18446744073709551615)) ∷ [])
 unfolding outcome step ended kind
 widest = refl
 
 -- 'a=[1, 18446744073709551616'
-too_wide : reading (97 ∷ 61 ∷ 91 ∷ 49 ∷ 44 ∷ 32 ∷ 49 ∷ 56 ∷ 52 ∷ 52 ∷ 54 ∷ 55 ∷ 52 ∷ 52 ∷ 48 ∷ 55 ∷ 51 ∷ 55 ∷ 48 ∷ 57 ∷ 53 ∷ 53 ∷ 49 ∷ 54 ∷ 49 ∷ 54 ∷ []) ≡ Err (NumberTooWide 6)
+too_wide : reading (97 ∷ 61 ∷ 91 ∷ 49 ∷ 44 ∷ 32 ∷ 49 ∷ 56 ∷ 52 ∷ 52 ∷ 54 ∷ 55 ∷ 52 ∷ 52 ∷ 48 ∷ 55 ∷ 51 ∷ 55 ∷ 48 ∷ 57 ∷ 53 ∷ 53 ∷ 49 ∷ 54
+    ∷ 49 ∷ 54 ∷ []) ≡ Err (NumberTooWide 6)
 unfolding outcome step ended kind
 too_wide = refl
 
 -- 'a=99999999999999999999x'
-word_after_digits : reading (97 ∷ 61 ∷ 57 ∷ 57 ∷ 57 ∷ 57 ∷ 57 ∷ 57 ∷ 57 ∷ 57 ∷ 57 ∷ 57 ∷ 57 ∷ 57 ∷ 57 ∷ 57 ∷ 57 ∷ 57 ∷ 57 ∷ 57 ∷ 57 ∷ 57 ∷ 120 ∷ []) ≡ Err (BadToken 22)
+word_after_digits : reading (97 ∷ 61 ∷ 57 ∷ 57 ∷ 57 ∷ 57 ∷ 57 ∷ 57 ∷ 57 ∷ 57 ∷ 57 ∷ 57 ∷ 57 ∷ 57 ∷ 57 ∷ 57 ∷ 57 ∷ 57 ∷ 57 ∷ 57 ∷ 57 ∷ 57
+    ∷ 120 ∷ []) ≡ Err (BadToken 22)
 unfolding outcome step ended kind
 word_after_digits = refl
 
@@ -94,7 +104,8 @@ unfolding outcome step ended kind
 given_inside = refl
 
 -- 'a{b=1}c{b=1}'
-given_in_another : reading (97 ∷ 123 ∷ 98 ∷ 61 ∷ 49 ∷ 125 ∷ 99 ∷ 123 ∷ 98 ∷ 61 ∷ 49 ∷ 125 ∷ []) ≡ Ok (Open (97 ∷ []) ∷ Assign (98 ∷ []) (One (Number 1)) ∷ Close ∷ Open (99 ∷ []) ∷ Assign (98 ∷ []) (One (Number 1)) ∷ Close ∷ [])
+given_in_another : reading (97 ∷ 123 ∷ 98 ∷ 61 ∷ 49 ∷ 125 ∷ 99 ∷ 123 ∷ 98 ∷ 61 ∷ 49 ∷ 125 ∷ [])
+    ≡ Ok (Open (97 ∷ []) ∷ Assign (98 ∷ []) (One (Number 1)) ∷ Close ∷ Open (99 ∷ []) ∷ Assign (98 ∷ []) (One (Number 1)) ∷ Close ∷ [])
 unfolding outcome step ended kind
 given_in_another = refl
 
@@ -139,7 +150,8 @@ unfolding outcome step ended kind
 zero_in_comment = refl
 
 -- 'a="x"b=1'
-string_then_name : reading (97 ∷ 61 ∷ 34 ∷ 120 ∷ 34 ∷ 98 ∷ 61 ∷ 49 ∷ []) ≡ Ok (Assign (97 ∷ []) (One (Text (120 ∷ []))) ∷ Assign (98 ∷ []) (One (Number 1)) ∷ [])
+string_then_name : reading (97 ∷ 61 ∷ 34 ∷ 120 ∷ 34 ∷ 98 ∷ 61 ∷ 49 ∷ [])
+    ≡ Ok (Assign (97 ∷ []) (One (Text (120 ∷ []))) ∷ Assign (98 ∷ []) (One (Number 1)) ∷ [])
 unfolding outcome step ended kind
 string_then_name = refl
 
@@ -149,7 +161,8 @@ unfolding outcome step ended kind
 digits_as_name = refl
 
 -- 'a{a{a{a{a{a{a{a{a{a{a{a{a{a{a{a{b=1 b{'
-given_before_deep : reading (97 ∷ 123 ∷ 97 ∷ 123 ∷ 97 ∷ 123 ∷ 97 ∷ 123 ∷ 97 ∷ 123 ∷ 97 ∷ 123 ∷ 97 ∷ 123 ∷ 97 ∷ 123 ∷ 97 ∷ 123 ∷ 97 ∷ 123 ∷ 97 ∷ 123 ∷ 97 ∷ 123 ∷ 97 ∷ 123 ∷ 97 ∷ 123 ∷ 97 ∷ 123 ∷ 97 ∷ 123 ∷ 98 ∷ 61 ∷ 49 ∷ 32 ∷ 98 ∷ 123 ∷ []) ≡ Err (DuplicateKey 36)
+given_before_deep : reading (97 ∷ 123 ∷ 97 ∷ 123 ∷ 97 ∷ 123 ∷ 97 ∷ 123 ∷ 97 ∷ 123 ∷ 97 ∷ 123 ∷ 97 ∷ 123 ∷ 97 ∷ 123 ∷ 97 ∷ 123 ∷ 97 ∷ 123
+    ∷ 97 ∷ 123 ∷ 97 ∷ 123 ∷ 97 ∷ 123 ∷ 97 ∷ 123 ∷ 97 ∷ 123 ∷ 97 ∷ 123 ∷ 98 ∷ 61 ∷ 49 ∷ 32 ∷ 98 ∷ 123 ∷ []) ≡ Err (DuplicateKey 36)
 unfolding outcome step ended kind
 given_before_deep = refl
 

@@ -85,7 +85,8 @@ IsScalar bytes (Text s) = IsContent s × (bytes ≡ 34 ∷ escaped s ++ 34 ∷ [
 abbrev pub IsArray : List ℕ → List Scalar → Type 0
 IsArray bytes [] = IsGap bytes
 IsArray bytes (s ∷ []) = (g x h : List ℕ) × IsGap g × IsScalar x s × IsGap h × (bytes ≡ g ++ x ++ h)
-IsArray bytes (s ∷ t ∷ ss) = (g x h rest : List ℕ) × IsGap g × IsScalar x s × IsGap h × IsArray rest (t ∷ ss) × (bytes ≡ g ++ x ++ h ++ 44 ∷ rest)
+IsArray bytes (s ∷ t ∷ ss) =
+    (g x h rest : List ℕ) × IsGap g × IsScalar x s × IsGap h × IsArray rest (t ∷ ss) × (bytes ≡ g ++ x ++ h ++ 44 ∷ rest)
 
 -- a scalar, or an array in brackets
 abbrev pub IsValue : List ℕ → Value → Type 0

@@ -5,7 +5,8 @@ use Rattle.std.specs.Str.Parse.{digits_value}
 use Rattle.conf_text.specs.declared.refusal.ConfRefusal.{ConfRefusal}
 use Rattle.conf_text.specs.declared.refusal.ConfRefusal.TheVariants.{NoMemory, BadToken, Unclosed, DuplicateKey, NumberTooWide, TooDeep}
 use Rattle.conf_text.specs.Entries.{Scalar, ConfEntry, Open, sections, is_given, fits_scalar, IsBalanced, KeepsLimits}
-use Rattle.conf_text.specs.Grammar.{IsName, IsDigits, EndsWord, IsGap, IsContent, escaped, IsArray, IsKey, IsHeader, IsEntry, BeginsWith, Spells}
+use Rattle.conf_text.specs.Grammar.{IsName, IsDigits, EndsWord, IsGap, IsContent, escaped, IsArray, IsKey, IsHeader, IsEntry, BeginsWith,
+    Spells}
 
 -- the place where the rest of the text begins
 abbrev pub IsPlace : List ℕ → List ℕ → ℕ → Type 0
@@ -14,7 +15,8 @@ IsPlace text rest place = place + length rest ≡ length text
 -- what stands before a scalar: the key, and in an array the bracket and the scalars before
 abbrev pub IsBeforeScalar : List ℕ → List ℕ → List Scalar → Type 0
 IsBeforeScalar bytes name [] = IsKey bytes name ⊎ ((key g : List ℕ) × IsKey key name × IsGap g × (bytes ≡ key ++ 91 ∷ g))
-IsBeforeScalar bytes name (s ∷ ss) = (key list g : List ℕ) × IsKey key name × IsArray list (s ∷ ss) × IsGap g × (bytes ≡ key ++ 91 ∷ list ++ 44 ∷ g)
+IsBeforeScalar bytes name (s ∷ ss) =
+    (key list g : List ℕ) × IsKey key name × IsArray list (s ∷ ss) × IsGap g × (bytes ≡ key ++ 91 ∷ list ++ 44 ∷ g)
 
 -- ---- the limits
 

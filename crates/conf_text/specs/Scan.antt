@@ -79,7 +79,8 @@ string_went from None at = Err (BadToken at)
 
 -- a byte where a string is open
 abbrev pub in_string : Bool → ℕ → Kind → ℕ → Step
-in_string slash from k at = if closes slash k then Ok (token from (at + 1) Text ∷ [], Between false) else string_went from (string_byte slash k) at
+in_string slash from k at =
+    if closes slash k then Ok (token from (at + 1) Text ∷ [], Between false) else string_went from (string_byte slash k) at
 
 -- a byte in any of the modes
 abbrev pub step : Mode → Kind → ℕ → Step

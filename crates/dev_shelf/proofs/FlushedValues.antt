@@ -11,17 +11,20 @@ use Rattle.disk_model.specs.ValueList.{values}
 use Rattle.dev_shelf.specs.DiskRow.{step_at}
 use Rattle.disk_model.proofs.ValueLists.{sole_stays}
 
-module _ (opened : Image) (written : List (List ℕ)) (earlier : List Step) (step : RecordedStep) (tag : ℕ) (work : RecordedWork) (disk fresh pv sector : ℕ) (well : Bool)
+module _ (opened : Image) (written : List (List ℕ)) (earlier : List Step) (step : RecordedStep) (tag : ℕ) (work : RecordedWork)
+    (disk fresh pv sector : ℕ) (well : Bool)
     (is : step ≡ Ended tag work well fresh) (flushes : work ≡ Flushes disk) where
   -- the values stay
   abbrev Stay : RecordedStep → Type 0
   Stay s = values opened (step_at written s ∷ earlier) pv sector ≡ values opened earlier pv sector
 
   -- a value that is alone stays
-  pub flush_sole : well ≡ true → disk ≡ pv → IsRecord (step_at written step ∷ earlier) → length (values opened earlier pv sector) ≤ 1 → Stay step
+  pub flush_sole : well ≡ true → disk ≡ pv → IsRecord (step_at written step ∷ earlier) → length (values opened earlier pv sector) ≤ 1
+      → Stay step
   flush_sole went here follows sole =
       let e : step ≡ Ended tag (Flushes pv) true fresh = cc in
-      subst (λ (s : RecordedStep). IsRecord (step_at written s ∷ earlier) → Stay s) (sym e) (λ r. sole_stays opened earlier tag pv sector (replicate fresh true) r sole) follows
+      subst (λ (s : RecordedStep). IsRecord (step_at written s ∷ earlier) → Stay s) (sym e)
+          (λ r. sole_stays opened earlier tag pv sector (replicate fresh true) r sole) follows
 
   -- the values of another disk stay
   pub flush_other : (disk ≡ pv → ⊥) → Stay step

@@ -19,7 +19,8 @@ abbrev pub ready_tags : PlanLeft → List Step → List Operation → List ℕ
 ready_tags plan steps os = tags_of (filter (λ o. not (is_held plan steps o)) os)
 
 -- one operation more
-ready_more : (plan : PlanLeft) (steps : List Step) (os more : List Operation) (t : ℕ) → Contains (ready_tags plan steps os) t → Contains (ready_tags plan steps (os ++ more)) t
+ready_more : (plan : PlanLeft) (steps : List Step) (os more : List Operation) (t : ℕ) → Contains (ready_tags plan steps os) t
+    → Contains (ready_tags plan steps (os ++ more)) t
 ready_more plan steps os more t h =
     let p : Operation → Bool = λ o. not (is_held plan steps o) in
     let tag : Operation → ℕ = λ o. o.tag in
@@ -28,7 +29,8 @@ ready_more plan steps os more t h =
     subst (λ (l : List ℕ). Contains l t) (sym parts) (Contains-append_left (tags_of (filter p os)) (tags_of (filter p more)) t h)
 
 -- the row's submission is one of the shelf
-pub submits_back : (plan : PlanLeft) (old new : DiskRow) (op : Op) (tag : ℕ) → Submits (state_of old) op tag (state_of new) → Submits (held_back plan (state_of old)) op tag (held_back plan (state_of new))
+pub submits_back : (plan : PlanLeft) (old new : DiskRow) (op : Op) (tag : ℕ) → Submits (state_of old) op tag (state_of new)
+    → Submits (held_back plan (state_of old)) op tag (held_back plan (state_of new))
 submits_back plan old new op tag submits =
     let steps : steps_of new ≡ Submitted tag (work_of op) ∷ steps_of old = ap (λ (o : Option Record). steps_told o) submits.told in
     record {
@@ -37,7 +39,8 @@ submits_back plan old new op tag submits =
       in_flight = submits.in_flight;
       ready = λ t h.
           subst (λ (l : List Step). Contains (ready_tags plan l (state_of new).in_flight) t) (sym steps)
-          (subst (λ (l : List Operation). Contains (ready_tags plan (Submitted tag (work_of op) ∷ steps_of old) l) t) (sym submits.in_flight)
+          (subst (λ (l : List Operation). Contains (ready_tags plan (Submitted tag (work_of op) ∷ steps_of old) l) t)
+              (sym submits.in_flight)
           (ready_more plan (steps_of old) (state_of old).in_flight (record { tag = tag; work = work_of op } ∷ []) t h));
       told = submits.told;
       spare_ops = submits.spare_ops;
@@ -48,7 +51,8 @@ submits_back plan old new op tag submits =
     }
 
 -- and so is its completion
-pub completes_back : (plan : PlanLeft) (old new : DiskRow) (done : Done) → Completes (state_of old) done (state_of new) → Completes (held_back plan (state_of old)) done (held_back plan (state_of new))
+pub completes_back : (plan : PlanLeft) (old new : DiskRow) (done : Done) → Completes (state_of old) done (state_of new)
+    → Completes (held_back plan (state_of old)) done (held_back plan (state_of new))
 completes_back plan old new done completes =
     let step : Step = Completed done.tag (work_of done.op) done.well completes.told.0 in
     let steps : steps_of new ≡ step ∷ steps_of old = ap (λ (o : Option Record). steps_told o) completes.told.1 in
@@ -62,7 +66,8 @@ completes_back plan old new done completes =
       ready = λ t h other.
           subst (λ (l : List Step). Contains (ready_tags plan l (state_of new).in_flight) t) (sym steps)
           (subst (λ (l : List Operation). Contains (ready_tags plan (step ∷ steps_of old) l) t) (sym completes.in_flight)
-          (others_pass p q (ready_after done.tag (work_of done.op) done.well completes.told.0 (steps_of old) plan) done.tag (state_of old).in_flight t h other));
+          (others_pass p q (ready_after done.tag (work_of done.op) done.well completes.told.0 (steps_of old) plan) done.tag
+              (state_of old).in_flight t h other));
       told = completes.told;
       reads = completes.reads;
       spare_ops = completes.spare_ops;
@@ -74,7 +79,8 @@ completes_back plan old new done completes =
     }
 
 -- and so is a reservation
-pub reserves_back : (plan : PlanLeft) (old new : State) (ops sectors : ℕ) → Reserves old ops sectors new → Reserves (held_back plan old) ops sectors (held_back plan new)
+pub reserves_back : (plan : PlanLeft) (old new : State) (ops sectors : ℕ) → Reserves old ops sectors new
+    → Reserves (held_back plan old) ops sectors (held_back plan new)
 reserves_back plan old new ops sectors reserves = record {
   ops = reserves.ops;
   sectors = reserves.sectors;

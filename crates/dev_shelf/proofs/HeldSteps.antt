@@ -1,5 +1,6 @@
 -- What is held, as steps are added: a submission holds nothing more, and neither does a completion.
-use Rattle.std.proofs.Common.{◌≡◌, ◌≢◌, ◌⊎◌, inl, inr, ◌<◌, ℕ, nat_le, nat_lt, Bool, true, false, not, ◌==◌, zero, suc, ◌&&◌, ◌||◌, if◌then◌else◌, cond, List, [], ◌∷◌, filter, Contains, ⊎_elim, refl, sym, ap, subst, ◌∙◌, arith}
+use Rattle.std.proofs.Common.{◌≡◌, ◌≢◌, ◌⊎◌, inl, inr, ◌<◌, ℕ, nat_le, nat_lt, Bool, true, false, not, ◌==◌, zero, suc, ◌&&◌, ◌||◌,
+    if◌then◌else◌, cond, List, [], ◌∷◌, filter, Contains, ⊎_elim, refl, sym, ap, subst, ◌∙◌, arith}
 use Rattle.std.specs.List.{list_any}
 use Rattle.std.proofs.lemmas.Bool.Decides.{eqb_tells}
 use Rattle.std.proofs.lemmas.List.Elements.{Contains-append_right}
@@ -24,10 +25,12 @@ or_right true c h = refl
 or_right false c h = h
 
 -- what passes a test passes a weaker one
-any_weaker : {X : Type 0} (p q : X → Bool) → ((x : X) → p x ≡ true → q x ≡ true) → (xs : List X) → list_any p xs ≡ true → list_any q xs ≡ true
+any_weaker : {X : Type 0} (p q : X → Bool) → ((x : X) → p x ≡ true → q x ≡ true) → (xs : List X) → list_any p xs ≡ true
+    → list_any q xs ≡ true
 any_weaker p q h [] e = e
 any_weaker p q h (x ∷ xs) e =
-    ⊎_elim (λ here. or_left (q x) (list_any q xs) (h x here)) (λ later. or_right (q x) (list_any q xs) (any_weaker p q h xs later)) (or_cases (p x) (list_any p xs) e)
+    ⊎_elim (λ here. or_left (q x) (list_any q xs) (h x here)) (λ later. or_right (q x) (list_any q xs) (any_weaker p q h xs later))
+        (or_cases (p x) (list_any p xs) e)
 
 -- and so with one more in front
 any_more : (b : Bool) (q : ℕ → Bool) (tag : ℕ) (tags : List ℕ) → list_any q tags ≡ true → list_any q (if b then tag ∷ tags else tags) ≡ true
@@ -40,10 +43,12 @@ module _ (tag : ℕ) (work : Work) (well : Bool) (fresh : List Bool) (steps : Li
   come_more hold h =
       let wrote : Work → Bool = λ w. writes w hold.until_pv hold.until in
       let before : ℕ → Bool = λ write. list_any (λ flush. nat_lt write flush) (done_well (flushes hold.until_pv) steps) in
-      let after : ℕ → Bool = λ write. list_any (λ flush. nat_lt write flush) (done_well (flushes hold.until_pv) (Completed tag work well fresh ∷ steps)) in
+      let after : ℕ → Bool =
+          λ write. list_any (λ flush. nat_lt write flush) (done_well (flushes hold.until_pv) (Completed tag work well fresh ∷ steps)) in
       any_more (well && wrote work) after tag (done_well wrote steps)
       (any_weaker before after
-      (λ write e. any_more (well && flushes hold.until_pv work) (λ flush. nat_lt write flush) tag (done_well (flushes hold.until_pv) steps) e)
+      (λ write e. any_more (well && flushes hold.until_pv work) (λ flush. nat_lt write flush) tag (done_well (flushes hold.until_pv) steps)
+          e)
       (done_well wrote steps) h)
 
   kept_fewer : (a b c : Bool) → (b ≡ true → c ≡ true) → (a && not c) ≡ true → (a && not b) ≡ true
@@ -55,7 +60,8 @@ module _ (tag : ℕ) (work : Work) (well : Bool) (fresh : List Bool) (steps : Li
   and_weaker false b c h e = e
   and_weaker true b c h e = h e
 
-  held_before : (plan : PlanLeft) (o : Operation) → is_held plan (Completed tag work well fresh ∷ steps) o ≡ true → is_held plan steps o ≡ true
+  held_before : (plan : PlanLeft) (o : Operation) → is_held plan (Completed tag work well fresh ∷ steps) o ≡ true
+      → is_held plan steps o ≡ true
   held_before plan o =
       let later : List Step = Completed tag work well fresh ∷ steps in
       and_weaker (nat_le plan.let_go o.tag) (list_any (keeps_back later o) plan.holds) (list_any (keeps_back steps o) plan.holds)
@@ -68,15 +74,18 @@ module _ (tag : ℕ) (work : Work) (well : Bool) (fresh : List Bool) (steps : Li
   not_fewer b true h e = absurd (let is : b ≡ true = h refl in cc)
 
   -- so what is ready stays so
-  pub ready_after : (plan : PlanLeft) (o : Operation) → not (is_held plan steps o) ≡ true → not (is_held plan (Completed tag work well fresh ∷ steps) o) ≡ true
+  pub ready_after : (plan : PlanLeft) (o : Operation) → not (is_held plan steps o) ≡ true
+      → not (is_held plan (Completed tag work well fresh ∷ steps) o) ≡ true
   ready_after plan o = not_fewer (is_held plan steps o) (is_held plan (Completed tag work well fresh ∷ steps) o) (held_before plan o)
 
 -- one more is ready, or isn't
-contains_more : (b : Bool) (o : Operation) (os : List Operation) (t : ℕ) → Contains (tags_of os) t → Contains (tags_of (cond b (o ∷ os) os)) t
+contains_more : (b : Bool) (o : Operation) (os : List Operation) (t : ℕ) → Contains (tags_of os) t
+    → Contains (tags_of (cond b (o ∷ os) os)) t
 contains_more true o os t h = Contains-append_right (o.tag ∷ []) (tags_of os) t h
 contains_more false o os t h = h
 
-filtered_more : (q : Operation → Bool) (c : Bool) (o : Operation) (os : List Operation) (t : ℕ) → Contains (tags_of (filter q os)) t → Contains (tags_of (filter q (cond c (o ∷ os) os))) t
+filtered_more : (q : Operation → Bool) (c : Bool) (o : Operation) (os : List Operation) (t : ℕ) → Contains (tags_of (filter q os)) t
+    → Contains (tags_of (filter q (cond c (o ∷ os) os))) t
 filtered_more q true o os t h = contains_more (q o) o (filter q os) t h
 filtered_more q false o os t h = h
 
@@ -114,5 +123,6 @@ others_pass p q h tag (o ∷ os) t was other =
     subst (λ (x : ℕ). Contains (tags_of (filter q (cond c (o ∷ rest) rest))) x) here
     (rw kept (here_passes q o rest (h o passes))))
     later
-    (contains_cons o.tag (tags_of (filter p os)) t (subst (λ (b : Bool). Contains (tags_of (cond b (o ∷ filter p os) (filter p os))) t) passes was)))
+    (contains_cons o.tag (tags_of (filter p os)) t
+        (subst (λ (b : Bool). Contains (tags_of (cond b (o ∷ filter p os) (filter p os))) t) passes was)))
     (is_either (p o))

@@ -1,5 +1,6 @@
 -- What a row in memory reads off its record about holds is what the contracts say of the record.
-use Rattle.std.proofs.Common.{◌≡◌, ◌≢◌, ◌<◌, ◌↔◌, ℕ, nat_le, nat_lt, IsTrue, Bool, true, false, not, ◌==◌, ◌&&◌, ◌||◌, if◌then◌else◌, cond, List, [], ◌∷◌, length, map, filter, replicate, ⊎_elim, refl, sym, ap, subst, arith, ◌∙◌}
+use Rattle.std.proofs.Common.{◌≡◌, ◌≢◌, ◌<◌, ◌↔◌, ℕ, nat_le, nat_lt, IsTrue, Bool, true, false, not, ◌==◌, ◌&&◌, ◌||◌, if◌then◌else◌, cond,
+    List, [], ◌∷◌, length, map, filter, replicate, ⊎_elim, refl, sym, ap, subst, arith, ◌∙◌}
 use Rattle.std.specs.List.{list_any}
 use Rattle.std.proofs.Math.Bool.{or-false}
 use Rattle.std.proofs.Math.Path.{fun_ext}
@@ -31,7 +32,8 @@ or_swap false true c = refl
 or_swap false false c = refl
 
 -- whether it is a write of the sector, or a flush of the disk
-written_same : (written : List (List ℕ)) (work : RecordedWork) (pv sector : ℕ) → writes (work_at written work) pv sector ≡ is_written work pv sector
+written_same : (written : List (List ℕ)) (work : RecordedWork) (pv sector : ℕ)
+    → writes (work_at written work) pv sector ≡ is_written work pv sector
 written_same written (Reads span) pv sector = refl
 written_same written (Writes span from) pv sector = refl
 written_same written (Flushes disk) pv sector = refl
@@ -43,8 +45,10 @@ flush_same written (Flushes disk) pv = refl
 
 -- a test of those that completed well, step by step
 module _ (written : List (List ℕ)) (kind : Work → Bool) (q : ℕ → Bool) (one : RecordedStep → Bool)
-    (step : (r : RecordedStep) (earlier : List Step) → list_any q (done_well kind (step_at written r ∷ earlier)) ≡ (one r || list_any q (done_well kind earlier))) where
-  done_onto : (earlier : List Step) (rs : List RecordedStep) → list_any q (done_well kind (steps_onto written earlier rs)) ≡ (list_any one rs || list_any q (done_well kind earlier))
+    (step : (r : RecordedStep) (earlier : List Step)
+        → list_any q (done_well kind (step_at written r ∷ earlier)) ≡ (one r || list_any q (done_well kind earlier))) where
+  done_onto : (earlier : List Step) (rs : List RecordedStep)
+      → list_any q (done_well kind (steps_onto written earlier rs)) ≡ (list_any one rs || list_any q (done_well kind earlier))
   done_onto earlier [] = refl
   done_onto earlier (r ∷ rs) =
       done_onto (step_at written r ∷ earlier) rs
@@ -54,7 +58,8 @@ module _ (written : List (List ℕ)) (kind : Work → Bool) (q : ℕ → Bool) (
   done_all : (rs : List RecordedStep) → list_any q (done_well kind (steps_onto written [] rs)) ≡ list_any one rs
   done_all rs = done_onto [] rs ∙ or-false (list_any one rs)
 
-any_if : (b : Bool) (q : ℕ → Bool) (tag : ℕ) (tags : List ℕ) → list_any q (if b then tag ∷ tags else tags) ≡ ((b && q tag) || list_any q tags)
+any_if : (b : Bool) (q : ℕ → Bool) (tag : ℕ) (tags : List ℕ)
+    → list_any q (if b then tag ∷ tags else tags) ≡ ((b && q tag) || list_any q tags)
 any_if true q tag tags = refl
 any_if false q tag tags = refl
 
@@ -62,14 +67,17 @@ module _ (written : List (List ℕ)) (pv tag : ℕ) where
   abbrev after : ℕ → Bool
   after flush = nat_lt tag flush
 
-  flush_step : (r : RecordedStep) (earlier : List Step) → list_any after (done_well (flushes pv) (step_at written r ∷ earlier)) ≡ (is_flush_after pv tag r || list_any after (done_well (flushes pv) earlier))
+  flush_step : (r : RecordedStep) (earlier : List Step)
+      → list_any after (done_well (flushes pv) (step_at written r ∷ earlier))
+      ≡ (is_flush_after pv tag r || list_any after (done_well (flushes pv) earlier))
   flush_step (Began flush work) earlier = refl
   flush_step (Ended flush work true fresh) earlier =
       any_if (flushes pv (work_at written work)) after flush (done_well (flushes pv) earlier)
       ∙ ap (λ (b : Bool). (b && after flush) || list_any after (done_well (flushes pv) earlier)) (flush_same written work pv)
   flush_step (Ended flush work false fresh) earlier = refl
 
-  flush_all : (rs : List RecordedStep) → list_any after (done_well (flushes pv) (steps_onto written [] rs)) ≡ list_any (is_flush_after pv tag) rs
+  flush_all : (rs : List RecordedStep) → list_any after (done_well (flushes pv) (steps_onto written [] rs))
+      ≡ list_any (is_flush_after pv tag) rs
   flush_all rs = done_all written (flushes pv) after (is_flush_after pv tag) flush_step rs
 
 module _ (written : List (List ℕ)) (all : List RecordedStep) (hold : Hold) where
@@ -79,7 +87,9 @@ module _ (written : List (List ℕ)) (all : List RecordedStep) (hold : Hold) whe
   abbrev flushed : ℕ → Bool
   flushed write = list_any (λ flush. nat_lt write flush) (done_well (flushes hold.until_pv) (steps_onto written [] all))
 
-  write_step : (r : RecordedStep) (earlier : List Step) → list_any flushed (done_well wrote (step_at written r ∷ earlier)) ≡ (is_flushed_write all hold r || list_any flushed (done_well wrote earlier))
+  write_step : (r : RecordedStep) (earlier : List Step)
+      → list_any flushed (done_well wrote (step_at written r ∷ earlier))
+      ≡ (is_flushed_write all hold r || list_any flushed (done_well wrote earlier))
   write_step (Began tag work) earlier = refl
   write_step (Ended tag work true fresh) earlier =
       let rest : Bool = list_any flushed (done_well wrote earlier) in
@@ -97,13 +107,15 @@ module _ (written : List (List ℕ)) (all : List RecordedStep) (hold : Hold) whe
       ∙ ap (λ (b : Bool). is_written op.work hold.pv hold.sector && not b) come_same
 
 -- whether an operation is held
-pub held_same : (plan : PlanLeft) (holding : Holding) (row : DiskRow) → plan.holds ≡ holding.holds.items → plan.let_go ≡ holding.let_go → (op : RecordedOp)
+pub held_same : (plan : PlanLeft) (holding : Holding) (row : DiskRow) → plan.holds ≡ holding.holds.items → plan.let_go ≡ holding.let_go
+    → (op : RecordedOp)
     → is_held plan (steps_of row) (operation_at row.written.items op) ≡ is_held_at holding row.steps.items op
 held_same plan holding row holds let_go op =
     let kept : keeps_back (steps_of row) (operation_at row.written.items op) ≡ is_kept_at row.steps.items op.work =
     fun_ext (λ (hold : Hold). kept_same row.written.items row.steps.items hold op) in
     ap (λ (n : ℕ). nat_le n op.tag && list_any (keeps_back (steps_of row) (operation_at row.written.items op)) plan.holds) let_go
-    ∙ ap (λ (l : List Hold). nat_le holding.let_go op.tag && list_any (keeps_back (steps_of row) (operation_at row.written.items op)) l) holds
+    ∙ ap (λ (l : List Hold). nat_le holding.let_go op.tag && list_any (keeps_back (steps_of row) (operation_at row.written.items op)) l)
+    holds
     ∙ ap (λ (k : Hold → Bool). nat_le holding.let_go op.tag && list_any k holding.holds.items) kept
 
 -- a filter of what a list is made to
@@ -111,13 +123,16 @@ filter_made : {X Y : Type 0} (p : Y → Bool) (f : X → Y) (xs : List X) → fi
 filter_made p f [] = refl
 filter_made p f (x ∷ xs) = made_either (p (f x)) f x (filter p (map f xs)) (filter (λ x. p (f x)) xs) (filter_made p f xs)
   where
-    made_either : {X Y : Type 0} (b : Bool) (f : X → Y) (x : X) (ys : List Y) (xs : List X) → ys ≡ map f xs → cond b (f x ∷ ys) ys ≡ map f (cond b (x ∷ xs) xs)
+    made_either : {X Y : Type 0} (b : Bool) (f : X → Y) (x : X) (ys : List Y) (xs : List X) → ys ≡ map f xs
+        → cond b (f x ∷ ys) ys ≡ map f (cond b (x ∷ xs) xs)
     made_either {X} {Y} true f x ys xs h = ap (λ (l : List Y). f x ∷ l) h
     made_either false f x ys xs h = h
 
 -- the operations in flight that are ready
-pub ready_same : (plan : PlanLeft) (holding : Holding) (row : DiskRow) → plan.holds ≡ holding.holds.items → plan.let_go ≡ holding.let_go → IsGood row
-    → tags_of (filter (λ o. not (is_held plan (steps_of row) o)) (state_of row).in_flight) ≡ map (λ (op : RecordedOp). op.tag) (ready_at holding row)
+pub ready_same : (plan : PlanLeft) (holding : Holding) (row : DiskRow) → plan.holds ≡ holding.holds.items → plan.let_go ≡ holding.let_go
+    → IsGood row
+    → tags_of (filter (λ o. not (is_held plan (steps_of row) o)) (state_of row).in_flight)
+    ≡ map (λ (op : RecordedOp). op.tag) (ready_at holding row)
 ready_same plan holding row holds let_go good =
     let p : Operation → Bool = λ o. not (is_held plan (steps_of row) o) in
     let make : RecordedOp → Operation = operation_at row.written.items in
@@ -130,7 +145,8 @@ ready_same plan holding row holds let_go good =
     ∙ ap (λ (t : RecordedOp → Bool). map (λ (op : RecordedOp). op.tag) (filter t row.in_flight.items)) tests
 
 -- how many are, and whether one is
-pub ready_many : (plan : PlanLeft) (holding : Holding) (row : DiskRow) (n : ℕ) → plan.holds ≡ holding.holds.items → plan.let_go ≡ holding.let_go → IsGood row → n ≡ length (ready_at holding row)
+pub ready_many : (plan : PlanLeft) (holding : Holding) (row : DiskRow) (n : ℕ) → plan.holds ≡ holding.holds.items
+    → plan.let_go ≡ holding.let_go → IsGood row → n ≡ length (ready_at holding row)
     → n ≡ length (tags_of (filter (λ o. not (is_held plan (steps_of row) o)) (state_of row).in_flight))
 ready_many plan holding row n holds let_go good many =
     many
@@ -138,8 +154,10 @@ ready_many plan holding row n holds let_go good many =
     ∙ ap (λ (l : List ℕ). length l) (sym (ready_same plan holding row holds let_go good))
 
 pub has_some : (n : ℕ) (tags : List ℕ) → n ≡ length tags → IsTrue (nat_lt 0 n) ↔ (tags ≢ [])
-has_some n [] e = (λ some. absurd (let none : false ≡ true = subst (λ (m : ℕ). IsTrue (nat_lt 0 m)) e some in cc), λ some. absurd (some refl))
-has_some n (tag ∷ tags) e = (λ some none. cc, λ some. ⊎_elim (λ is. is.0) (λ isnt. absurd (let lt : n < 1 = isnt.1 in omega (arith, e))) (leb_tells 1 n))
+has_some n [] e =
+    (λ some. absurd (let none : false ≡ true = subst (λ (m : ℕ). IsTrue (nat_lt 0 m)) e some in cc), λ some. absurd (some refl))
+has_some n (tag ∷ tags) e =
+    (λ some none. cc, λ some. ⊎_elim (λ is. is.0) (λ isnt. absurd (let lt : n < 1 = isnt.1 in omega (arith, e))) (leb_tells 1 n))
 
 pub positive : (n : ℕ) (tags : List ℕ) → n ≡ length tags → tags ≢ [] → 0 < n
 positive n [] e some = absurd (some refl)

@@ -1,5 +1,6 @@
 -- A row in memory, after one completion.
-use Rattle.std.proofs.Common.{◌≡◌, ◌<◌, ℕ, ◌+◌, vec_len, vec_capacity, Bool, true, false, List, [], ◌∷◌, ◌++◌, length, remove, replicate, get_or, Some, refl, sym, ap, subst, ◌∙◌, arith}
+use Rattle.std.proofs.Common.{◌≡◌, ◌<◌, ℕ, ◌+◌, vec_len, vec_capacity, Bool, true, false, List, [], ◌∷◌, ◌++◌, length, remove, replicate,
+    get_or, Some, refl, sym, ap, subst, ◌∙◌, arith}
 use Rattle.std.proofs.lemmas.List.{length-map, get_or-map}
 use Rattle.std.proofs.lemmas.List.Elements.{All-push}
 use Rattle.disk_model.specs.declared.ops.Op.{Op}
@@ -28,7 +29,8 @@ use Rattle.dev_shelf.proofs.RowSubmits.{HasKept, within_of}
 
 -- what a read gives after a completion, from what one gave before
 pub now_on : (opened : Image) (steps : List Step) (tag : ℕ) (work : Work) (well : Bool) (fresh : List Bool) (pv s : ℕ)
-    → now_after opened (Completed tag work well fresh ∷ steps) pv s ≡ now_after (now_after opened steps) (Completed 0 work well fresh ∷ []) pv s
+    → now_after opened (Completed tag work well fresh ∷ steps) pv s
+    ≡ now_after (now_after opened steps) (Completed 0 work well fresh ∷ []) pv s
 now_on opened steps tag (Reading span) well fresh pv s = refl
 now_on opened steps tag (Writing span sectors) well fresh pv s = refl
 now_on opened steps tag (Flushing disk) well fresh pv s = refl
@@ -41,7 +43,8 @@ now_same a b h (Writing span sectors) well fresh pv s = rw (h pv s) refl
 now_same a b h (Flushing disk) well fresh pv s = h pv s
 
 -- a read of the disks as they are now reads what the record gives
-pub reads_now : (told : Record) (image : Image) (tag : ℕ) (op : Op) (well : Bool) → ((pv s : ℕ) → image pv s ≡ now_after told.opened told.steps pv s) → ReadsImage image op well → Gives told tag op well
+pub reads_now : (told : Record) (image : Image) (tag : ℕ) (op : Op) (well : Bool)
+    → ((pv s : ℕ) → image pv s ≡ now_after told.opened told.steps pv s) → ReadsImage image op well → Gives told tag op well
 reads_now told image tag (Read span buffer) true h r = λ pv s inside alone. r pv s inside ∙ h pv s
 reads_now told image tag (Read span buffer) false h r = tt
 reads_now told image tag (Write span sectors) well h r = tt
@@ -49,17 +52,20 @@ reads_now told image tag (Flush pv) well h r = tt
 
 -- as much is recorded as is in flight
 pub as_many : (row : DiskRow) → IsGood row → length row.in_flight.items ≡ length (queue_state row.queue).in_flight
-as_many row good = sym (length-map row.in_flight.items (operation_at row.written.items)) ∙ ap (λ (l : List Operation). length l) good.recorded
+as_many row good =
+    sym (length-map row.in_flight.items (operation_at row.written.items)) ∙ ap (λ (l : List Operation). length l) good.recorded
 
 -- the operation that was taken out was carried out on the disks as they are now
-pub carried_out_on : (old : DiskRow) (at tag : ℕ) (op done : Op) (rest : OpQueue) → IsGood old → IsTakenFrom old.queue at tag op rest → work_of done ≡ work_of op → Lies (lengths_of old.current.items) done → IsTakenFrom old.queue at tag done rest
+pub carried_out_on : (old : DiskRow) (at tag : ℕ) (op done : Op) (rest : OpQueue) → IsGood old → IsTakenFrom old.queue at tag op rest
+    → work_of done ≡ work_of op → Lies (lengths_of old.current.items) done → IsTakenFrom old.queue at tag done rest
 carried_out_on old at tag op done rest good taken same lies =
     carried_out old.queue at tag op done rest taken same (subst (λ (l : List ℕ). Lies l done) (good.shape ∙ sym good.sizes) lies)
 
 -- the completion of the operation at this place
 module _ (old new : DiskRow) (at : ℕ) (op : RecordedOp) (done : Done) (fresh : ℕ) (good : IsGood old)
     (completes : CompletesAt (queue_state old.queue) at done (queue_state new.queue)) (which : op ≡ get_or old.in_flight.items at op)
-    (in_flight : new.in_flight.items ≡ remove old.in_flight.items at) (steps : new.steps.items ≡ old.steps.items ++ Ended done.tag op.work done.well fresh ∷ [])
+    (in_flight : new.in_flight.items ≡ remove old.in_flight.items at)
+        (steps : new.steps.items ≡ old.steps.items ++ Ended done.tag op.work done.well fresh ∷ [])
     (written : new.written ≡ old.written) (opened : new.opened ≡ old.opened) where
   here : at < length old.in_flight.items
   here = omega (arith, completes.here, as_many old good)
@@ -87,18 +93,21 @@ module _ (old new : DiskRow) (at : ℕ) (op : RecordedOp) (done : Done) (fresh :
   -- its tag finds what it does
   work_found : work_of_tag (in_flight_after (steps_of old)) done.tag ≡ Some (work_of done.op)
   work_found =
-      rw (← good.in_flight) (found_at (queue_state old.queue).in_flight at (record { tag = done.tag; work = work_of done.op }) completes.here completes.which (queue_lawful old.queue good.queue).order)
+      rw (← good.in_flight) (found_at (queue_state old.queue).in_flight at (record { tag = done.tag; work = work_of done.op })
+          completes.here completes.which (queue_lawful old.queue good.queue).order)
 
   -- so the row's state has it
   pub completes_ended : ReadsImage (image_of old.current.items) done.op done.well → Completes (state_of old) done (state_of new)
   completes_ended reads =
-      completes_telling (queue_state old.queue) (queue_state new.queue) done (told_by old) (told_by new) (replicate fresh true) completes.completes
+      completes_telling (queue_state old.queue) (queue_state new.queue) done (told_by old) (told_by new) (replicate fresh true)
+          completes.completes
       (rw opened (ap (λ (l : List Step). record { opened = image_of old.opened.items; steps = l }) steps_ended))
       (reads_now (told_by old) (image_of old.current.items) done.tag done.op done.well good.now reads)
 
   -- the row is good
   pub good_ended : IsGoodQueue new.queue
-      → ((pv s : ℕ) → image_of new.current.items pv s ≡ now_after (image_of old.current.items) (Completed 0 (work_of done.op) done.well (replicate fresh true) ∷ []) pv s)
+      → ((pv s : ℕ) → image_of new.current.items pv s
+      ≡ now_after (image_of old.current.items) (Completed 0 (work_of done.op) done.well (replicate fresh true) ∷ []) pv s)
       → lengths_of new.current.items ≡ lengths_of old.current.items
       → vec_len new.in_flight + 1 ≡ vec_len old.in_flight → vec_capacity new.in_flight ≡ vec_capacity old.in_flight
       → vec_len new.steps ≡ vec_len old.steps + 1 → vec_capacity new.steps ≡ vec_capacity old.steps → IsGood new
@@ -113,12 +122,17 @@ module _ (old new : DiskRow) (at : ℕ) (op : RecordedOp) (done : Done) (fresh :
     recorded_kept = rw (in_flight, written) (All-remove (HasKept (length old.written.items)) old.in_flight.items at good.recorded_kept);
     follows = rw steps_ended (work_found, good.follows);
     next = rw (steps_ended, completes.completes.next) good.next;
-    within = rw (opened, steps_ended) (within_of (sizes_of old) done.op (subst (λ (l : List ℕ). Lies l done.op) good.sizes completes.completes.lies), good.within);
-    kept = rw (steps, written) (All-push (λ (e : RecordedStep). IsKept (length old.written.items) (recorded_work e)) old.steps.items (Ended done.tag op.work done.well fresh) good.kept kept_so);
+    within =
+        rw (opened, steps_ended) (within_of (sizes_of old) done.op
+            (subst (λ (l : List ℕ). Lies l done.op) good.sizes completes.completes.lies), good.within);
+    kept =
+        rw (steps, written) (All-push (λ (e : RecordedStep). IsKept (length old.written.items) (recorded_work e)) old.steps.items
+            (Ended done.tag op.work done.well fresh) good.kept kept_so);
     opened_sectors = rw opened good.opened_sectors;
     written_sectors = rw written good.written_sectors;
     now = λ pv s. now pv s
-        ∙ now_same (image_of old.current.items) (now_after (image_of old.opened.items) (steps_of old)) good.now (work_of done.op) done.well (replicate fresh true) pv s
+        ∙ now_same (image_of old.current.items) (now_after (image_of old.opened.items) (steps_of old)) good.now (work_of done.op) done.well
+        (replicate fresh true) pv s
         ∙ sym (now_on (image_of old.opened.items) (steps_of old) done.tag (work_of done.op) done.well (replicate fresh true) pv s)
         ∙ rw (opened, steps_ended) refl;
     shape = rw opened (shape ∙ good.shape);

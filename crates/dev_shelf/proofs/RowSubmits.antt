@@ -1,5 +1,6 @@
 -- A row in memory, after one submission.
-use Rattle.std.proofs.Common.{◌≡◌, ◌≤◌, ℕ, ◌+◌, vec_len, vec_capacity, All, List, [], ◌∷◌, ◌++◌, length, map, refl, sym, subst, ap, ◌∙◌, arith, length-append}
+use Rattle.std.proofs.Common.{◌≡◌, ◌≤◌, ℕ, ◌+◌, vec_len, vec_capacity, All, List, [], ◌∷◌, ◌++◌, length, map, refl, sym, subst, ap, ◌∙◌,
+    arith, length-append}
 use Rattle.std.proofs.lemmas.List.{map-append}
 use Rattle.std.proofs.lemmas.List.Elements.{All-append, All-head, All-push, All-tail, All-weaker}
 use Rattle.sector_base.specs.Sectors.{IsSector}
@@ -38,7 +39,8 @@ abbrev pub HasKept : ℕ → RecordedOp → Type 0
 HasKept size op = IsKept size op.work
 
 -- what is recorded of operations stays so where more sectors are kept
-ops_kept : (written more : List (List ℕ)) (ops : List RecordedOp) → All (HasKept (length written)) ops → map (operation_at (written ++ more)) ops ≡ map (operation_at written) ops
+ops_kept : (written more : List (List ℕ)) (ops : List RecordedOp) → All (HasKept (length written)) ops
+    → map (operation_at (written ++ more)) ops ≡ map (operation_at written) ops
 ops_kept written more [] h = refl
 ops_kept written more (op ∷ ops) h =
     let P : RecordedOp → Type 0 = HasKept (length written) in
@@ -46,7 +48,8 @@ ops_kept written more (op ∷ ops) h =
     rw (here, ops_kept written more ops (All-tail P op ops h)) refl
 
 -- the submission of an operation
-module _ (old new : DiskRow) (op : Op) (tag : ℕ) (recorded : RecordedWork) (more : List (List ℕ)) (good : IsGood old) (lies : Lies (queue_state old.queue).sizes op)
+module _ (old new : DiskRow) (op : Op) (tag : ℕ) (recorded : RecordedWork) (more : List (List ℕ)) (good : IsGood old)
+    (lies : Lies (queue_state old.queue).sizes op)
     (written : new.written.items ≡ old.written.items ++ more) (steps : new.steps.items ≡ old.steps.items ++ Began tag recorded ∷ [])
     (in_flight : new.in_flight.items ≡ old.in_flight.items ++ record { tag = tag; work = recorded } ∷ [])
     (work : work_at new.written.items recorded ≡ work_of op) (kept : IsKept (length new.written.items) recorded)
@@ -71,7 +74,8 @@ module _ (old new : DiskRow) (op : Op) (tag : ℕ) (recorded : RecordedWork) (mo
   -- each operation in flight is recorded
   recorded_new : map (operation_at new.written.items) new.in_flight.items ≡ (queue_state new.queue).in_flight
   recorded_new =
-      let one : work_at (old.written.items ++ more) recorded ≡ work_of op = subst (λ (l : List (List ℕ)). work_at l recorded ≡ work_of op) written work in
+      let one : work_at (old.written.items ++ more) recorded ≡ work_of op =
+          subst (λ (l : List (List ℕ)). work_at l recorded ≡ work_of op) written work in
       let with_work : Work → Operation = λ w. record { tag = tag; work = w } in
       rw (in_flight, written)
       (map-append (operation_at (old.written.items ++ more)) old.in_flight.items (record { tag = tag; work = recorded } ∷ [])
@@ -81,12 +85,14 @@ module _ (old new : DiskRow) (op : Op) (tag : ℕ) (recorded : RecordedWork) (mo
       ∙ sym submits.in_flight
 
   -- the row is good
-  pub good_new : IsGoodQueue new.queue → new.current ≡ old.current → All IsSector more → vec_len new.written ≤ vec_len old.written + sectors_of op → vec_capacity new.written ≡ vec_capacity old.written
+  pub good_new : IsGoodQueue new.queue → new.current ≡ old.current → All IsSector more
+      → vec_len new.written ≤ vec_len old.written + sectors_of op → vec_capacity new.written ≡ vec_capacity old.written
       → vec_len new.in_flight ≡ vec_len old.in_flight + 1 → vec_capacity new.in_flight ≡ vec_capacity old.in_flight
       → vec_len new.steps ≡ vec_len old.steps + 1 → vec_capacity new.steps ≡ vec_capacity old.steps → IsGood new
   good_new queue now sectors len_written cap_written len_flying cap_flying len_steps cap_steps =
       let one_more : length (queue_state new.queue).in_flight ≡ length (queue_state old.queue).in_flight + 1 =
-      ap (λ (l : List Operation). length l) submits.in_flight ∙ length-append (queue_state old.queue).in_flight (record { tag = tag; work = work_of op } ∷ []) in
+      ap (λ (l : List Operation). length l) submits.in_flight
+          ∙ length-append (queue_state old.queue).in_flight (record { tag = tag; work = work_of op } ∷ []) in
       record {
         queue = queue;
         sizes = rw opened (submits.sizes ∙ good.sizes);
@@ -99,7 +105,11 @@ module _ (old new : DiskRow) (op : Op) (tag : ℕ) (recorded : RecordedWork) (mo
         follows = rw steps_new (new_more _ tag (steps_of old) submits.fresh good.next, good.follows);
         next = rw steps_new (submits.next, new_more _ _ (steps_of old) (omega (arith, submits.fresh, submits.next)) good.next);
         within = rw (opened, steps_new) (within_of (sizes_of old) op (subst (λ (l : List ℕ). Lies l op) good.sizes lies), good.within);
-        kept = rw steps (All-push (λ (e : RecordedStep). IsKept (length new.written.items) (recorded_work e)) old.steps.items (Began tag recorded) (All-weaker (λ (e : RecordedStep). IsKept (length old.written.items) (recorded_work e)) (λ (e : RecordedStep). IsKept (length new.written.items) (recorded_work e)) (λ e h. kept_more _ _ (recorded_work e) longer h) old.steps.items good.kept) kept);
+        kept =
+            rw steps (All-push (λ (e : RecordedStep). IsKept (length new.written.items) (recorded_work e)) old.steps.items
+                (Began tag recorded) (All-weaker (λ (e : RecordedStep). IsKept (length old.written.items) (recorded_work e))
+                (λ (e : RecordedStep). IsKept (length new.written.items) (recorded_work e))
+                (λ e h. kept_more _ _ (recorded_work e) longer h) old.steps.items good.kept) kept);
         opened_sectors = rw opened good.opened_sectors;
         written_sectors = rw written (All-append IsSector old.written.items more good.written_sectors sectors);
         now = rw (now, opened, steps_new) good.now;

@@ -68,10 +68,13 @@ comes_so = refl
 not_failed : ready_after (plan_with 9 0) (Completed 2 (Flushing 0) false [] ∷ Completed 1 (write_of 2) true [] ∷ with_flush) ≡ []
 not_failed = refl
 
-not_before : ready_after (plan_with 9 0) (Completed 1 (Flushing 0) true [] ∷ Completed 2 (write_of 2) true [] ∷ Submitted 2 (write_of 2) ∷ Submitted 1 (Flushing 0) ∷ Submitted 0 (write_of 0) ∷ []) ≡ []
+not_before : ready_after (plan_with 9 0)
+    (Completed 1 (Flushing 0) true [] ∷ Completed 2 (write_of 2) true [] ∷ Submitted 2 (write_of 2) ∷ Submitted 1 (Flushing 0)
+    ∷ Submitted 0 (write_of 0) ∷ []) ≡ []
 not_before = refl
 
-not_other : ready_after (plan_with 9 0) (Completed 2 (Flushing 1) true [] ∷ Completed 1 (write_of 2) true [] ∷ Submitted 2 (Flushing 1) ∷ both) ≡ []
+not_other : ready_after (plan_with 9 0) (Completed 2 (Flushing 1) true [] ∷ Completed 1 (write_of 2) true [] ∷ Submitted 2 (Flushing 1)
+    ∷ both) ≡ []
 not_other = refl
 
 -- the first vain answer of two is counted, and the second lets the oldest go

@@ -1,5 +1,6 @@
 -- What holds of every row of disks in memory, and that it makes the row's state lawful.
-use Rattle.std.specs.Prelude.{◌≡◌, ◌≤◌, ◌<◌, ℕ, ◌+◌, ◌*◌, ◌^◌, Bool, true, List, [], ◌∷◌, length, map, slice_index_or, vec_len, vec_capacity, All, IsTrue, if◌then◌else◌, min}
+use Rattle.std.specs.Prelude.{◌≡◌, ◌≤◌, ◌<◌, ℕ, ◌+◌, ◌*◌, ◌^◌, Bool, true, List, [], ◌∷◌, length, map, slice_index_or, vec_len,
+    vec_capacity, All, IsTrue, if◌then◌else◌, min}
 use Rattle.sector_base.specs.Spans.{covers}
 use Rattle.sector_base.specs.declared.spans.Span.{Span}
 use Rattle.sector_base.specs.Sectors.{IsSector}
@@ -77,17 +78,20 @@ pub record IsGood (row : DiskRow) : Type 0 where
   pub shape : lengths_of row.current.items ≡ sizes_of row
   pub count : vec_len row.opened < 2 ^ 32
   pub steps : vec_len row.steps ≡ (queue_state row.queue).steps
-  pub steps_room : vec_len row.steps + 2 * (queue_state row.queue).spare_ops + length (queue_state row.queue).in_flight ≤ vec_capacity row.steps
+  pub steps_room : vec_len row.steps + 2 * (queue_state row.queue).spare_ops + length (queue_state row.queue).in_flight
+      ≤ vec_capacity row.steps
   pub recorded_room : vec_len row.in_flight + (queue_state row.queue).spare_ops ≤ vec_capacity row.in_flight
   pub written_room : vec_len row.written + (queue_state row.queue).spare_sectors ≤ vec_capacity row.written
 
 -- each recorded step is a step
-pub length_onto : (written : List (List ℕ)) (earlier : List Step) (rs : List RecordedStep) → length (steps_onto written earlier rs) ≡ length rs + length earlier
+pub length_onto : (written : List (List ℕ)) (earlier : List Step) (rs : List RecordedStep)
+    → length (steps_onto written earlier rs) ≡ length rs + length earlier
 length_onto written earlier [] = omega arith
 length_onto written earlier (r ∷ rs) = omega (arith, length_onto written (step_at written r ∷ earlier) rs)
 
 -- each sector of disks of sectors is one
-opened_sector : (disks : List (List (List ℕ))) → All (All IsSector) disks → (pv sector : ℕ) → sector < slice_index_or (lengths_of disks) pv 0 → IsSector (image_of disks pv sector)
+opened_sector : (disks : List (List (List ℕ))) → All (All IsSector) disks → (pv sector : ℕ)
+    → sector < slice_index_or (lengths_of disks) pv 0 → IsSector (image_of disks pv sector)
 opened_sector [] all pv sector lt = absurd (omega arith)
 opened_sector (disk ∷ disks) all zero sector lt = All-head (All IsSector) disk disks all sector [] lt
 opened_sector (disk ∷ disks) all (suc pv) sector lt = opened_sector disks (All-tail (All IsSector) disk disks all) pv sector lt
@@ -99,31 +103,36 @@ in_span : (span : Span) (pv sector : ℕ) → IsTrue (covers span pv sector) →
 in_span span pv sector h = grind (arith, nat_tests)
 
 -- a step that is recorded so brings sectors
-brings_step : (written : List (List ℕ)) → All IsSector written → (r : RecordedStep) → IsKept (length written) (recorded_work r) → (earlier : List Step) → BringOnly IsAnySector earlier → BringOnly IsAnySector (step_at written r ∷ earlier)
+brings_step : (written : List (List ℕ)) → All IsSector written → (r : RecordedStep) → IsKept (length written) (recorded_work r)
+    → (earlier : List Step) → BringOnly IsAnySector earlier → BringOnly IsAnySector (step_at written r ∷ earlier)
 brings_step written all (Began tag (Reads span)) kept earlier b = b
 brings_step written all (Began tag (Flushes pv)) kept earlier b = b
 brings_step written all (Began tag (Writes span from)) kept earlier b = (
   λ pv sector inside.
       let within : sector - span.first < span.count = in_span span pv sector inside in
-      subst IsSector (sym (get_or-take span.count (drop from written) (sector - span.first) [] within ∙ get_or-drop from written (sector - span.first) []))
+      subst IsSector (sym (get_or-take span.count (drop from written) (sector - span.first) [] within
+          ∙ get_or-drop from written (sector - span.first) []))
       (all (from + (sector - span.first)) [] (omega (arith, kept))),
   b,
 )
 brings_step written all (Ended tag work well fresh) kept earlier b = b
 
-brings_sectors : (written : List (List ℕ)) → All IsSector written → (earlier : List Step) → BringOnly IsAnySector earlier → (rs : List RecordedStep) → All (λ (r : RecordedStep). IsKept (length written) (recorded_work r)) rs
+brings_sectors : (written : List (List ℕ)) → All IsSector written → (earlier : List Step) → BringOnly IsAnySector earlier
+    → (rs : List RecordedStep) → All (λ (r : RecordedStep). IsKept (length written) (recorded_work r)) rs
     → BringOnly IsAnySector (steps_onto written earlier rs)
 brings_sectors written all earlier b [] kept = b
 brings_sectors written all earlier b (r ∷ rs) kept =
     let P : RecordedStep → Type 0 = λ r. IsKept (length written) (recorded_work r) in
-    brings_sectors written all (step_at written r ∷ earlier) (brings_step written all r (All-head P r rs kept) earlier b) rs (All-tail P r rs kept)
+    brings_sectors written all (step_at written r ∷ earlier) (brings_step written all r (All-head P r rs kept) earlier b) rs
+        (All-tail P r rs kept)
 
 -- the state of a row is lawful
 pub lawful_of : (row : DiskRow) → IsGood row → IsLawful (state_of row)
 lawful_of row good =
     lawful_telling (queue_state row.queue) (told_by row) (queue_lawful row.queue good.queue) good.follows good.next good.in_flight
     (sym good.steps ∙ omega (arith, length_onto row.written.items [] row.steps.items, row.steps.ok.0))
-    (λ pv sector lt. opened_sector row.opened.items good.opened_sectors pv sector (subst (λ (l : List ℕ). sector < slice_index_or l pv 0) good.sizes lt))
+    (λ pv sector lt. opened_sector row.opened.items good.opened_sectors pv sector
+        (subst (λ (l : List ℕ). sector < slice_index_or l pv 0) good.sizes lt))
     (brings_sectors row.written.items good.written_sectors [] tt row.steps.items good.kept)
 
 kept_prop : (size : ℕ) (work : RecordedWork) → IsProp (IsKept size work)

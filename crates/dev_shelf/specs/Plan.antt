@@ -1,5 +1,6 @@
 -- How a plan orders the completions of a shelf in memory, holds some back, and fails them.
-use Rattle.std.specs.Prelude.{◌≡◌, ◌<◌, ℕ, ◌+◌, ◌%◌, nat_le, nat_lt, Bool, true, false, not, ◌==◌, ◌&&◌, if◌then◌else◌, List, [], ◌∷◌, length, drop, filter, replicate, slice_index, AllPairs, Option, Some, None, is_none, unwrap_or, option_map}
+use Rattle.std.specs.Prelude.{◌≡◌, ◌<◌, ℕ, ◌+◌, ◌%◌, nat_le, nat_lt, Bool, true, false, not, ◌==◌, ◌&&◌, if◌then◌else◌, List, [], ◌∷◌,
+    length, drop, filter, replicate, slice_index, AllPairs, Option, Some, None, is_none, unwrap_or, option_map}
 use Rattle.std.specs.List.{list_any}
 use Rattle.disk_model.specs.declared.ops.Done.{Done}
 use Rattle.dev_shelf.specs.declared.plan.Fail.{Fail}
@@ -26,7 +27,9 @@ pub record PlanLeft : Type 0 where
 
 -- a whole plan, before the first call
 abbrev pub whole_plan : ShelfPlan → PlanLeft
-whole_plan plan = record { picks = plan.picks.items; fails = plan.fails.items; holds = plan.holds.items; limit = plan.limit; vain = 0; let_go = 0; forced = 0 }
+whole_plan plan =
+    record { picks = plan.picks.items; fails = plan.fails.items; holds = plan.holds.items; limit = plan.limit; vain = 0; let_go = 0;
+        forced = 0 }
 
 -- the tags of the operations of this kind that completed well
 abbrev pub done_well : (Work → Bool) → List Step → List ℕ
@@ -44,7 +47,8 @@ flushes pv (Flushing disk) = disk == pv
 -- submitted after the write was, so it has the greater tag
 abbrev pub has_come : List Step → Hold → Bool
 has_come steps hold =
-    list_any (λ write. list_any (λ flush. nat_lt write flush) (done_well (flushes hold.until_pv) steps)) (done_well (λ work. writes work hold.until_pv hold.until) steps)
+    list_any (λ write. list_any (λ flush. nat_lt write flush) (done_well (flushes hold.until_pv) steps))
+        (done_well (λ work. writes work hold.until_pv hold.until) steps)
 
 -- the hold keeps the operation back: a write of its sector, until what it waits for has come
 abbrev pub keeps_back : List Step → Operation → Hold → Bool
@@ -71,7 +75,8 @@ letting_go o plan = record plan { vain = 0; let_go = o.tag + 1; forced = plan.fo
 -- oldest is let go
 abbrev pub after_vain : List Operation → PlanLeft → PlanLeft
 after_vain [] plan = plan
-after_vain (oldest ∷ later) plan = if nat_le plan.limit (plan.vain + 1) then letting_go oldest plan else record plan { vain = plan.vain + 1 }
+after_vain (oldest ∷ later) plan =
+    if nat_le plan.limit (plan.vain + 1) then letting_go oldest plan else record plan { vain = plan.vain + 1 }
 
 -- the plan by which `settle` completes one of these operations in flight: where none is ready the oldest is let go
 abbrev pub before_settling : List ℕ → List Operation → PlanLeft → PlanLeft
@@ -87,7 +92,8 @@ failure_of (fail ∷ fails) tag = if fail.tag == tag then Some fail.fresh else f
 -- the operation fails exactly where that is planned, and then has so many new sectors, the first ones
 pub record FailsAsPlanned (old : State) (fails : List Fail) (done : Done) (new : State) : Type 0 where
   pub well : done.well ≡ is_none (failure_of fails done.tag)
-  pub told : new.told ≡ option_map (step_on (Completed done.tag (work_of done.op) done.well (replicate (unwrap_or (failure_of fails done.tag) 0) true))) old.told
+  pub told : new.told ≡ option_map (step_on
+      (Completed done.tag (work_of done.op) done.well (replicate (unwrap_or (failure_of fails done.tag) 0) true))) old.told
 
 -- the completion is the next one of the plan: the ready operation number pick modulo how many are ready, the oldest
 -- first, and after the last pick the oldest

@@ -25,7 +25,8 @@ is_flush_after pv tag (Ended flush work well fresh) = well && is_flush_of pv wor
 -- in the step the write that the hold waits for completed well, and in one of all steps a later flush of its disk
 abbrev pub is_flushed_write : List RecordedStep → Hold → RecordedStep → Bool
 is_flushed_write all hold (Began tag work) = false
-is_flushed_write all hold (Ended tag work well fresh) = well && is_written work hold.until_pv hold.until && list_any (is_flush_after hold.until_pv tag) all
+is_flushed_write all hold (Ended tag work well fresh) =
+    well && is_written work hold.until_pv hold.until && list_any (is_flush_after hold.until_pv tag) all
 
 -- what the hold waits for has come
 abbrev pub has_come_at : List RecordedStep → Hold → Bool

@@ -1,5 +1,6 @@
 -- How the images that a crash may leave are made from a row in memory.
-use Rattle.std.specs.Prelude.{◌≡◌, ◌≤◌, ◌<◌, ℕ, ◌+◌, nat_le, nat_lt, ◌==◌, ◌&&◌, ◌||◌, Bool, true, false, if◌then◌else◌, List, [], ◌∷◌, length, take, drop, flat_map, slice_index, slice_index_or, Option, Some, None}
+use Rattle.std.specs.Prelude.{◌≡◌, ◌≤◌, ◌<◌, ℕ, ◌+◌, nat_le, nat_lt, ◌==◌, ◌&&◌, ◌||◌, Bool, true, false, if◌then◌else◌, List, [], ◌∷◌,
+    length, take, drop, flat_map, slice_index, slice_index_or, Option, Some, None}
 use Rattle.dev_shelf.specs.declared.mem_shelf.disk_row.DiskRow.{DiskRow}
 use Rattle.dev_shelf.specs.declared.mem_shelf.values.WriteSeen.{WriteSeen}
 use Rattle.dev_shelf.specs.declared.mem_shelf.recorded.RecordedWork.{RecordedWork}
@@ -45,7 +46,8 @@ pub record TakesSectors (told : Record) (pv count : ℕ) (choices : List ℕ) (s
   pub each : (sector : ℕ) → sector < count → IsPossible told pv sector (slice_index_or sectors sector [])
 
 -- the first so many disks do
-pub record TakesDisks (told : Record) (sizes : List ℕ) (count : ℕ) (choices : List ℕ) (disks : List (List (List ℕ))) (left : List ℕ) : Type 0 where
+pub record TakesDisks (told : Record) (sizes : List ℕ) (count : ℕ) (choices : List ℕ) (disks : List (List (List ℕ))) (left : List ℕ) : Type
+    0 where
   pub chosen_so : flat_map (λ disk. disk) disks ≡ chosen_values (row_values told sizes count) choices
   pub left_so : left ≡ choices_left (row_values told sizes count) choices
   pub sizes_so : lengths_of disks ≡ take count sizes
@@ -55,7 +57,8 @@ pub record TakesDisks (told : Record) (sizes : List ℕ) (count : ℕ) (choices 
 pub record TakesOne (told : Record) (pv sector : ℕ) (choices : List ℕ) (value : List ℕ) (left : List ℕ) : Type 0 where
   pub chosen_so : chosen_values (values told.opened told.steps pv sector ∷ []) choices ≡ value ∷ []
   pub left_so : left ≡ choices_left (values told.opened told.steps pv sector ∷ []) choices
-  pub is_value : (k : ℕ) × (k < length (values told.opened told.steps pv sector)) × ((slice_index_or (values told.opened told.steps pv sector) k (None, [])).1 ≡ value)
+  pub is_value : (k : ℕ) × (k < length (values told.opened told.steps pv sector))
+      × ((slice_index_or (values told.opened told.steps pv sector) k (None, [])).1 ≡ value)
 
 -- whether one of these steps is of a write of the sector
 abbrev pub is_touched : List Step → ℕ → ℕ → Bool

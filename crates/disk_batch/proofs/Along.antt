@@ -1,5 +1,6 @@
 -- What holds at each moment while a shelf goes on.
-use Rattle.std.proofs.Common.{◌≡◌, ◌≤◌, ◌<◌, ℕ, ◌+◌, Bool, IsTrue, List, [], ◌∷◌, ◌++◌, length, map, Option, Some, None, IfSome, option_map, refl, sym, ap, subst, ◌∙◌, ⊎_elim, arith, append_assoc, length-append}
+use Rattle.std.proofs.Common.{◌≡◌, ◌≤◌, ◌<◌, ℕ, ◌+◌, Bool, IsTrue, List, [], ◌∷◌, ◌++◌, length, map, Option, Some, None, IfSome, option_map,
+    refl, sym, ap, subst, ◌∙◌, ⊎_elim, arith, append_assoc, length-append}
 use Rattle.std.proofs.lemmas.Bool.{cases_lt}
 use Rattle.sector_base.specs.declared.spans.Span.{Span}
 use Rattle.disk_model.specs.declared.ops.Done.{Done}
@@ -25,8 +26,11 @@ use Rattle.disk_batch.proofs.Growing.{throughout_grown}
 use Rattle.disk_batch.proofs.WrittenBy.{bring_at_weaker, bring_written}
 
 -- two stretches of a record
-pub throughout_join : (told : Record) (from mid until : ℕ) (P : Record → Type 0) → Throughout from mid told P → Throughout mid until told P → Throughout from until told P
-throughout_join told from mid until P first second moment ge upto = ⊎_elim (λ (early : moment < mid). first moment ge (omega arith)) (λ (late : mid ≤ moment). second moment late upto) (cases_lt moment mid)
+pub throughout_join : (told : Record) (from mid until : ℕ) (P : Record → Type 0) → Throughout from mid told P → Throughout mid until told P
+    → Throughout from until told P
+throughout_join told from mid until P first second moment ge upto =
+    ⊎_elim (λ (early : moment < mid). first moment ge (omega arith)) (λ (late : mid ≤ moment). second moment late upto)
+        (cases_lt moment mid)
 
 -- no step
 pub since_none : (P : Record → Type 0) (told : Record) → P told → HoldsSince P [] told
@@ -37,16 +41,22 @@ pub since_step : (P : Record → Type 0) (step : Step) (told : Record) → P tol
 since_step P step told before after = throughout_step step told (length told.steps) P after (throughout_now told P before)
 
 -- steps and then more of them
-pub since_both : (P : Record → Type 0) (first more : List Step) (told : Record) → HoldsSince P first told → HoldsSince P more (steps_on first told) → HoldsSince P (more ++ first) told
+pub since_both : (P : Record → Type 0) (first more : List Step) (told : Record) → HoldsSince P first told
+    → HoldsSince P more (steps_on first told) → HoldsSince P (more ++ first) told
 since_both P first more told a b =
     let mid : Record = steps_on first told in
-    let joined : steps_on more mid ≡ steps_on (more ++ first) told = ap (λ (l : List Step). record { opened = told.opened; steps = l }) (sym (append_assoc more first told.steps)) in
-    let early : Throughout (length told.steps) (length mid.steps) (steps_on more mid) P = throughout_grown mid more (length told.steps) (length mid.steps) P (omega arith) a in
-    subst (λ (t : Record). Throughout (length told.steps) (length t.steps) t P) joined (throughout_join (steps_on more mid) (length told.steps) (length mid.steps) (length (steps_on more mid).steps) P early b)
+    let joined : steps_on more mid ≡ steps_on (more ++ first) told =
+        ap (λ (l : List Step). record { opened = told.opened; steps = l }) (sym (append_assoc more first told.steps)) in
+    let early : Throughout (length told.steps) (length mid.steps) (steps_on more mid) P =
+        throughout_grown mid more (length told.steps) (length mid.steps) P (omega arith) a in
+    subst (λ (t : Record). Throughout (length told.steps) (length t.steps) t P) joined
+        (throughout_join (steps_on more mid) (length told.steps) (length mid.steps) (length (steps_on more mid).steps) P early b)
 
-pub since_weaker : (P Q : Record → Type 0) → ((t : Record) → P t → Q t) → (newer : List Step) (told : Record) → HoldsSince P newer told → HoldsSince Q newer told
+pub since_weaker : (P Q : Record → Type 0) → ((t : Record) → P t → Q t) → (newer : List Step) (told : Record) → HoldsSince P newer told
+    → HoldsSince Q newer told
 since_weaker P Q w newer told h =
-    let end : Record = steps_on newer told in throughout_weaken end (length told.steps) (length told.steps) (length end.steps) (length end.steps) P Q (omega arith) (omega arith) w h
+    let end : Record = steps_on newer told in
+    throughout_weaken end (length told.steps) (length told.steps) (length end.steps) (length end.steps) P Q (omega arith) (omega arith) w h
 
 -- what holds throughout holds at the end
 pub since_end : (P : Record → Type 0) (newer : List Step) (told : Record) → HoldsSince P newer told → P (steps_on newer told)
@@ -68,11 +78,14 @@ along_same P old new same h = record {
     none_on None = refl
     none_on (Some t) = refl
 
-joined_on : (first more : List Step) (o : Option Record) → option_map (steps_on more) (option_map (steps_on first) o) ≡ option_map (steps_on (more ++ first)) o
+joined_on : (first more : List Step) (o : Option Record)
+    → option_map (steps_on more) (option_map (steps_on first) o) ≡ option_map (steps_on (more ++ first)) o
 joined_on first more None = refl
-joined_on first more (Some t) = ap (λ (l : List Step). Some (record { opened = t.opened; steps = l })) (sym (append_assoc more first t.steps))
+joined_on first more (Some t) =
+    ap (λ (l : List Step). Some (record { opened = t.opened; steps = l })) (sym (append_assoc more first t.steps))
 
-both_on : (P : Record → Type 0) (first more : List Step) (o mid : Option Record) → mid ≡ option_map (steps_on first) o → IfSome o (HoldsSince P first) → IfSome mid (HoldsSince P more) → IfSome o (HoldsSince P (more ++ first))
+both_on : (P : Record → Type 0) (first more : List Step) (o mid : Option Record) → mid ≡ option_map (steps_on first) o
+    → IfSome o (HoldsSince P first) → IfSome mid (HoldsSince P more) → IfSome o (HoldsSince P (more ++ first))
 both_on P first more None mid e a b = tt
 both_on P first more (Some t) mid e a b = since_both P first more t a (subst (λ (o : Option Record). IfSome o (HoldsSince P more)) e b)
 
@@ -85,27 +98,35 @@ along_both P old mid new a b = record {
 }
 
 pub along_weaker : (P Q : Record → Type 0) (old new : State) → ((t : Record) → P t → Q t) → AllAlong P old new → AllAlong Q old new
-along_weaker P Q old new w h = record { newer = h.newer; told = h.told; next = h.next; throughout = told_weaker (HoldsSince P h.newer) (HoldsSince Q h.newer) old.told (since_weaker P Q w h.newer) h.throughout }
+along_weaker P Q old new w h =
+    record { newer = h.newer; told = h.told; next = h.next;
+        throughout = told_weaker (HoldsSince P h.newer) (HoldsSince Q h.newer) old.told (since_weaker P Q w h.newer) h.throughout }
 
 -- what holds all along, where something is known besides
-pub along_where : (A : Type 0) (P Q : Record → Type 0) (old new : State) → (A → (t : Record) → P t → Q t) → IfSome old.told (λ told. A) → AllAlong P old new → AllAlong Q old new
+pub along_where : (A : Type 0) (P Q : Record → Type 0) (old new : State) → (A → (t : Record) → P t → Q t) → IfSome old.told (λ told. A)
+    → AllAlong P old new → AllAlong Q old new
 along_where A P Q old new w known h = record {
   newer = h.newer;
   told = h.told;
   next = h.next;
-  throughout = told_weaker (λ t. A × HoldsSince P h.newer t) (HoldsSince Q h.newer) old.told (λ t both. since_weaker P Q (w both.0) h.newer t both.1) (told_both (λ t. A) (HoldsSince P h.newer) old.told known h.throughout);
+  throughout =
+      told_weaker (λ t. A × HoldsSince P h.newer t) (HoldsSince Q h.newer) old.told (λ t both. since_weaker P Q (w both.0) h.newer t both.1)
+          (told_both (λ t. A) (HoldsSince P h.newer) old.told known h.throughout);
 }
 
 -- what is so where the shelf tells its record is so once it has gone on
-pub along_told : (P : Record → Type 0) (A : Type 0) (old new : State) → AllAlong P old new → IfSome old.told (λ told. A) → IfSome new.told (λ told. A)
+pub along_told : (P : Record → Type 0) (A : Type 0) (old new : State) → AllAlong P old new → IfSome old.told (λ told. A)
+    → IfSome new.told (λ told. A)
 along_told P A old new h is = told_after (steps_on h.newer) (λ told. A) (λ told. A) old.told new.told h.told (λ t e a. a) is
 
 -- P holds at the end
 pub along_end : (P : Record → Type 0) (old new : State) → AllAlong P old new → IfSome new.told P
-along_end P old new h = told_after (steps_on h.newer) (HoldsSince P h.newer) P old.told new.told h.told (λ t e since. since_end P h.newer t since) h.throughout
+along_end P old new h =
+    told_after (steps_on h.newer) (HoldsSince P h.newer) P old.told new.told h.told (λ t e since. since_end P h.newer t since) h.throughout
 
 -- a completion, whoever's
-pub along_completes : (P : Record → Type 0) (before after : State) (done : Done) → Completes before done after → IfSome before.told P → IfSome after.told P → AllAlong P before after
+pub along_completes : (P : Record → Type 0) (before after : State) (done : Done) → Completes before done after → IfSome before.told P
+    → IfSome after.told P → AllAlong P before after
 along_completes P before after done completes first last =
     let step : Step = Completed done.tag (work_of done.op) done.well completes.told.0 in
     record {
@@ -115,7 +136,9 @@ along_completes P before after done completes first last =
       throughout = with_both before.told first (subst (λ (o : Option Record). IfSome o P) completes.told.1 last);
     }
   where
-    with_both : (o : Option Record) → IfSome o P → IfSome (option_map (step_on (Completed done.tag (work_of done.op) done.well completes.told.0)) o) P → IfSome o (HoldsSince P (Completed done.tag (work_of done.op) done.well completes.told.0 ∷ []))
+    with_both : (o : Option Record) → IfSome o P
+        → IfSome (option_map (step_on (Completed done.tag (work_of done.op) done.well completes.told.0)) o) P
+        → IfSome o (HoldsSince P (Completed done.tag (work_of done.op) done.well completes.told.0 ∷ []))
     with_both None a b = tt
     with_both (Some t) a b = since_step P (Completed done.tag (work_of done.op) done.well completes.told.0) t a b
 
@@ -126,7 +149,8 @@ submitted_told os (Some t) = ap (λ (u : Record). Some u) (submitted_steps os t)
 
 module _ (mine : ℕ → ℕ → Bool) (Now : ℕ → ℕ → List ℕ → Type 0) where
   -- submissions of writes that bring only allowed values
-  pub along_submits : (old new : State) (works : List Work) (tags : List ℕ) → SubmitsWorks old works tags new → ((pv sector : ℕ) → IsTrue (mine pv sector) → BringAt works pv sector (Now pv sector))
+  pub along_submits : (old new : State) (works : List Work) (tags : List ℕ) → SubmitsWorks old works tags new
+      → ((pv sector : ℕ) → IsTrue (mine pv sector) → BringAt works pv sector (Now pv sector))
       → IfSome old.told (AllLeave mine Now) → AllAlong (AllLeave mine Now) old new
   along_submits old new works tags s bring h = record {
     newer = submissions s.os;
@@ -135,7 +159,8 @@ module _ (mine : ℕ → ℕ → Bool) (Now : ℕ → ℕ → List ℕ → Type 
     throughout = told_weaker (AllLeave mine Now) (HoldsSince (AllLeave mine Now) (submissions s.os)) old.told
         (λ t now.
         subst (λ (u : Record). Throughout (length t.steps) (length u.steps) u (AllLeave mine Now)) (submitted_steps s.os t)
-        (leaves_throughout mine Now s.os t (length t.steps) (λ pv sector own. subst (λ (ws : List Work). BringAt ws pv sector (Now pv sector)) (sym s.works_are) (bring pv sector own)) now
+        (leaves_throughout mine Now s.os t (length t.steps)
+            (λ pv sector own. subst (λ (ws : List Work). BringAt ws pv sector (Now pv sector)) (sym s.works_are) (bring pv sector own)) now
         (throughout_now t (AllLeave mine Now) now))) h;
   }
 
@@ -145,16 +170,21 @@ module _ (mine : ℕ → ℕ → Bool) (Now : ℕ → ℕ → List ℕ → Type 
 
   -- the start of a batch
   pub along_starts : (old new : State) (puts : List (Span × List (List ℕ))) (disks : List ℕ) (view : View) → Starts old puts disks view new
-      → ((pv sector : ℕ) (value : List ℕ) → IsTrue (mine pv sector) → IsWrittenBy puts pv sector value → Now pv sector value) → IfSome old.told (AllLeave mine Now) → AllAlong (AllLeave mine Now) old new
-  along_starts old new [] disks view starts allowed h = along_submits old new (map Flushing disks) view.tags starts.0 (λ pv sector own. flushes_bring disks pv sector) h
+      → ((pv sector : ℕ) (value : List ℕ) → IsTrue (mine pv sector) → IsWrittenBy puts pv sector value → Now pv sector value)
+      → IfSome old.told (AllLeave mine Now) → AllAlong (AllLeave mine Now) old new
+  along_starts old new [] disks view starts allowed h =
+      along_submits old new (map Flushing disks) view.tags starts.0 (λ pv sector own. flushes_bring disks pv sector) h
   along_starts old new (put ∷ puts) disks view starts allowed h =
       along_submits old new (map write_work (put ∷ puts)) view.tags starts.0
-      (λ pv sector own. bring_at_weaker (put ∷ puts) pv sector (IsWrittenBy (put ∷ puts) pv sector) (Now pv sector) (λ value by. allowed pv sector value own by) (bring_written (put ∷ puts) pv sector)) h
+      (λ pv sector own. bring_at_weaker (put ∷ puts) pv sector (IsWrittenBy (put ∷ puts) pv sector) (Now pv sector)
+          (λ value by. allowed pv sector value own by) (bring_written (put ∷ puts) pv sector)) h
 
   -- what a batch does at a completion: nothing, or its flushes
-  along_follows : (old new : State) (view : View) (turn : Turn) (step : BatchStep) → Follows old view turn step new → IfSome old.told (AllLeave mine Now) → AllAlong (AllLeave mine Now) old new
+  along_follows : (old new : State) (view : View) (turn : Turn) (step : BatchStep) → Follows old view turn step new
+      → IfSome old.told (AllLeave mine Now) → AllAlong (AllLeave mine Now) old new
   along_follows old new view Waits (Going next) f h = along_same (AllLeave mine Now) old new f.0 h
-  along_follows old new view Flushes (Going next) f h = along_submits old new (map Flushing view.flush) _ f.0 (λ pv sector own. flushes_bring view.flush pv sector) h
+  along_follows old new view Flushes (Going next) f h =
+      along_submits old new (map Flushing view.flush) _ f.0 (λ pv sector own. flushes_bring view.flush pv sector) h
   along_follows old new view IsWell Well f h = along_same (AllLeave mine Now) old new f h
   along_follows old new view (IsLost pv) (Lost pv') f h = along_same (AllLeave mine Now) old new f.0 h
   along_follows old new view Waits Well f h = absurd f
@@ -166,5 +196,6 @@ module _ (mine : ℕ → ℕ → Bool) (Now : ℕ → ℕ → List ℕ → Type 
   along_follows old new view (IsLost pv) (Going next) f h = absurd f
   along_follows old new view (IsLost pv) Well f h = absurd f
 
-  pub along_goes : (old new : State) (view : View) (done : Done) (step : BatchStep) → Goes old view done step new → IfSome old.told (AllLeave mine Now) → AllAlong (AllLeave mine Now) old new
+  pub along_goes : (old new : State) (view : View) (done : Done) (step : BatchStep) → Goes old view done step new
+      → IfSome old.told (AllLeave mine Now) → AllAlong (AllLeave mine Now) old new
   along_goes old new view done step goes h = along_follows old new (after_done view done) (turn_of (after_done view done)) step goes h

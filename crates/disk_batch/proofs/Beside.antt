@@ -20,21 +20,29 @@ use Rattle.disk_model.proofs.WhereTold.{told_after}
 
 module _ (mine target : ℕ → ℕ → Bool) (Now Goal : ℕ → ℕ → List ℕ → Type 0) where
   -- operations that write none of its sectors are submitted
-  pub submits_beside : (old new : State) (works : List Work) (tags : List ℕ) (view : View) → SubmitsWorks old works tags new → ((pv sector : ℕ) → IsTrue (mine pv sector) → writes_at works pv sector ≡ false)
+  pub submits_beside : (old new : State) (works : List Work) (tags : List ℕ) (view : View) → SubmitsWorks old works tags new
+      → ((pv sector : ℕ) → IsTrue (mine pv sector) → writes_at works pv sector ≡ false)
       → Holds mine target Now Goal view old → Holds mine target Now Goal view new
   submits_beside old new works tags view s apart h =
-      told_after (submitted_on s.os) (BatchHolds mine target Now Goal view) (BatchHolds mine target Now Goal view) old.told new.told s.submits.told
-      (λ t is b. batch_beside mine target Now Goal view s.os t (λ pv sector own. subst (λ (ws : List Work). writes_at ws pv sector ≡ false) (sym s.works_are) (apart pv sector own)) b) h
+      told_after (submitted_on s.os) (BatchHolds mine target Now Goal view) (BatchHolds mine target Now Goal view) old.told new.told
+          s.submits.told
+      (λ t is b. batch_beside mine target Now Goal view s.os t
+          (λ pv sector own. subst (λ (ws : List Work). writes_at ws pv sector ≡ false) (sym s.works_are) (apart pv sector own)) b) h
 
   -- another batch starts elsewhere
-  pub starts_beside : (old new : State) (put : Span × List (List ℕ)) (puts : List (Span × List (List ℕ))) (disks : List ℕ) (other view : View) → Starts old (put ∷ puts) disks other new
-      → ((pv sector : ℕ) → IsTrue (mine pv sector) → writes_at (map write_work (put ∷ puts)) pv sector ≡ false) → Holds mine target Now Goal view old → Holds mine target Now Goal view new
-  starts_beside old new put puts disks other view starts apart h = submits_beside old new (map write_work (put ∷ puts)) other.tags view starts.0 apart h
+  pub starts_beside : (old new : State) (put : Span × List (List ℕ)) (puts : List (Span × List (List ℕ))) (disks : List ℕ)
+      (other view : View) → Starts old (put ∷ puts) disks other new
+      → ((pv sector : ℕ) → IsTrue (mine pv sector) → writes_at (map write_work (put ∷ puts)) pv sector ≡ false)
+      → Holds mine target Now Goal view old → Holds mine target Now Goal view new
+  starts_beside old new put puts disks other view starts apart h =
+      submits_beside old new (map write_work (put ∷ puts)) other.tags view starts.0 apart h
 
   -- another batch goes on
-  follows_beside : (old new : State) (other : View) (turn : Turn) (step : BatchStep) (view : View) → Follows old other turn step new → Holds mine target Now Goal view old → Holds mine target Now Goal view new
+  follows_beside : (old new : State) (other : View) (turn : Turn) (step : BatchStep) (view : View) → Follows old other turn step new
+      → Holds mine target Now Goal view old → Holds mine target Now Goal view new
   follows_beside old new other Waits (Going next) view f h = subst (λ (s : State). Holds mine target Now Goal view s) (sym f.0) h
-  follows_beside old new other Flushes (Going next) view f h = submits_beside old new (map Flushing other.flush) (view_of next).tags view f.0 (λ pv sector own. none other.flush pv sector) h
+  follows_beside old new other Flushes (Going next) view f h =
+      submits_beside old new (map Flushing other.flush) (view_of next).tags view f.0 (λ pv sector own. none other.flush pv sector) h
     where
       none : (disks : List ℕ) (pv sector : ℕ) → writes_at (map Flushing disks) pv sector ≡ false
       none [] pv sector = refl
@@ -50,9 +58,13 @@ module _ (mine target : ℕ → ℕ → Bool) (Now Goal : ℕ → ℕ → List �
   follows_beside old new other (IsLost pv) (Going next) view f h = absurd f
   follows_beside old new other (IsLost pv) Well view f h = absurd f
 
-  pub goes_beside : (old new : State) (other : View) (done : Done) (step : BatchStep) (view : View) → Goes old other done step new → Holds mine target Now Goal view old → Holds mine target Now Goal view new
-  goes_beside old new other done step view goes h = follows_beside old new (after_done other done) (turn_of (after_done other done)) step view goes h
+  pub goes_beside : (old new : State) (other : View) (done : Done) (step : BatchStep) (view : View) → Goes old other done step new
+      → Holds mine target Now Goal view old → Holds mine target Now Goal view new
+  goes_beside old new other done step view goes h =
+      follows_beside old new (after_done other done) (turn_of (after_done other done)) step view goes h
 
 -- tags that were given since are none of the older ones
-pub fresh_tags : (old new : State) (works : List Work) (tags others : List ℕ) → SubmitsWorks old works tags new → ((t : ℕ) → IsAmong others t → t < old.next_tag) → (t : ℕ) → IsAmong tags t → IsAmong others t → ⊥
-fresh_tags old new works tags others s older t a b = tags_fresh old new s.os others s.submits older t (subst (λ (l : List ℕ). IsAmong l t) (sym s.tags_are) a) b
+pub fresh_tags : (old new : State) (works : List Work) (tags others : List ℕ) → SubmitsWorks old works tags new
+    → ((t : ℕ) → IsAmong others t → t < old.next_tag) → (t : ℕ) → IsAmong tags t → IsAmong others t → ⊥
+fresh_tags old new works tags others s older t a b =
+    tags_fresh old new s.os others s.submits older t (subst (λ (l : List ℕ). IsAmong l t) (sym s.tags_are) a) b

@@ -1,7 +1,8 @@
 -- What a batch that is carried out alone has done to the record, step by step.
 use Rattle.disk_batch.specs.declared.batching.Batching.{Batching}
 use Rattle.std.proofs.lemmas.List.{append-nil}
-use Rattle.std.proofs.Common.{◌≡◌, ◌≤◌, ◌⊎◌, ℕ, Bool, true, false, ◌==◌, IsTrue, List, [], ◌∷◌, ◌++◌, length, map, filter, All, Option, Some, None, option_map, inl, inr, ⊎_elim, refl, sym, ap, subst, ◌∙◌, arith, append_assoc, ◌<◌, not}
+use Rattle.std.proofs.Common.{◌≡◌, ◌≤◌, ◌⊎◌, ℕ, Bool, true, false, ◌==◌, IsTrue, List, [], ◌∷◌, ◌++◌, length, map, filter, All, Option,
+    Some, None, option_map, inl, inr, ⊎_elim, refl, sym, ap, subst, ◌∙◌, arith, append_assoc, ◌<◌, not}
 use Rattle.std.specs.List.{list_any}
 use Rattle.sector_base.specs.declared.spans.Span.{Span}
 use Rattle.disk_model.specs.declared.ops.Done.{Done}
@@ -50,10 +51,12 @@ pub submitted_steps : (os : List Operation) (told : Record) → submitted_on os 
 submitted_steps [] told = refl
 submitted_steps (o ∷ os) told =
     submitted_steps os (step_on (Submitted o.tag o.work) told)
-    ∙ ap (λ (l : List Step). record { opened = told.opened; steps = l }) (sym (append_assoc (submissions os) (Submitted o.tag o.work ∷ []) told.steps))
+    ∙ ap (λ (l : List Step). record { opened = told.opened; steps = l })
+    (sym (append_assoc (submissions os) (Submitted o.tag o.work ∷ []) told.steps))
 
 -- of writes
-pub writes_of_submissions : (os : List Operation) (puts : List (Span × List (List ℕ))) → works_of os ≡ map write_work puts → writes_submitted (submissions os) ≡ puts
+pub writes_of_submissions : (os : List Operation) (puts : List (Span × List (List ℕ))) → works_of os ≡ map write_work puts
+    → writes_submitted (submissions os) ≡ puts
 writes_of_submissions [] [] e = refl
 writes_of_submissions [] (p ∷ puts) e = cc
 writes_of_submissions (o ∷ os) [] e = cc
@@ -64,7 +67,8 @@ writes_of_submissions (o ∷ os) (p ∷ puts) e =
     ∙ ap (λ (w : Work). writes_submitted (Submitted o.tag w ∷ []) ++ writes_submitted (submissions os)) work
     ∙ ap (λ (l : List (Span × List (List ℕ))). p ∷ l) (writes_of_submissions os puts rest)
 
-pub reads_of_writes : (os : List Operation) (puts : List (Span × List (List ℕ))) → works_of os ≡ map write_work puts → spans_read (submissions os) ≡ []
+pub reads_of_writes : (os : List Operation) (puts : List (Span × List (List ℕ))) → works_of os ≡ map write_work puts
+    → spans_read (submissions os) ≡ []
 reads_of_writes [] puts e = refl
 reads_of_writes (o ∷ os) [] e = cc
 reads_of_writes (o ∷ os) (p ∷ puts) e =
@@ -81,7 +85,8 @@ nothing_of_flushes (o ∷ os) [] e = cc
 nothing_of_flushes (o ∷ os) (d ∷ disks) e =
     let work : o.work ≡ Flushing d = cc in
     let rest : OnlyFlushes os disks = cc in
-    writes_nothing_append (submissions os) (Submitted o.tag o.work ∷ []) (nothing_of_flushes os disks rest) (subst (λ (w : Work). WritesNothing (Submitted o.tag w ∷ [])) (sym work) tt)
+    writes_nothing_append (submissions os) (Submitted o.tag o.work ∷ []) (nothing_of_flushes os disks rest)
+        (subst (λ (w : Work). WritesNothing (Submitted o.tag w ∷ [])) (sym work) tt)
 
 pub writes_of_nothing : (steps : List Step) → WritesNothing steps → writes_submitted steps ≡ []
 writes_of_nothing [] none = refl
@@ -126,18 +131,22 @@ not_flushed_before (Completed tag (Flushing disk) false fresh ∷ steps) from pv
 not_flushed_before (Completed tag (Flushing disk) true fresh ∷ steps) from pv new is h =
     ⊎_elim
     (λ (here : (disk ≡ pv) × (from ≤ tag)).
-    let lt : tag < from = in_flight_older from steps (record { tag = tag; work = Flushing disk }) new (found_in (in_flight_after steps) tag (Flushing disk) is.0) in
+    let lt : tag < from =
+        in_flight_older from steps (record { tag = tag; work = Flushing disk }) new
+            (found_in (in_flight_after steps) tag (Flushing disk) is.0) in
     let le : from ≤ tag = here.1 in
     absurd (omega arith))
     (λ before. not_flushed_before steps from pv new is.1 before) h
 
-flushed_newer : (newer older : List Step) (from pv : ℕ) → IsNewTag from older → IsRecord older → HasFlushedSince from pv (newer ++ older) → HasFlushed pv newer
+flushed_newer : (newer older : List Step) (from pv : ℕ) → IsNewTag from older → IsRecord older → HasFlushedSince from pv (newer ++ older)
+    → HasFlushed pv newer
 flushed_newer [] older from pv new is h = absurd (not_flushed_before older from pv new is h)
 flushed_newer (Submitted tag work ∷ newer) older from pv new is h = flushed_newer newer older from pv new is h
 flushed_newer (Completed tag (Reading span) well fresh ∷ newer) older from pv new is h = flushed_newer newer older from pv new is h
 flushed_newer (Completed tag (Writing span sectors) well fresh ∷ newer) older from pv new is h = flushed_newer newer older from pv new is h
 flushed_newer (Completed tag (Flushing disk) false fresh ∷ newer) older from pv new is h = flushed_newer newer older from pv new is h
-flushed_newer (Completed tag (Flushing disk) true fresh ∷ newer) older from pv new is h = ⊎_elim (λ here. inl here.0) (λ later. inr (flushed_newer newer older from pv new is later)) h
+flushed_newer (Completed tag (Flushing disk) true fresh ∷ newer) older from pv new is h =
+    ⊎_elim (λ here. inl here.0) (λ later. inr (flushed_newer newer older from pv new is later)) h
 
 -- every sector
 abbrev pub everywhere : ℕ → ℕ → Bool
@@ -182,7 +191,8 @@ module _ (puts : List (Span × List (List ℕ))) (disks : List ℕ) (old : Recor
 
   -- what its writes bring
   bring_allowed : (pv sector : ℕ) → BringAt (map write_work puts) pv sector (Allowed pv sector)
-  bring_allowed pv sector = bring_at_weaker puts pv sector (IsWrittenBy puts pv sector) (Allowed pv sector) (λ value h. inr h) (bring_written puts pv sector)
+  bring_allowed pv sector =
+      bring_at_weaker puts pv sector (IsWrittenBy puts pv sector) (Allowed pv sector) (λ value h. inr h) (bring_written puts pv sector)
 
   targets : WriteTargets of_disks written Allowed (IsWrittenBy puts) (map write_work puts)
   targets = record {
@@ -196,9 +206,11 @@ module _ (puts : List (Span × List (List ℕ))) (disks : List ℕ) (old : Recor
   leaves_old pv sector own = record { each = λ write value may. inl (write, may) }
 
   -- it starts
-  pub carries_started : (os : List Operation) → works_of os ≡ map write_work puts → in_flight_after old.steps ≡ [] → Carries (record { tags = tags_of os; flush = disks; flushing = false; lost = None }) (submitted_on os old)
+  pub carries_started : (os : List Operation) → works_of os ≡ map write_work puts → in_flight_after old.steps ≡ []
+      → Carries (record { tags = tags_of os; flush = disks; flushing = false; lost = None }) (submitted_on os old)
   carries_started os e idle =
-      let bring : (pv sector : ℕ) → BringAt (works_of os) pv sector (Allowed pv sector) = λ pv sector. subst (λ (ws : List Work). BringAt ws pv sector (Allowed pv sector)) (sym e) (bring_allowed pv sector) in
+      let bring : (pv sector : ℕ) → BringAt (works_of os) pv sector (Allowed pv sector) =
+          λ pv sector. subst (λ (ws : List Work). BringAt ws pv sector (Allowed pv sector)) (sym e) (bring_allowed pv sector) in
       record {
         since = submissions os;
         steps = submitted_steps os old;
@@ -206,18 +218,25 @@ module _ (puts : List (Span × List (List ℕ))) (disks : List ℕ) (old : Recor
         reads = reads_of_writes os puts e;
         flush = refl;
         leaves = λ pv sector own. only_leaves_submitted os old pv sector (Allowed pv sector) (bring pv sector) (leaves_old pv sector own);
-        so_far = leaves_throughout everywhere Allowed os old (length old.steps) (λ pv sector own. bring pv sector) leaves_old (throughout_now old (AllLeave everywhere Allowed) leaves_old);
-        holds = batch_started of_disks written Allowed (IsWrittenBy puts) os disks old (subst (λ (ws : List Work). WriteTargets of_disks written Allowed (IsWrittenBy puts) ws) (sym e) targets)
+        so_far =
+            leaves_throughout everywhere Allowed os old (length old.steps) (λ pv sector own. bring pv sector) leaves_old
+                (throughout_now old (AllLeave everywhere Allowed) leaves_old);
+        holds =
+            batch_started of_disks written Allowed (IsWrittenBy puts) os disks old
+                (subst (λ (ws : List Work). WriteTargets of_disks written Allowed (IsWrittenBy puts) ws) (sym e) targets)
             (λ pv sector own o a w. absurd (subst (λ (l : List Operation). IsIn l o) idle a)) (λ pv sector own. leaves_old pv sector refl);
         well = λ none. well_submissions os;
         flushes = λ none (f : false ≡ true). cc;
       }
 
   -- an operation of its own completes
-  leaves_done : (told : Record) (tag : ℕ) (work : Work) (well : Bool) (fresh : List Bool) → AllLeave everywhere Allowed told → AllLeave everywhere Allowed (step_on (Completed tag work well fresh) told)
-  leaves_done told tag work well fresh h pv sector own = only_leaves_on told pv sector (Allowed pv sector) (Completed tag work well fresh) refl (h pv sector own)
+  leaves_done : (told : Record) (tag : ℕ) (work : Work) (well : Bool) (fresh : List Bool) → AllLeave everywhere Allowed told
+      → AllLeave everywhere Allowed (step_on (Completed tag work well fresh) told)
+  leaves_done told tag work well fresh h pv sector own =
+      only_leaves_on told pv sector (Allowed pv sector) (Completed tag work well fresh) refl (h pv sector own)
 
-  pub carries_done : (view : View) (told : Record) (tag disk : ℕ) (work : Work) (well : Bool) (fresh : List Bool) → IsRecord (step_on (Completed tag work well fresh) told).steps
+  pub carries_done : (view : View) (told : Record) (tag disk : ℕ) (work : Work) (well : Bool) (fresh : List Bool)
+      → IsRecord (step_on (Completed tag work well fresh) told).steps
       → Carries view told → Carries (done_on tag disk well view) (step_on (Completed tag work well fresh) told)
   carries_done view told tag disk work true fresh is h =
       let step : Step = Completed tag work true fresh in
@@ -228,7 +247,9 @@ module _ (puts : List (Span × List (List ℕ))) (disks : List ℕ) (old : Recor
         reads = h.reads;
         flush = h.flush;
         leaves = leaves_done told tag work true fresh h.leaves;
-        so_far = throughout_step step told (length old.steps) (AllLeave everywhere Allowed) (leaves_done told tag work true fresh h.leaves) h.so_far;
+        so_far =
+            throughout_step step told (length old.steps) (AllLeave everywhere Allowed) (leaves_done told tag work true fresh h.leaves)
+                h.so_far;
         holds = batch_done of_disks written Allowed (IsWrittenBy puts) view told tag disk work true fresh is h.holds;
         well = λ none. h.well none;
         flushes = λ none f.
@@ -254,27 +275,40 @@ module _ (puts : List (Span × List (List ℕ))) (disks : List ℕ) (old : Recor
         reads = h.reads;
         flush = h.flush;
         leaves = leaves_done told tag work false fresh h.leaves;
-        so_far = throughout_step step told (length old.steps) (AllLeave everywhere Allowed) (leaves_done told tag work false fresh h.leaves) h.so_far;
+        so_far =
+            throughout_step step told (length old.steps) (AllLeave everywhere Allowed) (leaves_done told tag work false fresh h.leaves)
+                h.so_far;
         holds = batch_done of_disks written Allowed (IsWrittenBy puts) view told tag disk work false fresh is h.holds;
         well = λ (e : Some disk ≡ None). cc;
         flushes = λ (e : Some disk ≡ None) f. cc;
       }
 
   -- its flushes are submitted
-  pub carries_flushes : (view : View) (os : List Operation) (told : Record) (from : ℕ) → view.tags ≡ [] → view.flushing ≡ false → view.lost ≡ None → OnlyFlushes os view.flush
-      → in_flight_after told.steps ≡ [] → IsNewTag from told.steps → All (λ (o : Operation). from ≤ o.tag) os → Carries view told → Carries (record view { tags = tags_of os; flushing = true }) (submitted_on os told)
+  pub carries_flushes : (view : View) (os : List Operation) (told : Record) (from : ℕ) → view.tags ≡ [] → view.flushing ≡ false
+      → view.lost ≡ None → OnlyFlushes os view.flush
+      → in_flight_after told.steps ≡ [] → IsNewTag from told.steps → All (λ (o : Operation). from ≤ o.tag) os → Carries view told
+      → Carries (record view { tags = tags_of os; flushing = true }) (submitted_on os told)
   carries_flushes view os told from none writing well only idle new_tags fresh h =
       let quiet = nothing_of_flushes os view.flush only in
-      let bring : (pv sector : ℕ) → BringAt (works_of os) pv sector (Allowed pv sector) = λ pv sector. (flushes_write_nothing os view.flush pv sector (Allowed pv sector) only).0 in
+      let bring : (pv sector : ℕ) → BringAt (works_of os) pv sector (Allowed pv sector) =
+          λ pv sector. (flushes_write_nothing os view.flush pv sector (Allowed pv sector) only).0 in
       record {
         since = submissions os ++ h.since;
         steps = steps_joined old told (submitted_on os told) h.since (submissions os) h.steps (submitted_steps os told);
-        writes = writes_submitted-append (submissions os) h.since ∙ ap (λ (l : List (Span × List (List ℕ))). writes_submitted h.since ++ l) (writes_of_nothing (submissions os) quiet) ∙ append-nil (writes_submitted h.since) ∙ h.writes;
-        reads = spans_read-append (submissions os) h.since ∙ ap (λ (l : List Span). spans_read h.since ++ l) (reads_of_flushes os view.flush only) ∙ append-nil (spans_read h.since) ∙ h.reads;
+        writes =
+            writes_submitted-append (submissions os) h.since
+                ∙ ap (λ (l : List (Span × List (List ℕ))). writes_submitted h.since ++ l) (writes_of_nothing (submissions os) quiet)
+                ∙ append-nil (writes_submitted h.since) ∙ h.writes;
+        reads =
+            spans_read-append (submissions os) h.since
+                ∙ ap (λ (l : List Span). spans_read h.since ++ l) (reads_of_flushes os view.flush only) ∙ append-nil (spans_read h.since)
+                ∙ h.reads;
         flush = h.flush;
         leaves = λ pv sector own. only_leaves_submitted os told pv sector (Allowed pv sector) (bring pv sector) (h.leaves pv sector own);
         so_far = leaves_throughout everywhere Allowed os told (length old.steps) (λ pv sector own. bring pv sector) h.leaves h.so_far;
-        holds = batch_flushes of_disks written Allowed (IsWrittenBy puts) view os told none writing well only (λ pv sector own aim. subst (λ (l : List ℕ). IsAmong l pv) (sym h.flush) (any_among disks pv own)) h.holds;
+        holds =
+            batch_flushes of_disks written Allowed (IsWrittenBy puts) view os told none writing well only
+                (λ pv sector own aim. subst (λ (l : List ℕ). IsAmong l pv) (sym h.flush) (any_among disks pv own)) h.holds;
         well = λ e. well_append (submissions os) h.since (well_submissions os) (h.well e);
         flushes = λ e f. record {
           newer = submissions os;
@@ -291,27 +325,38 @@ module _ (puts : List (Span × List (List ℕ))) (disks : List ℕ) (old : Recor
 
   -- it is over: what a read gives
   now_of : (view : View) (told : Record) → IsRecord told.steps → in_flight_after old.steps ≡ [] → Carries view told → (pv sector : ℕ)
-      → (now_after told.opened told.steps pv sector ≡ now_after old.opened old.steps pv sector) ⊎ IsWrittenBy puts pv sector (now_after told.opened told.steps pv sector)
+      → (now_after told.opened told.steps pv sector ≡ now_after old.opened old.steps pv sector)
+      ⊎ IsWrittenBy puts pv sector (now_after told.opened told.steps pv sector)
   now_of view told is idle h pv sector =
-      subst (λ (t : Record). (now_after t.opened t.steps pv sector ≡ now_after old.opened old.steps pv sector) ⊎ IsWrittenBy puts pv sector (now_after t.opened t.steps pv sector)) (sym h.steps)
-      (now_kept_or_brought old.opened old.steps idle pv sector (IsWrittenBy puts pv sector) h.since (subst (λ (t : Record). IsRecord t.steps) h.steps is)
-      (subst (λ (ws : List (Span × List (List ℕ))). StepsBring h.since pv sector (IsWrittenBy ws pv sector)) h.writes (steps_bring_written h.since pv sector)))
+      subst (λ (t : Record). (now_after t.opened t.steps pv sector ≡ now_after old.opened old.steps pv sector)
+          ⊎ IsWrittenBy puts pv sector (now_after t.opened t.steps pv sector)) (sym h.steps)
+      (now_kept_or_brought old.opened old.steps idle pv sector (IsWrittenBy puts pv sector) h.since
+          (subst (λ (t : Record). IsRecord t.steps) h.steps is)
+      (subst (λ (ws : List (Span × List (List ℕ))). StepsBring h.since pv sector (IsWrittenBy ws pv sector)) h.writes
+          (steps_bring_written h.since pv sector)))
 
-  now_written : (view : View) (told : Record) → IsRecord told.steps → in_flight_after old.steps ≡ [] → in_flight_after told.steps ≡ [] → view.lost ≡ None → Carries view told → (pv sector : ℕ) → IsTrue (written pv sector)
+  now_written : (view : View) (told : Record) → IsRecord told.steps → in_flight_after old.steps ≡ [] → in_flight_after told.steps ≡ []
+      → view.lost ≡ None → Carries view told → (pv sector : ℕ) → IsTrue (written pv sector)
       → IsWrittenBy puts pv sector (now_after told.opened told.steps pv sector)
   now_written view told is idle over well h pv sector here =
       subst (λ (t : Record). IsWrittenBy puts pv sector (now_after t.opened t.steps pv sector)) (sym h.steps)
-      (now_brought old.opened old.steps idle pv sector (IsWrittenBy puts pv sector) h.since (subst (λ (t : Record). IsRecord t.steps) h.steps is)
+      (now_brought old.opened old.steps idle pv sector (IsWrittenBy puts pv sector) h.since
+          (subst (λ (t : Record). IsRecord t.steps) h.steps is)
       (subst (λ (t : Record). in_flight_after t.steps ≡ []) h.steps over)
-      (subst (λ (ws : List (Span × List (List ℕ))). StepsBring h.since pv sector (IsWrittenBy ws pv sector)) h.writes (steps_bring_written h.since pv sector))
+      (subst (λ (ws : List (Span × List (List ℕ))). StepsBring h.since pv sector (IsWrittenBy ws pv sector)) h.writes
+          (steps_bring_written h.since pv sector))
       (h.well well)
-      (one_brings h.since pv sector (subst (λ (ws : List (Span × List (List ℕ))). IsTrue (writes_at (map write_work ws) pv sector)) (sym h.writes) here)))
+      (one_brings h.since pv sector (subst (λ (ws : List (Span × List (List ℕ))). IsTrue (writes_at (map write_work ws) pv sector))
+          (sym h.writes) here)))
 
   -- and which disks were flushed
-  flushed_last : (view : View) (told : Record) → IsRecord told.steps → IsTurn view IsWell → (h : Carries view told) → FlushesLast old puts disks h.since
+  flushed_last : (view : View) (told : Record) → IsRecord told.steps → IsTurn view IsWell → (h : Carries view told)
+      → FlushesLast old puts disks h.since
   flushed_last view told is turn h =
       let s = h.flushes turn.2 turn.1 in
-      let is' : IsRecord (s.newer ++ (s.older ++ old.steps)) = subst IsRecord (ap (λ (l : List Step). l ++ old.steps) s.parts ∙ append_assoc s.newer s.older old.steps) (subst (λ (t : Record). IsRecord t.steps) h.steps is) in
+      let is' : IsRecord (s.newer ++ (s.older ++ old.steps)) =
+          subst IsRecord (ap (λ (l : List Step). l ++ old.steps) s.parts ∙ append_assoc s.newer s.older old.steps)
+              (subst (λ (t : Record). IsRecord t.steps) h.steps is) in
       record {
         newer = s.newer;
         older = s.older;
@@ -321,11 +366,13 @@ module _ (puts : List (Span × List (List ℕ))) (disks : List ℕ) (old : Recor
         quiet = s.quiet;
         flushed = all_of_each (λ pv. HasFlushed pv s.newer) disks (λ pv among.
             flushed_newer s.newer (s.older ++ old.steps) s.from pv s.new_tags (record_older s.newer (s.older ++ old.steps) is')
-            (subst (HasFlushedSince s.from pv) (ap (λ (t : Record). t.steps) h.steps ∙ ap (λ (l : List Step). l ++ old.steps) s.parts ∙ append_assoc s.newer s.older old.steps)
+            (subst (HasFlushedSince s.from pv) (ap (λ (t : Record). t.steps) h.steps ∙ ap (λ (l : List Step). l ++ old.steps) s.parts
+                ∙ append_assoc s.newer s.older old.steps)
             (flushes_well view told s.from pv turn.0 turn.1 turn.2 (s.each pv among))));
       }
 
-  pub carried_well : (view : View) (told : Record) → IsRecord told.steps → in_flight_after old.steps ≡ [] → in_flight_after told.steps ≡ [] → IsTurn view IsWell → Carries view told → WritesAll old puts disks true told
+  pub carried_well : (view : View) (told : Record) → IsRecord told.steps → in_flight_after old.steps ≡ [] → in_flight_after told.steps ≡ []
+      → IsTurn view IsWell → Carries view told → WritesAll old puts disks true told
   carried_well view told is idle over turn h = record {
     since = h.since;
     steps = h.steps;
@@ -334,11 +381,14 @@ module _ (puts : List (Span × List (List ℕ))) (disks : List ℕ) (old : Recor
     adds = λ moment from until pv sector. h.so_far moment from until pv sector refl;
     now = now_of view told is idle h;
     written = λ ok. now_written view told is idle over turn.2 h;
-    lasting = λ ok pv sector aim among. batch_brought of_disks written Allowed (IsWrittenBy puts) view told turn.0 turn.1 turn.2 h.holds pv sector (among_any disks pv among) aim;
+    lasting =
+        λ ok pv sector aim among. batch_brought of_disks written Allowed (IsWrittenBy puts) view told turn.0 turn.1 turn.2 h.holds pv sector
+            (among_any disks pv among) aim;
     flushes = λ ok. flushed_last view told is turn h;
   }
 
-  pub carried_lost : (view : View) (told : Record) → IsRecord told.steps → in_flight_after old.steps ≡ [] → Carries view told → WritesAll old puts disks false told
+  pub carried_lost : (view : View) (told : Record) → IsRecord told.steps → in_flight_after old.steps ≡ [] → Carries view told
+      → WritesAll old puts disks false told
   carried_lost view told is idle h = record {
     since = h.since;
     steps = h.steps;
@@ -357,11 +407,15 @@ module _ (puts : List (Span × List (List ℕ))) (disks : List ℕ) (old : Recor
   CarriesOn Well told = (view : View) × IsTurn view IsWell × Carries view told
   CarriesOn (Lost pv) told = (view : View) × Carries view told
 
-  follows_carries : (mid new : State) (view : View) (turn : Turn) (step : BatchStep) (told : Record) → IsTurn view turn → IsLawful mid → tags_of mid.in_flight ≡ view.tags → Follows mid view turn step new → mid.told ≡ Some told → Carries view told
+  follows_carries : (mid new : State) (view : View) (turn : Turn) (step : BatchStep) (told : Record) → IsTurn view turn → IsLawful mid
+      → tags_of mid.in_flight ≡ view.tags → Follows mid view turn step new → mid.told ≡ Some told → Carries view told
       → (u : Record) × (new.told ≡ Some u) × CarriesOn step u
-  follows_carries mid new view Waits (Going next) told is lawful tags f e h = (told, ap (λ (s : State). s.told) f.0 ∙ e, subst (λ (v : View). Carries v told) (sym f.1) h)
+  follows_carries mid new view Waits (Going next) told is lawful tags f e h =
+      (told, ap (λ (s : State). s.told) f.0 ∙ e, subst (λ (v : View). Carries v told) (sym f.1) h)
   follows_carries mid new view Flushes (Going next) told is lawful tags f e h =
-      let idle : in_flight_after told.steps ≡ [] = sym (told_at (λ t. mid.in_flight ≡ in_flight_after t.steps) mid.told told lawful.in_flight e) ∙ no_tags mid.in_flight (tags ∙ is.0) in
+      let idle : in_flight_after told.steps ≡ [] =
+          sym (told_at (λ t. mid.in_flight ≡ in_flight_after t.steps) mid.told told lawful.in_flight e)
+              ∙ no_tags mid.in_flight (tags ∙ is.0) in
       let new_tags : IsNewTag mid.next_tag told.steps = told_at (λ t. IsNewTag mid.next_tag t.steps) mid.told told lawful.new_tags e in (
         submitted_on f.0.os told,
         f.0.submits.told ∙ ap (option_map (submitted_on f.0.os)) e,
@@ -386,24 +440,30 @@ CarriesTold puts disks step before after = BetweenRecords (λ old told. CarriesO
 
 module _ (puts : List (Span × List (List ℕ))) (disks : List ℕ) where
   -- nothing is in flight in the record where nothing is in flight
-  idle_record : (state : State) (told : Record) → IsLawful state → state.in_flight ≡ [] → state.told ≡ Some told → in_flight_after told.steps ≡ []
-  idle_record state told lawful idle e = sym (told_at (λ t. state.in_flight ≡ in_flight_after t.steps) state.told told lawful.in_flight e) ∙ idle
+  idle_record : (state : State) (told : Record) → IsLawful state → state.in_flight ≡ [] → state.told ≡ Some told
+      → in_flight_after told.steps ≡ []
+  idle_record state told lawful idle e =
+      sym (told_at (λ t. state.in_flight ≡ in_flight_after t.steps) state.told told lawful.in_flight e) ∙ idle
 
-  pub starts_carries : (old new : State) (batching : Batching) → IsLawful old → old.in_flight ≡ [] → 0 < length puts → Starts old puts disks (view_of batching) new → CarriesTold puts disks (Going batching) old.told new.told
+  pub starts_carries : (old new : State) (batching : Batching) → IsLawful old → old.in_flight ≡ [] → 0 < length puts
+      → Starts old puts disks (view_of batching) new → CarriesTold puts disks (Going batching) old.told new.told
   starts_carries old new batching lawful idle some starts t e = by_puts puts starts some
     where
-      by_puts : (ps : List (Span × List (List ℕ))) → Starts old ps disks (view_of batching) new → 0 < length ps → (u : Record) × (new.told ≡ Some u) × CarriesOn ps disks t (Going batching) u
+      by_puts : (ps : List (Span × List (List ℕ))) → Starts old ps disks (view_of batching) new → 0 < length ps
+          → (u : Record) × (new.told ≡ Some u) × CarriesOn ps disks t (Going batching) u
       by_puts [] starts some = absurd (omega arith)
       by_puts (p ∷ ps) starts some =
           let os = starts.0.os in (
             submitted_on os t,
             starts.0.submits.told ∙ ap (option_map (submitted_on os)) e,
             subst (λ (v : View). Carries (p ∷ ps) disks t v (submitted_on os t)) (sym starts.1)
-                (subst (λ (tags : List ℕ). Carries (p ∷ ps) disks t (record { tags = tags; flush = disks; flushing = false; lost = None }) (submitted_on os t)) starts.0.tags_are
+                (subst (λ (tags : List ℕ). Carries (p ∷ ps) disks t (record { tags = tags; flush = disks; flushing = false; lost = None })
+                    (submitted_on os t)) starts.0.tags_are
                 (carries_started (p ∷ ps) disks t os starts.0.works_are (idle_record old t lawful idle e))),
           )
 
-  pub turns_carries : (first before mid new : State) (step next : BatchStep) (done : Done) → IsLawful mid → IsOn step before → Completes before done mid → Turns mid step done next new
+  pub turns_carries : (first before mid new : State) (step next : BatchStep) (done : Done) → IsLawful mid → IsOn step before
+      → Completes before done mid → Turns mid step done next new
       → CarriesTold puts disks step first.told before.told → CarriesTold puts disks next first.told new.told
   turns_carries first before mid new (Going b) next done lawful on completes goes h t e =
       let u = h t e in
@@ -411,20 +471,27 @@ module _ (puts : List (Span × List (List ℕ))) (disks : List ℕ) where
       let told : mid.told ≡ Some (step_on step u.0) = completes.told.1 ∙ ap (option_map (step_on step)) u.1 in
       let is : IsRecord (step_on step u.0).steps = told_at (λ s. IsRecord s.steps) mid.told (step_on step u.0) lawful.follows told in
       let after : View = after_done (view_of b) done in
-      follows_carries puts disks t mid new after (turn_of after) next (step_on step u.0) (is_turn after.tags after.flush after.flushing after.lost) lawful
-      (ap (λ (l : List Operation). tags_of l) completes.in_flight ∙ tags_left before.in_flight done.tag ∙ ap (λ (l : List ℕ). filter (λ (n : ℕ). not (n == done.tag)) l) on.0) goes told
+      follows_carries puts disks t mid new after (turn_of after) next (step_on step u.0)
+          (is_turn after.tags after.flush after.flushing after.lost) lawful
+      (ap (λ (l : List Operation). tags_of l) completes.in_flight ∙ tags_left before.in_flight done.tag
+          ∙ ap (λ (l : List ℕ). filter (λ (n : ℕ). not (n == done.tag)) l) on.0) goes told
       (carries_done puts disks t (view_of b) u.0 done.tag (disk_of done.op) (work_of done.op) done.well completes.told.0 is u.2)
   turns_carries first before mid new Well next done lawful on completes goes h t e = absurd goes
   turns_carries first before mid new (Lost pv) next done lawful on completes goes h t e = absurd goes
 
   -- it is over
-  pub ends_well : (old new : State) → IsLawful old → IsLawful new → old.in_flight ≡ [] → new.in_flight ≡ [] → CarriesTold puts disks Well old.told new.told → BetweenRecords (λ before after. WritesAll before puts disks true after) old.told new.told
+  pub ends_well : (old new : State) → IsLawful old → IsLawful new → old.in_flight ≡ [] → new.in_flight ≡ []
+      → CarriesTold puts disks Well old.told new.told
+      → BetweenRecords (λ before after. WritesAll before puts disks true after) old.told new.told
   ends_well old new lawful lawful' idle idle' h t e =
       let u = h t e in
       let is : IsRecord u.0.steps = told_at (λ s. IsRecord s.steps) new.told u.0 lawful'.follows u.1 in
-      (u.0, u.1, carried_well puts disks t u.2.0 u.0 is (idle_record old t lawful idle e) (idle_record new u.0 lawful' idle' u.1) u.2.1 u.2.2)
+      (u.0, u.1, carried_well puts disks t u.2.0 u.0 is (idle_record old t lawful idle e) (idle_record new u.0 lawful' idle' u.1) u.2.1
+          u.2.2)
 
-  pub ends_lost : (old new : State) (pv : ℕ) → IsLawful old → IsLawful new → old.in_flight ≡ [] → CarriesTold puts disks (Lost pv) old.told new.told → BetweenRecords (λ before after. WritesAll before puts disks false after) old.told new.told
+  pub ends_lost : (old new : State) (pv : ℕ) → IsLawful old → IsLawful new → old.in_flight ≡ []
+      → CarriesTold puts disks (Lost pv) old.told new.told
+      → BetweenRecords (λ before after. WritesAll before puts disks false after) old.told new.told
   ends_lost old new pv lawful lawful' idle h t e =
       let u = h t e in
       let is : IsRecord u.0.steps = told_at (λ s. IsRecord s.steps) new.told u.0 lawful'.follows u.1 in

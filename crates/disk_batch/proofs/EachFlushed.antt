@@ -1,5 +1,6 @@
 -- One disk is flushed after another.
-use Rattle.std.proofs.Common.{◌≡◌, ◌<◌, Option, ℕ, ◌+◌, Bool, true, false, IsTrue, List, [], ◌∷◌, ◌++◌, refl, inl, inr, ap, subst, ◌∙◌, arith}
+use Rattle.std.proofs.Common.{◌≡◌, ◌<◌, Option, ℕ, ◌+◌, Bool, true, false, IsTrue, List, [], ◌∷◌, ◌++◌, refl, inl, inr, ap, subst, ◌∙◌,
+    arith}
 use Rattle.std.proofs.lemmas.Bool.{cases_lt}
 use Rattle.disk_model.specs.CarriesOut.{CarriesOut, with_operation}
 use Rattle.disk_model.specs.Order.{HasFlushed, WritesNothing}
@@ -29,7 +30,8 @@ completed_well : (tag disk : ℕ) (well : Bool) (fresh : List Bool) → IsTrue w
 completed_well tag disk true fresh is = inl refl
 completed_well tag disk false fresh is = absurd (cc)
 
-one_flush : (t : Record) (tag disk : ℕ) (well : Bool) (fresh : List Bool) → FlushesOne disk well t (with_operation tag (Flushing disk) well fresh t)
+one_flush : (t : Record) (tag disk : ℕ) (well : Bool) (fresh : List Bool)
+    → FlushesOne disk well t (with_operation tag (Flushing disk) well fresh t)
 one_flush t tag disk well fresh = record {
   since = flush_steps tag disk well fresh;
   steps = refl;
@@ -40,11 +42,13 @@ one_flush t tag disk well fresh = record {
 }
 
 -- those below a number, and that number
-flushed_below : (disk pv : ℕ) (newer older : List Step) → ((p : ℕ) → p < disk → HasFlushed p older) → HasFlushed disk newer → pv < disk + 1 → HasFlushed pv (newer ++ older)
+flushed_below : (disk pv : ℕ) (newer older : List Step) → ((p : ℕ) → p < disk → HasFlushed p older) → HasFlushed disk newer → pv < disk + 1
+    → HasFlushed pv (newer ++ older)
 flushed_below disk pv newer older before here within =
     elim (cases_lt pv disk) [
       | inl low ↦ flushed_later pv newer older (before pv low)
-      | inr high ↦ flushed_newer pv newer older (let same : disk ≡ pv = omega (arith, high, within) in subst (λ (n : ℕ). HasFlushed n newer) same here)
+      | inr high ↦ flushed_newer pv newer older
+          (let same : disk ≡ pv = omega (arith, high, within) in subst (λ (n : ℕ). HasFlushed n newer) same here)
     ]
 
 module _ (disk : ℕ) (well : Bool) (old mid new : Record) (all : FlushesAll disk true old mid) (one : FlushesOne disk well mid new) where
@@ -62,18 +66,23 @@ module _ (disk : ℕ) (well : Bool) (old mid new : Record) (all : FlushesAll dis
 pub none_flushed : (told : Option Record) → BetweenRecords (FlushesAll 0 true) told told
 none_flushed told =
     between_same (FlushesAll 0 true) told told refl
-    (λ old. record { since = []; steps = refl; nothing = tt; unread = refl; same = λ pv sector. refl; flushed = λ is pv within. absurd (omega (arith, within)) })
+    (λ old. record { since = []; steps = refl; nothing = tt; unread = refl; same = λ pv sector. refl;
+        flushed = λ is pv within. absurd (omega (arith, within)) })
 
 -- one disk more was flushed, well or not
-pub one_more_flushed : (told : Option Record) (mid : State) (disk : ℕ) (done : Done) (new : State) → BetweenRecords (FlushesAll disk true) told mid.told → CarriesOut mid (Flush disk) done new
+pub one_more_flushed : (told : Option Record) (mid : State) (disk : ℕ) (done : Done) (new : State)
+    → BetweenRecords (FlushesAll disk true) told mid.told → CarriesOut mid (Flush disk) done new
     → BetweenRecords (FlushesAll (disk + 1) done.well) told new.told
 one_more_flushed told mid disk done new before carried =
-    between_both (FlushesAll disk true) (FlushesOne disk done.well) (FlushesAll (disk + 1) done.well) told mid.told new.told (one_more disk done.well) before
+    between_both (FlushesAll disk true) (FlushesOne disk done.well) (FlushesAll (disk + 1) done.well) told mid.told new.told
+        (one_more disk done.well) before
     (told_by_operation mid (Flush disk) done new (FlushesOne disk done.well) carried (λ t fresh. one_flush t done.tag disk done.well fresh))
 
 stopped : (disks disk : ℕ) (old new : Record) → FlushesAll disk false old new → FlushesAll disks false old new
-stopped disks disk old new f = record { since = f.since; steps = f.steps; nothing = f.nothing; unread = f.unread; same = f.same; flushed = λ is. absurd (cc) }
+stopped disks disk old new f =
+    record { since = f.since; steps = f.steps; nothing = f.nothing; unread = f.unread; same = f.same; flushed = λ is. absurd (cc) }
 
 -- one was not, and no further one was tried
-pub flushes_stopped : (disks disk : ℕ) (told told' : Option Record) → BetweenRecords (FlushesAll disk false) told told' → BetweenRecords (FlushesAll disks false) told told'
+pub flushes_stopped : (disks disk : ℕ) (told told' : Option Record) → BetweenRecords (FlushesAll disk false) told told'
+    → BetweenRecords (FlushesAll disks false) told told'
 flushes_stopped disks disk told told' f old is = let r = f old is in (r.0, r.1, stopped disks disk old r.0 r.2)

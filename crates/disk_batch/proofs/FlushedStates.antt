@@ -1,5 +1,6 @@
 -- Which disks a batch has flushed, call by call.
-use Rattle.std.proofs.Common.{◌≡◌, ◌≤◌, ◌<◌, ℕ, true, false, List, [], ◌∷◌, length, get_or, All, Option, Some, None, IfSome, option_map, sym, ap, subst, ◌∙◌, arith}
+use Rattle.std.proofs.Common.{◌≡◌, ◌≤◌, ◌<◌, ℕ, true, false, List, [], ◌∷◌, length, get_or, All, Option, Some, None, IfSome, option_map,
+    sym, ap, subst, ◌∙◌, arith}
 use Rattle.sector_base.specs.declared.spans.Span.{Span}
 use Rattle.disk_model.specs.declared.ops.Done.{Done}
 use Rattle.disk_model.specs.Steps.{Step, Completed, Record, step_on}
@@ -21,7 +22,8 @@ use Rattle.disk_batch.proofs.Calling.{IsTurn, is_turn}
 use Rattle.disk_batch.proofs.Flushing.{flushes_done, flushes_later, flushes_submitted, flushes_well}
 
 -- what is told of each disk is told of all
-pub told_of_each : (P : ℕ → Record → Type 0) (disks : List ℕ) (o : Option Record) → ((pv : ℕ) → IsAmong disks pv → IfSome o (P pv)) → IfSome o (λ told. All (λ (pv : ℕ). P pv told) disks)
+pub told_of_each : (P : ℕ → Record → Type 0) (disks : List ℕ) (o : Option Record) → ((pv : ℕ) → IsAmong disks pv → IfSome o (P pv))
+    → IfSome o (λ told. All (λ (pv : ℕ). P pv told) disks)
 told_of_each P disks None each = tt
 told_of_each P disks (Some told) each = all_of_each (λ (pv : ℕ). P pv told) disks each
 
@@ -31,20 +33,26 @@ module _ (from pv : ℕ) where
   FlushingHolds view state = IfSome state.told (λ told. FlushesSince view told from pv)
 
   -- a batch that writes something starts
-  pub starts_flushing : (old new : State) (puts : List (Span × List (List ℕ))) (disks : List ℕ) (view : View) → 0 < length puts → Starts old puts disks view new → FlushingHolds view new
+  pub starts_flushing : (old new : State) (puts : List (Span × List (List ℕ))) (disks : List ℕ) (view : View) → 0 < length puts
+      → Starts old puts disks view new → FlushingHolds view new
   starts_flushing old new [] disks view some starts = absurd (omega arith)
   starts_flushing old new (put ∷ puts) disks view some starts =
       let later : view.flushing ≡ false = ap (λ (v : View). v.flushing) starts.1 in
       subst (λ (o : Option Record). IfSome o (λ told. FlushesSince view told from pv)) (sym starts.0.submits.told)
-      (told_map (submitted_on starts.0.os) (λ told. FlushesSince view told from pv) old.told (λ t is. flushes_later view (submitted_on starts.0.os t) from pv later))
+      (told_map (submitted_on starts.0.os) (λ told. FlushesSince view told from pv) old.told
+          (λ t is. flushes_later view (submitted_on starts.0.os t) from pv later))
 
   -- an operation of its own completes
-  flushing_done : (before mid : State) (done : Done) (view : View) → IsLawful mid → Completes before done mid → FlushingHolds view before → FlushingHolds (after_done view done) mid
+  flushing_done : (before mid : State) (done : Done) (view : View) → IsLawful mid → Completes before done mid → FlushingHolds view before
+      → FlushingHolds (after_done view done) mid
   flushing_done before mid done view lawful completes h =
       let step : Step = Completed done.tag (work_of done.op) done.well completes.told.0 in
-      told_after (step_on step) (λ told. FlushesSince view told from pv) (λ told. FlushesSince (after_done view done) told from pv) before.told mid.told completes.told.1
+      told_after (step_on step) (λ told. FlushesSince view told from pv) (λ told. FlushesSince (after_done view done) told from pv)
+          before.told mid.told completes.told.1
       (λ t is f.
-      let record' : IsRecord (step_on step t).steps = told_at (λ told. IsRecord told.steps) mid.told (step_on step t) lawful.follows (completes.told.1 ∙ ap (option_map (step_on step)) is) in
+      let record' : IsRecord (step_on step t).steps =
+          told_at (λ told. IsRecord told.steps) mid.told (step_on step t) lawful.follows
+              (completes.told.1 ∙ ap (option_map (step_on step)) is) in
       flushes_done view t from pv done.tag (disk_of done.op) (work_of done.op) done.well completes.told.0 record' f) h
 
   -- what it came to
@@ -53,20 +61,24 @@ module _ (from pv : ℕ) where
   FlushingCame Well state = IfSome state.told (λ told. HasFlushedSince from pv told.steps)
   FlushingCame (Lost disk) state = Unit {0}
 
-  flushing_follows : (old new : State) (view : View) (turn : Turn) (step : BatchStep) → IsTurn view turn → from ≤ old.next_tag → IsAmong view.flush pv → Follows old view turn step new → FlushingHolds view old → FlushingCame step new
+  flushing_follows : (old new : State) (view : View) (turn : Turn) (step : BatchStep) → IsTurn view turn → from ≤ old.next_tag
+      → IsAmong view.flush pv → Follows old view turn step new → FlushingHolds view old → FlushingCame step new
   flushing_follows old new view Waits (Going next) is since among f h =
       subst (λ (s : State). FlushingHolds (view_of next) s) (sym f.0) (subst (λ (v : View). FlushingHolds v old) (sym f.1) h)
   flushing_follows old new view Flushes (Going next) is since among f h =
       let os : List Operation = f.0.os in
-      let fresh : All (λ (o : Operation). from ≤ o.tag) os = λ k d within. let new_tag : old.next_tag ≤ (get_or os k d).tag = f.0.submits.fresh k d within in omega (arith, since, new_tag) in
-      told_after (submitted_on os) (λ told. FlushesSince view told from pv) (λ told. FlushesSince (view_of next) told from pv) old.told new.told f.0.submits.told
+      let fresh : All (λ (o : Operation). from ≤ o.tag) os =
+          λ k d within. let new_tag : old.next_tag ≤ (get_or os k d).tag = f.0.submits.fresh k d within in omega (arith, since, new_tag) in
+      told_after (submitted_on os) (λ told. FlushesSince view told from pv) (λ told. FlushesSince (view_of next) told from pv) old.told
+          new.told f.0.submits.told
       (λ t told b.
       subst (λ (v : View). FlushesSince v (submitted_on os t) from pv) (sym f.1)
       (subst (λ (tags : List ℕ). FlushesSince (record view { tags = tags; flushing = true }) (submitted_on os t) from pv) f.0.tags_are
       (flushes_submitted view os t from pv f.0.works_are among fresh))) h
   flushing_follows old new view IsWell Well is since among f h =
       subst (λ (s : State). FlushingCame Well s) (sym f)
-      (told_weaker (λ told. FlushesSince view told from pv) (λ told. HasFlushedSince from pv told.steps) old.told (λ t b. flushes_well view t from pv is.0 is.1 is.2 b) h)
+      (told_weaker (λ told. FlushesSince view told from pv) (λ told. HasFlushedSince from pv told.steps) old.told
+          (λ t b. flushes_well view t from pv is.0 is.1 is.2 b) h)
   flushing_follows old new view (IsLost disk) (Lost disk') is since among f h = tt
   flushing_follows old new view Waits Well is since among f h = absurd f
   flushing_follows old new view Waits (Lost disk) is since among f h = absurd f
@@ -78,10 +90,12 @@ module _ (from pv : ℕ) where
   flushing_follows old new view (IsLost disk) Well is since among f h = absurd f
 
   -- a completion of its own, and what the batch does at it
-  pub goes_flushing : (before mid new : State) (view : View) (done : Done) (step : BatchStep) → IsLawful mid → from ≤ mid.next_tag → IsAmong view.flush pv → Completes before done mid → Goes mid view done step new → FlushingHolds view before → FlushingCame step new
+  pub goes_flushing : (before mid new : State) (view : View) (done : Done) (step : BatchStep) → IsLawful mid → from ≤ mid.next_tag
+      → IsAmong view.flush pv → Completes before done mid → Goes mid view done step new → FlushingHolds view before → FlushingCame step new
   goes_flushing before mid new view done step lawful since among completes goes h =
       let after : View = after_done view done in
-      flushing_follows mid new after (turn_of after) step (is_turn after.tags after.flush after.flushing after.lost) since among goes (flushing_done before mid done view lawful completes h)
+      flushing_follows mid new after (turn_of after) step (is_turn after.tags after.flush after.flushing after.lost) since among goes
+          (flushing_done before mid done view lawful completes h)
 
 -- the batch flushes the same disks
 abbrev pub KeepsFlush : List ℕ → BatchStep → Type 0
@@ -89,7 +103,8 @@ KeepsFlush flush (Going next) = (view_of next).flush ≡ flush
 KeepsFlush flush Well = Unit {0}
 KeepsFlush flush (Lost pv) = Unit {0}
 
-follows_flush : (old new : State) (view : View) (turn : Turn) (next : Batching) → Follows old view turn (Going next) new → (view_of next).flush ≡ view.flush
+follows_flush : (old new : State) (view : View) (turn : Turn) (next : Batching) → Follows old view turn (Going next) new
+    → (view_of next).flush ≡ view.flush
 follows_flush old new view Waits next f = ap (λ (v : View). v.flush) f.1
 follows_flush old new view Flushes next f = ap (λ (v : View). v.flush) f.1
 follows_flush old new view IsWell next f = absurd f

@@ -1,5 +1,6 @@
 -- What a batch uses up of a shelf, and what holds as a record grows.
-use Rattle.std.proofs.Common.{◌≡◌, ◌≤◌, ◌<◌, ℕ, suc, ◌+◌, ◌-◌, drop, Bool, cond, List, [], ◌∷◌, ◌++◌, length, map, sum_by, refl, sym, ap, subst, ◌∙◌, arith, length-append, ◌*◌}
+use Rattle.std.proofs.Common.{◌≡◌, ◌≤◌, ◌<◌, ℕ, suc, ◌+◌, ◌-◌, drop, Bool, cond, List, [], ◌∷◌, ◌++◌, length, map, sum_by, refl, sym, ap,
+    subst, ◌∙◌, arith, length-append, ◌*◌}
 use Rattle.std.proofs.lemmas.List.{length-map}
 use Rattle.std.proofs.lemmas.List.Sums.{sum_by-append}
 use Rattle.sector_base.specs.declared.spans.Span.{Span}
@@ -30,14 +31,18 @@ pub record WorksOn (old : State) (ops sectors to_submit : ℕ) (new : State) : T
   pub later : old.steps ≤ new.steps
 
 -- what held throughout a part of a record does so when the record has grown
-pub throughout_grown : (told : Record) (newer : List Step) (from until : ℕ) (P : Record → Type 0) → until ≤ length told.steps → Throughout from until told P → Throughout from until (record { opened = told.opened; steps = newer ++ told.steps }) P
+pub throughout_grown : (told : Record) (newer : List Step) (from until : ℕ) (P : Record → Type 0) → until ≤ length told.steps
+    → Throughout from until told P → Throughout from until (record { opened = told.opened; steps = newer ++ told.steps }) P
 throughout_grown told newer from until P le so_far moment ge upto =
-    let e : length (newer ++ told.steps) - moment ≡ length newer + (length told.steps - moment) = omega (arith, length-append newer told.steps) in
-    let s : drop (length (newer ++ told.steps) - moment) (newer ++ told.steps) ≡ drop (length told.steps - moment) told.steps = ap (λ (k : ℕ). drop k (newer ++ told.steps)) e ∙ drop_newer newer told.steps (length told.steps - moment) in
+    let e : length (newer ++ told.steps) - moment ≡ length newer + (length told.steps - moment) =
+        omega (arith, length-append newer told.steps) in
+    let s : drop (length (newer ++ told.steps) - moment) (newer ++ told.steps) ≡ drop (length told.steps - moment) told.steps =
+        ap (λ (k : ℕ). drop k (newer ++ told.steps)) e ∙ drop_newer newer told.steps (length told.steps - moment) in
     subst (λ (l : List Step). P (record { opened = told.opened; steps = l })) (sym s) (so_far moment ge upto)
 
 -- flushes use up no sector
-flushes_no_sectors : (os : List Operation) (disks : List ℕ) → works_of os ≡ map Flushing disks → sum_by (λ (o : Operation). sectors_of_work o.work) os ≡ 0
+flushes_no_sectors : (os : List Operation) (disks : List ℕ) → works_of os ≡ map Flushing disks
+    → sum_by (λ (o : Operation). sectors_of_work o.work) os ≡ 0
 flushes_no_sectors [] disks e = refl
 flushes_no_sectors (o ∷ os) [] e = cc
 flushes_no_sectors (o ∷ os) (d ∷ disks) e =
@@ -49,7 +54,8 @@ flushes_no_sectors (o ∷ os) (d ∷ disks) e =
     omega (arith, all, one, flushes_no_sectors os disks rest)
 
 -- writes use up theirs
-writes_sectors : (os : List Operation) (puts : List (Span × List (List ℕ))) → works_of os ≡ map write_work puts → sum_by (λ (o : Operation). sectors_of_work o.work) os ≡ sum_by span_count puts
+writes_sectors : (os : List Operation) (puts : List (Span × List (List ℕ))) → works_of os ≡ map write_work puts
+    → sum_by (λ (o : Operation). sectors_of_work o.work) os ≡ sum_by span_count puts
 writes_sectors [] [] e = refl
 writes_sectors [] (p ∷ puts) e = cc
 writes_sectors (o ∷ os) [] e = cc
@@ -59,17 +65,22 @@ writes_sectors (o ∷ os) (p ∷ puts) e =
     let f : Operation → ℕ = λ q. sectors_of_work q.work in
     let one : sum_by f (o ∷ []) ≡ sum_by span_count (p ∷ []) = let z : f o ≡ span_count p = ap sectors_of_work work in omega arith in
     let all : sum_by f ((o ∷ []) ++ os) ≡ sum_by f (o ∷ []) + sum_by f os = sum_by-append f (o ∷ []) os in
-    let all' : sum_by span_count ((p ∷ []) ++ puts) ≡ sum_by span_count (p ∷ []) + sum_by span_count puts = sum_by-append span_count (p ∷ []) puts in
+    let all' : sum_by span_count ((p ∷ []) ++ puts) ≡ sum_by span_count (p ∷ []) + sum_by span_count puts =
+        sum_by-append span_count (p ∷ []) puts in
     omega (arith, all, all', one, writes_sectors os puts rest)
 
 -- the start
-starts_works : (old new : State) (put : Span × List (List ℕ)) (puts : List (Span × List (List ℕ))) (disks : List ℕ) (batching : Batching) → Starts old (put ∷ puts) disks (view_of batching) new
+starts_works : (old new : State) (put : Span × List (List ℕ)) (puts : List (Span × List (List ℕ))) (disks : List ℕ) (batching : Batching)
+    → Starts old (put ∷ puts) disks (view_of batching) new
     → WorksOn old (length (put ∷ puts) + length disks) (sum_by span_count (put ∷ puts)) (steps_to_come (Going batching)) new
 starts_works old new put puts disks batching starts =
     let s = starts.0.submits in
-    let many : length starts.0.os ≡ suc (length puts) = sym (length-map starts.0.os (λ (o : Operation). o.work)) ∙ ap (λ (l : List Work). length l) starts.0.works_are ∙ ap suc (length-map puts write_work) in
+    let many : length starts.0.os ≡ suc (length puts) =
+        sym (length-map starts.0.os (λ (o : Operation). o.work)) ∙ ap (λ (l : List Work). length l) starts.0.works_are
+            ∙ ap suc (length-map puts write_work) in
     let come : to_come (view_of batching) ≡ length disks = ap to_come starts.1 in
-    let inflight : length new.in_flight ≡ length old.in_flight + length starts.0.os = ap (λ (l : List Operation). length l) s.in_flight ∙ length-append old.in_flight starts.0.os in
+    let inflight : length new.in_flight ≡ length old.in_flight + length starts.0.os =
+        ap (λ (l : List Operation). length l) s.in_flight ∙ length-append old.in_flight starts.0.os in
     record {
       sizes = s.sizes;
       spare_ops = omega (arith, s.spare_ops);
@@ -78,19 +89,26 @@ starts_works old new put puts disks batching starts =
       later = omega (arith, s.steps);
     }
 
-pub alone_works : (old new : State) (disks : List ℕ) (batching : Batching) (puts : List (Span × List (List ℕ))) → 0 < length puts → Starts old puts disks (view_of batching) new
+pub alone_works : (old new : State) (disks : List ℕ) (batching : Batching) (puts : List (Span × List (List ℕ))) → 0 < length puts
+    → Starts old puts disks (view_of batching) new
     → WorksOn old (length puts + length disks) (sum_by span_count puts) (steps_to_come (Going batching)) new
 alone_works old new disks batching [] some starts = absurd (omega arith)
 alone_works old new disks batching (put ∷ puts) some starts = starts_works old new put puts disks batching starts
 
 -- what a batch does at a completion
-follows_works : (mid new : State) (view : View) (turn : Turn) (step : BatchStep) → IsTurn view turn → Follows mid view turn step new → WorksOn mid (to_come view) 0 (steps_to_come step) new
-follows_works mid new view Waits (Going next) is f = subst (λ (s : State). WorksOn mid (to_come view) 0 (to_come (view_of next)) s) (sym f.0)
-    (let e : to_come (view_of next) ≡ to_come view = ap to_come f.1 in record { sizes = refl; spare_ops = omega arith; spare_sectors = omega arith; steps = omega arith; later = omega arith })
+follows_works : (mid new : State) (view : View) (turn : Turn) (step : BatchStep) → IsTurn view turn → Follows mid view turn step new
+    → WorksOn mid (to_come view) 0 (steps_to_come step) new
+follows_works mid new view Waits (Going next) is f =
+    subst (λ (s : State). WorksOn mid (to_come view) 0 (to_come (view_of next)) s) (sym f.0)
+    (let e : to_come (view_of next) ≡ to_come view = ap to_come
+        f.1 in record { sizes = refl; spare_ops = omega arith; spare_sectors = omega arith; steps = omega arith; later = omega arith })
 follows_works mid new view Flushes (Going next) is f =
     let s = f.0.submits in
-    let os : length f.0.os ≡ length view.flush = sym (length-map f.0.os (λ (o : Operation). o.work)) ∙ ap (λ (l : List Work). length l) f.0.works_are ∙ length-map view.flush Flushing in
-    let inflight : length new.in_flight ≡ length mid.in_flight + length f.0.os = ap (λ (l : List Operation). length l) s.in_flight ∙ length-append mid.in_flight f.0.os in
+    let os : length f.0.os ≡ length view.flush =
+        sym (length-map f.0.os (λ (o : Operation). o.work)) ∙ ap (λ (l : List Work). length l) f.0.works_are
+            ∙ length-map view.flush Flushing in
+    let inflight : length new.in_flight ≡ length mid.in_flight + length f.0.os =
+        ap (λ (l : List Operation). length l) s.in_flight ∙ length-append mid.in_flight f.0.os in
     let b : to_come (view_of next) ≡ 0 = ap to_come f.1 in
     let d : to_come view ≡ length view.flush = ap (λ (w : Bool). cond w 0 (length view.flush)) is.1 in
     record {
@@ -100,8 +118,12 @@ follows_works mid new view Flushes (Going next) is f =
       steps = omega (arith, s.steps, inflight);
       later = omega (arith, s.steps);
     }
-follows_works mid new view IsWell Well is f = subst (λ (s : State). WorksOn mid (to_come view) 0 0 s) (sym f) (record { sizes = refl; spare_ops = omega arith; spare_sectors = omega arith; steps = omega arith; later = omega arith })
-follows_works mid new view (IsLost pv) (Lost pv') is f = subst (λ (s : State). WorksOn mid (to_come view) 0 0 s) (sym f.0) (record { sizes = refl; spare_ops = omega arith; spare_sectors = omega arith; steps = omega arith; later = omega arith })
+follows_works mid new view IsWell Well is f =
+    subst (λ (s : State). WorksOn mid (to_come view) 0 0 s) (sym f)
+        (record { sizes = refl; spare_ops = omega arith; spare_sectors = omega arith; steps = omega arith; later = omega arith })
+follows_works mid new view (IsLost pv) (Lost pv') is f =
+    subst (λ (s : State). WorksOn mid (to_come view) 0 0 s) (sym f.0)
+        (record { sizes = refl; spare_ops = omega arith; spare_sectors = omega arith; steps = omega arith; later = omega arith })
 follows_works mid new view Waits Well is f = absurd f
 follows_works mid new view Waits (Lost pv) is f = absurd f
 follows_works mid new view Flushes Well is f = absurd f
@@ -111,7 +133,8 @@ follows_works mid new view IsWell (Lost pv) is f = absurd f
 follows_works mid new view (IsLost pv) (Going next) is f = absurd f
 follows_works mid new view (IsLost pv) Well is f = absurd f
 
-pub turns_works : (old before mid new : State) (ops sectors : ℕ) (step next : BatchStep) (done : Done) → Completes before done mid → Turns mid step done next new → WorksOn old ops sectors (steps_to_come step) before → WorksOn old ops sectors (steps_to_come next) new
+pub turns_works : (old before mid new : State) (ops sectors : ℕ) (step next : BatchStep) (done : Done) → Completes before done mid
+    → Turns mid step done next new → WorksOn old ops sectors (steps_to_come step) before → WorksOn old ops sectors (steps_to_come next) new
 turns_works old before mid new ops sectors (Going b) next done completes goes works =
     let after : View = after_done (view_of b) done in
     let f = follows_works mid new after (turn_of after) next (is_turn after.tags after.flush after.flushing after.lost) goes in

@@ -1,5 +1,6 @@
 -- One batch, as the only one of those that are carried out in turn.
-use Rattle.std.proofs.Common.{◌≡◌, ◌⊎◌, ℕ, Bool, true, false, IsTrue, List, [], ◌∷◌, map, length, inl, inr, ⊎_elim, refl, sym, subst, ◌∙◌, arith}
+use Rattle.std.proofs.Common.{◌≡◌, ◌⊎◌, ℕ, Bool, true, false, IsTrue, List, [], ◌∷◌, map, length, inl, inr, ⊎_elim, refl, sym, subst, ◌∙◌,
+    arith}
 use Rattle.std.proofs.lemmas.Bool.{cases_Bool}
 use Rattle.std.proofs.lemmas.List.{append-nil}
 use Rattle.disk_model.specs.Steps.{Image, IsSame, Record, now_after}
@@ -15,10 +16,12 @@ use Rattle.disk_batch.specs.Writes.{IsWrittenBy, write_work}
 use Rattle.disk_batch.proofs.WritesOnImages.{written_at, written_is, written_kept}
 
 -- no two of its writes share a sector, and each is on a disk that it flushes
-module _ (old new : Record) (puts : List Put) (disks : List ℕ) (well : Bool) (all : WritesAll old puts disks well new) (apart : ShareNoSector puts)
+module _ (old new : Record) (puts : List Put) (disks : List ℕ) (well : Bool) (all : WritesAll old puts disks well new)
+    (apart : ShareNoSector puts)
     (flushed : (pv sector : ℕ) → IsTrue (writes_at (map write_work puts) pv sector) → IsAmong disks pv) where
   -- what could be left there before was the base's, and what is written is what the image has after the writes
-  either : (base : Image) → IsBase old base → (pv sector : ℕ) (value : List ℕ) → CanLeave old pv sector value ⊎ IsWrittenBy puts pv sector value
+  either : (base : Image) → IsBase old base → (pv sector : ℕ) (value : List ℕ)
+      → CanLeave old pv sector value ⊎ IsWrittenBy puts pv sector value
       → (value ≡ base pv sector) ⊎ (value ≡ with_writes puts base pv sector)
   either base is pv sector value (inl could) = inl ((is pv sector).each could.0 value could.1)
   either base is pv sector value (inr by) = inr (written_is puts base pv sector value apart by)
@@ -27,7 +30,9 @@ module _ (old new : Record) (puts : List Put) (disks : List ℕ) (well : Bool) (
   images base is moment from upto image im = record {
     count = 0;
     among = omega arith;
-    either = λ pv sector. either base is pv sector (image pv sector) ((all.adds moment from upto pv sector).each (im pv sector).0 (image pv sector) (im pv sector).1);
+    either =
+        λ pv sector. either base is pv sector (image pv sector)
+            ((all.adds moment from upto pv sector).each (im pv sector).0 (image pv sector) (im pv sector).1);
   }
 
   last : AddsOnly old puts new
@@ -36,17 +41,20 @@ module _ (old new : Record) (puts : List Put) (disks : List ℕ) (well : Bool) (
   lasting : (base : Image) → IsBase old base → IsTrue well → IsBase new (with_writes puts base)
   lasting base is went pv sector =
       ⊎_elim
-      (λ at. record { each = λ write value may. written_is puts base pv sector value apart ((all.lasting went pv sector at (flushed pv sector at)).each write value may) })
+      (λ at. record { each = λ write value may. written_is puts base pv sector value apart
+          ((all.lasting went pv sector at (flushed pv sector at)).each write value may) })
       (λ none. record {
         each = λ write value may.
-            ⊎_elim (λ e. e ∙ sym (written_kept puts base pv sector none)) (λ e. e) (either base is pv sector value ((last pv sector).each write value may));
+            ⊎_elim (λ e. e ∙ sym (written_kept puts base pv sector none)) (λ e. e)
+                (either base is pv sector value ((last pv sector).each write value may));
       })
       (cases_Bool (writes_at (map write_work puts) pv sector))
 
   now : IsTrue well → IsSame (now_after new.opened new.steps) (with_writes puts (now_after old.opened old.steps))
   now went pv sector =
       ⊎_elim
-      (λ at. written_is puts (now_after old.opened old.steps) pv sector (now_after new.opened new.steps pv sector) apart (all.written went pv sector at))
+      (λ at. written_is puts (now_after old.opened old.steps) pv sector (now_after new.opened new.steps pv sector) apart
+          (all.written went pv sector at))
       (λ none.
       ⊎_elim
       (λ same. same ∙ sym (written_kept puts (now_after old.opened old.steps) pv sector none))

@@ -1,5 +1,6 @@
 -- How each step brings a batch on.
-use Rattle.std.proofs.Common.{◌≡◌, ℕ, Bool, true, false, not, ◌==◌, ◌||◌, IsTrue, List, [], ◌∷◌, filter, map, All, Some, None, inl, inr, ⊎_elim, refl, sym, ap, subst, ◌∙◌}
+use Rattle.std.proofs.Common.{◌≡◌, ℕ, Bool, true, false, not, ◌==◌, ◌||◌, IsTrue, List, [], ◌∷◌, filter, map, All, Some, None, inl, inr,
+    ⊎_elim, refl, sym, ap, subst, ◌∙◌}
 use Rattle.std.proofs.lemmas.Bool.Decides.{eqb_tells}
 use Rattle.std.proofs.lemmas.List.Elements.{All-cons, All-nil}
 use Rattle.disk_model.specs.Steps.{Work, Reading, Writing, Flushing, Step, Submitted, Completed, Record, step_on}
@@ -7,17 +8,20 @@ use Rattle.disk_model.specs.Record.{Operation, in_flight_after, IsRecord, IsIn}
 use Rattle.disk_model.specs.Brought.{writes, brings}
 use Rattle.disk_model.specs.Durability.{OnlyLeaves, OnlyLeavesOrCompleted, OnlyLeavesOrOvertaken, OnlyLeavesOrDropped}
 use Rattle.disk_model.proofs.WritesInFlight.{alone_completed}
-use Rattle.disk_model.proofs.Durable.{only_leaves_on, or_completed_on, or_overtaken_on, or_dropped_on, new_write, write_completes, flush_submitted, flush_completes}
+use Rattle.disk_model.proofs.Durable.{only_leaves_on, or_completed_on, or_overtaken_on, or_dropped_on, new_write, write_completes,
+    flush_submitted, flush_completes}
 use Rattle.disk_batch.specs.Views.{View, done_on}
 use Rattle.disk_batch.specs.Progress.{AwaitsWrite, AwaitsFlush, Stage, Brings}
 use Rattle.disk_model.specs.Submitting.{submitted_on, works_of, writes_at, BringsAt, BringAt}
 use Rattle.disk_model.specs.State.{tags_of}
 use Rattle.disk_model.specs.InFlight.{IsAmong, OnlyTheirs, IsStill, IsForeign}
-use Rattle.disk_model.proofs.InFlight.{is_among-filter, completes_its_own, in_flight_on, in_flight_left, in_flight_submitted, in_flight_new, theirs_on, theirs_done, theirs_submitted}
+use Rattle.disk_model.proofs.InFlight.{is_among-filter, completes_its_own, in_flight_on, in_flight_left, in_flight_submitted, in_flight_new,
+    theirs_on, theirs_done, theirs_submitted}
 use Rattle.disk_model.proofs.Submissions.{submitted_leaves}
 
 -- what a step that isn't the batch's own leaves, where it brings nothing to the sector
-stage_on : (flushing : Bool) (tags : List ℕ) (told : Record) (pv sector : ℕ) (Q : List ℕ → Type 0) (step : Step) → brings step pv sector ≡ false → IsForeign tags step
+stage_on : (flushing : Bool) (tags : List ℕ) (told : Record) (pv sector : ℕ) (Q : List ℕ → Type 0) (step : Step)
+    → brings step pv sector ≡ false → IsForeign tags step
     → Stage flushing tags told pv sector Q → Stage flushing tags (step_on step told) pv sector Q
 stage_on false tags told pv sector Q step q foreign h =
     ⊎_elim
@@ -41,13 +45,18 @@ stage_on true tags told pv sector Q step q foreign h =
       drops = or_dropped_on told pv sector Q step q b.flush b.drops;
     })) h
 
-pub foreign_on : (view : View) (told : Record) (pv sector : ℕ) (Q : List ℕ → Type 0) (step : Step) → brings step pv sector ≡ false → IsForeign view.tags step
+pub foreign_on : (view : View) (told : Record) (pv sector : ℕ) (Q : List ℕ → Type 0) (step : Step) → brings step pv sector ≡ false
+    → IsForeign view.tags step
     → Brings view told pv sector Q → Brings view (step_on step told) pv sector Q
-foreign_on view told pv sector Q step q foreign h = record { stage = λ e. stage_on view.flushing view.tags told pv sector Q step q foreign (h.stage e); alone = theirs_on view.tags told pv sector step q h.alone }
+foreign_on view told pv sector Q step q foreign h =
+    record { stage = λ e. stage_on view.flushing view.tags told pv sector Q step q foreign (h.stage e);
+        alone = theirs_on view.tags told pv sector step q h.alone }
 
 -- a completion of its own that went well
-stage_done : (flushing : Bool) (tags : List ℕ) (told : Record) (pv sector : ℕ) (Q : List ℕ → Type 0) (tag : ℕ) (work : Work) (fresh : List Bool) → IsRecord (step_on (Completed tag work true fresh) told).steps
-    → Stage flushing tags told pv sector Q → Stage flushing (filter (λ (t : ℕ). not (t == tag)) tags) (step_on (Completed tag work true fresh) told) pv sector Q
+stage_done : (flushing : Bool) (tags : List ℕ) (told : Record) (pv sector : ℕ) (Q : List ℕ → Type 0) (tag : ℕ) (work : Work)
+    (fresh : List Bool) → IsRecord (step_on (Completed tag work true fresh) told).steps
+    → Stage flushing tags told pv sector Q → Stage flushing (filter (λ (t : ℕ). not (t == tag)) tags)
+    (step_on (Completed tag work true fresh) told) pv sector Q
 stage_done false tags told pv sector Q tag work fresh is h =
     let step : Step = Completed tag work true fresh in
     ⊎_elim
@@ -70,7 +79,8 @@ stage_done true tags told pv sector Q tag work fresh is h =
     ⊎_elim
     (λ a. inl (only_leaves_on told pv sector Q step refl a))
     (λ b. ⊎_elim
-    (λ same. let e : Flushing pv ≡ work = completes_its_own told.steps tag work (record { tag = b.flush; work = Flushing pv }) is.1 is.0 b.in_flight same.1 in
+    (λ same. let e : Flushing pv ≡ work = completes_its_own told.steps tag work (record { tag = b.flush; work = Flushing pv }) is.1 is.0
+        b.in_flight same.1 in
     inl (subst (λ (w : Work). OnlyLeaves (step_on (Completed tag w true fresh) told) pv sector Q) e
     (flush_completes told pv sector tag fresh Q (subst (λ (t : ℕ). OnlyLeavesOrDropped told t pv sector Q) same.1 b.drops))))
     (λ other. inr (record {
@@ -81,10 +91,14 @@ stage_done true tags told pv sector Q tag work fresh is h =
     }))
     (eqb_tells b.flush tag)) h
 
-pub own_done : (view : View) (told : Record) (pv sector : ℕ) (Q : List ℕ → Type 0) (tag disk : ℕ) (work : Work) (well : Bool) (fresh : List Bool) → IsRecord (step_on (Completed tag work well fresh) told).steps
+pub own_done : (view : View) (told : Record) (pv sector : ℕ) (Q : List ℕ → Type 0) (tag disk : ℕ) (work : Work) (well : Bool)
+    (fresh : List Bool) → IsRecord (step_on (Completed tag work well fresh) told).steps
     → Brings view told pv sector Q → Brings (done_on tag disk well view) (step_on (Completed tag work well fresh) told) pv sector Q
-own_done view told pv sector Q tag disk work true fresh is h = record { stage = λ e. stage_done view.flushing view.tags told pv sector Q tag work fresh is (h.stage e); alone = theirs_done view.tags told pv sector tag work true fresh h.alone }
-own_done view told pv sector Q tag disk work false fresh is h = record { stage = λ (e : Some disk ≡ None). cc; alone = theirs_done view.tags told pv sector tag work false fresh h.alone }
+own_done view told pv sector Q tag disk work true fresh is h =
+    record { stage = λ e. stage_done view.flushing view.tags told pv sector Q tag work fresh is (h.stage e);
+        alone = theirs_done view.tags told pv sector tag work true fresh h.alone }
+own_done view told pv sector Q tag disk work false fresh is h =
+    record { stage = λ (e : Some disk ≡ None). cc; alone = theirs_done view.tags told pv sector tag work false fresh h.alone }
 
 -- what isn't true is false
 not_true : (b : Bool) → (b ≡ true → ⊥) → b ≡ false
@@ -92,30 +106,38 @@ not_true true h = absurd (h refl)
 not_true false h = refl
 
 -- where no write of the sector is in flight, each has completed
-all_still : (fs : List Operation) (pv sector : ℕ) → ((o : Operation) → IsIn fs o → IsTrue (writes o.work pv sector) → ⊥) → All (λ (o : Operation). writes o.work pv sector ≡ false) fs
+all_still : (fs : List Operation) (pv sector : ℕ) → ((o : Operation) → IsIn fs o → IsTrue (writes o.work pv sector) → ⊥)
+    → All (λ (o : Operation). writes o.work pv sector ≡ false) fs
 all_still [] pv sector still = All-nil (λ (o : Operation). writes o.work pv sector ≡ false)
 all_still (f ∷ fs) pv sector still =
-    All-cons (λ (o : Operation). writes o.work pv sector ≡ false) f fs (not_true (writes f.work pv sector) (still f (inl refl))) (all_still fs pv sector (λ o a w. still o (inr a) w))
+    All-cons (λ (o : Operation). writes o.work pv sector ≡ false) f fs (not_true (writes f.work pv sector) (still f (inl refl)))
+        (all_still fs pv sector (λ o a w. still o (inr a) w))
 
 still_completed : (told : Record) (pv sector : ℕ) (Q : List ℕ → Type 0) → IsStill told pv sector → OnlyLeavesOrCompleted told pv sector Q
-still_completed told pv sector Q still = alone_completed told (in_flight_after told.steps) pv sector Q refl (all_still (in_flight_after told.steps) pv sector still)
+still_completed told pv sector Q still =
+    alone_completed told (in_flight_after told.steps) pv sector Q refl (all_still (in_flight_after told.steps) pv sector still)
 
 -- submissions that bring only values with Q
-bring_step : (told : Record) (pv sector tag : ℕ) (work : Work) (Q : List ℕ → Type 0) (c : Bool) → writes work pv sector ≡ c → BringsAt work pv sector Q → OnlyLeavesOrCompleted told pv sector Q
+bring_step : (told : Record) (pv sector tag : ℕ) (work : Work) (Q : List ℕ → Type 0) (c : Bool) → writes work pv sector ≡ c
+    → BringsAt work pv sector Q → OnlyLeavesOrCompleted told pv sector Q
     → OnlyLeavesOrCompleted (step_on (Submitted tag work) told) pv sector Q
 bring_step told pv sector tag work Q false e b h = or_completed_on told pv sector Q (Submitted tag work) e h
 bring_step told pv sector tag (Writing span sectors) Q true e b h = new_write told pv sector tag span sectors Q h (b e)
 bring_step told pv sector tag (Reading span) Q true e b h = cc
 bring_step told pv sector tag (Flushing disk) Q true e b h = cc
 
-completed_submitted : (os : List Operation) (told : Record) (pv sector : ℕ) (Q : List ℕ → Type 0) → BringAt (works_of os) pv sector Q → OnlyLeavesOrCompleted told pv sector Q → OnlyLeavesOrCompleted (submitted_on os told) pv sector Q
+completed_submitted : (os : List Operation) (told : Record) (pv sector : ℕ) (Q : List ℕ → Type 0) → BringAt (works_of os) pv sector Q
+    → OnlyLeavesOrCompleted told pv sector Q → OnlyLeavesOrCompleted (submitted_on os told) pv sector Q
 completed_submitted [] told pv sector Q b h = h
 completed_submitted (o ∷ os) told pv sector Q b h =
-    completed_submitted os (step_on (Submitted o.tag o.work) told) pv sector Q b.1 (bring_step told pv sector o.tag o.work Q (writes o.work pv sector) refl b.0 h)
+    completed_submitted os (step_on (Submitted o.tag o.work) told) pv sector Q b.1
+        (bring_step told pv sector o.tag o.work Q (writes o.work pv sector) refl b.0 h)
 
 -- a write of the sector that was submitted is awaited
-awaits_here : (o : Operation) (os : List Operation) (told : Record) (pv sector : ℕ) (c : Bool) → writes o.work pv sector ≡ c → IsTrue (c || writes_at (works_of os) pv sector)
-    → (IsTrue (writes_at (works_of os) pv sector) → AwaitsWrite (tags_of os) (submitted_on (o ∷ os) told) pv sector) → AwaitsWrite (tags_of (o ∷ os)) (submitted_on (o ∷ os) told) pv sector
+awaits_here : (o : Operation) (os : List Operation) (told : Record) (pv sector : ℕ) (c : Bool) → writes o.work pv sector ≡ c
+    → IsTrue (c || writes_at (works_of os) pv sector)
+    → (IsTrue (writes_at (works_of os) pv sector) → AwaitsWrite (tags_of os) (submitted_on (o ∷ os) told) pv sector)
+    → AwaitsWrite (tags_of (o ∷ os)) (submitted_on (o ∷ os) told) pv sector
 awaits_here o os told pv sector true e h later = record {
   operation = o;
   awaited = inl refl;
@@ -126,12 +148,15 @@ awaits_here o os told pv sector false e h later =
     let w = later h in
     record { operation = w.operation; awaited = inr w.awaited; in_flight = w.in_flight; writes_it = w.writes_it }
 
-awaits_new : (os : List Operation) (told : Record) (pv sector : ℕ) → IsTrue (writes_at (works_of os) pv sector) → AwaitsWrite (tags_of os) (submitted_on os told) pv sector
+awaits_new : (os : List Operation) (told : Record) (pv sector : ℕ) → IsTrue (writes_at (works_of os) pv sector)
+    → AwaitsWrite (tags_of os) (submitted_on os told) pv sector
 awaits_new [] told pv sector h = cc
-awaits_new (o ∷ os) told pv sector h = awaits_here o os told pv sector (writes o.work pv sector) refl h (awaits_new os (step_on (Submitted o.tag o.work) told) pv sector)
+awaits_new (o ∷ os) told pv sector h =
+    awaits_here o os told pv sector (writes o.work pv sector) refl h (awaits_new os (step_on (Submitted o.tag o.work) told) pv sector)
 
 -- a batch starts to write
-pub writes_started : (os : List Operation) (flush : List ℕ) (told : Record) (pv sector : ℕ) (Q : List ℕ → Type 0) → IsTrue (writes_at (works_of os) pv sector) → BringAt (works_of os) pv sector Q → IsStill told pv sector
+pub writes_started : (os : List Operation) (flush : List ℕ) (told : Record) (pv sector : ℕ) (Q : List ℕ → Type 0)
+    → IsTrue (writes_at (works_of os) pv sector) → BringAt (works_of os) pv sector Q → IsStill told pv sector
     → Brings (record { tags = tags_of os; flush = flush; flushing = false; lost = None }) (submitted_on os told) pv sector Q
 writes_started os flush told pv sector Q w b still = record {
   stage = λ e. inr (completed_submitted os told pv sector Q b (still_completed told pv sector Q still), awaits_new os told pv sector w);
@@ -143,25 +168,30 @@ abbrev pub OnlyFlushes : List Operation → List ℕ → Type 0
 OnlyFlushes os disks = works_of os ≡ map (λ (pv : ℕ). Flushing pv) disks
 
 -- what will be overtaken still is after flushes were submitted
-overtaken_flushes : (os : List Operation) (disks : List ℕ) (told : Record) (pv sector : ℕ) (Q : List ℕ → Type 0) → OnlyFlushes os disks → OnlyLeavesOrOvertaken told pv sector Q → OnlyLeavesOrOvertaken (submitted_on os told) pv sector Q
+overtaken_flushes : (os : List Operation) (disks : List ℕ) (told : Record) (pv sector : ℕ) (Q : List ℕ → Type 0) → OnlyFlushes os disks
+    → OnlyLeavesOrOvertaken told pv sector Q → OnlyLeavesOrOvertaken (submitted_on os told) pv sector Q
 overtaken_flushes [] disks told pv sector Q only h = h
 overtaken_flushes (o ∷ os) [] told pv sector Q only h = cc
 overtaken_flushes (o ∷ os) (d ∷ disks) told pv sector Q only h =
     let work : o.work ≡ Flushing d = cc in
     let rest : OnlyFlushes os disks = cc in
-    overtaken_flushes os disks (step_on (Submitted o.tag o.work) told) pv sector Q rest (or_overtaken_on told pv sector Q (Submitted o.tag o.work) (ap (λ (w : Work). writes w pv sector) work) h)
+    overtaken_flushes os disks (step_on (Submitted o.tag o.work) told) pv sector Q rest
+        (or_overtaken_on told pv sector Q (Submitted o.tag o.work) (ap (λ (w : Work). writes w pv sector) work) h)
 
 -- and what a flush is to drop
-dropped_flushes : (os : List Operation) (disks : List ℕ) (told : Record) (flush pv sector : ℕ) (Q : List ℕ → Type 0) → OnlyFlushes os disks → OnlyLeavesOrDropped told flush pv sector Q → OnlyLeavesOrDropped (submitted_on os told) flush pv sector Q
+dropped_flushes : (os : List Operation) (disks : List ℕ) (told : Record) (flush pv sector : ℕ) (Q : List ℕ → Type 0) → OnlyFlushes os disks
+    → OnlyLeavesOrDropped told flush pv sector Q → OnlyLeavesOrDropped (submitted_on os told) flush pv sector Q
 dropped_flushes [] disks told flush pv sector Q only h = h
 dropped_flushes (o ∷ os) [] told flush pv sector Q only h = cc
 dropped_flushes (o ∷ os) (d ∷ disks) told flush pv sector Q only h =
     let work : o.work ≡ Flushing d = cc in
     let rest : OnlyFlushes os disks = cc in
-    dropped_flushes os disks (step_on (Submitted o.tag o.work) told) flush pv sector Q rest (or_dropped_on told pv sector Q (Submitted o.tag o.work) (ap (λ (w : Work). writes w pv sector) work) flush h)
+    dropped_flushes os disks (step_on (Submitted o.tag o.work) told) flush pv sector Q rest
+        (or_dropped_on told pv sector Q (Submitted o.tag o.work) (ap (λ (w : Work). writes w pv sector) work) flush h)
 
 -- a flush that is submitted will settle each sector of its disk that is overtaken, whoever wrote it
-pub flush_new : (os : List Operation) (disks : List ℕ) (told : Record) (pv sector : ℕ) (Q : List ℕ → Type 0) → OnlyFlushes os disks → IsAmong disks pv → OnlyLeavesOrOvertaken told pv sector Q
+pub flush_new : (os : List Operation) (disks : List ℕ) (told : Record) (pv sector : ℕ) (Q : List ℕ → Type 0) → OnlyFlushes os disks
+    → IsAmong disks pv → OnlyLeavesOrOvertaken told pv sector Q
     → AwaitsFlush (tags_of os) (submitted_on os told) pv sector Q
 flush_new [] [] told pv sector Q only among h = absurd among
 flush_new [] (d ∷ disks) told pv sector Q only among h = cc
@@ -177,46 +207,61 @@ flush_new (o ∷ os) (d ∷ disks) told pv sector Q only among h =
       flush = o.tag;
       awaited = inl refl;
       in_flight = in_flight_submitted os told' (record { tag = o.tag; work = Flushing pv })
-          (subst (λ (w : Work). IsIn (in_flight_after told'.steps) (record { tag = o.tag; work = w })) (sym here) (in_flight_new o.tag o.work told));
-      drops = dropped_flushes os disks told' o.tag pv sector Q rest (subst (λ (w : Work). OnlyLeavesOrDropped (step_on (Submitted o.tag w) told) o.tag pv sector Q) here (flush_submitted told pv sector o.tag Q h));
+          (subst (λ (w : Work). IsIn (in_flight_after told'.steps) (record { tag = o.tag; work = w })) (sym here)
+              (in_flight_new o.tag o.work told));
+      drops =
+          dropped_flushes os disks told' o.tag pv sector Q rest
+              (subst (λ (w : Work). OnlyLeavesOrDropped (step_on (Submitted o.tag w) told) o.tag pv sector Q) here
+              (flush_submitted told pv sector o.tag Q h));
     })
     (λ later.
-    let a = flush_new os disks told' pv sector Q rest later (or_overtaken_on told pv sector Q (Submitted o.tag o.work) (ap (λ (w : Work). writes w pv sector) work) h) in
+    let a =
+        flush_new os disks told' pv sector Q rest later
+            (or_overtaken_on told pv sector Q (Submitted o.tag o.work) (ap (λ (w : Work). writes w pv sector) work) h) in
     record { flush = a.flush; awaited = inr a.awaited; in_flight = a.in_flight; drops = a.drops })
     among
 
 -- where no operation is awaited, the sector's write has completed well
-settled_overtaken : (told : Record) (pv sector : ℕ) (Q : List ℕ → Type 0) (tags : List ℕ) → tags ≡ [] → Stage false tags told pv sector Q → OnlyLeavesOrOvertaken told pv sector Q
-settled_overtaken told pv sector Q tags none h = ⊎_elim (λ a. a) (λ b. absurd (subst (λ (l : List ℕ). IsAmong l b.1.operation.tag) none b.1.awaited)) h
+settled_overtaken : (told : Record) (pv sector : ℕ) (Q : List ℕ → Type 0) (tags : List ℕ) → tags ≡ [] → Stage false tags told pv sector Q
+    → OnlyLeavesOrOvertaken told pv sector Q
+settled_overtaken told pv sector Q tags none h =
+    ⊎_elim (λ a. a) (λ b. absurd (subst (λ (l : List ℕ). IsAmong l b.1.operation.tag) none b.1.awaited)) h
 
-settled_well : (told : Record) (pv sector : ℕ) (Q : List ℕ → Type 0) (tags : List ℕ) → tags ≡ [] → Stage true tags told pv sector Q → OnlyLeaves told pv sector Q
+settled_well : (told : Record) (pv sector : ℕ) (Q : List ℕ → Type 0) (tags : List ℕ) → tags ≡ [] → Stage true tags told pv sector Q
+    → OnlyLeaves told pv sector Q
 settled_well told pv sector Q tags none h = ⊎_elim (λ a. a) (λ b. absurd (subst (λ (l : List ℕ). IsAmong l b.flush) none b.awaited)) h
 
 -- once its writes have completed well, a batch submits its flushes
-pub flushes_started : (view : View) (os : List Operation) (told : Record) (pv sector : ℕ) (Q : List ℕ → Type 0) → view.tags ≡ [] → view.flushing ≡ false → view.lost ≡ None → OnlyFlushes os view.flush → IsAmong view.flush pv
+pub flushes_started : (view : View) (os : List Operation) (told : Record) (pv sector : ℕ) (Q : List ℕ → Type 0) → view.tags ≡ []
+    → view.flushing ≡ false → view.lost ≡ None → OnlyFlushes os view.flush → IsAmong view.flush pv
     → Brings view told pv sector Q → Brings (record view { tags = tags_of os; flushing = true }) (submitted_on os told) pv sector Q
 flushes_started view os told pv sector Q none writing well only among h = record {
   stage = λ e. inr (flush_new os view.flush told pv sector Q only among
-      (settled_overtaken told pv sector Q view.tags none (subst (λ (b : Bool). Stage b view.tags told pv sector Q) writing (h.stage well))));
+      (settled_overtaken told pv sector Q view.tags none
+          (subst (λ (b : Bool). Stage b view.tags told pv sector Q) writing (h.stage well))));
   alone = theirs_submitted os [] told pv sector (subst (λ (l : List ℕ). OnlyTheirs l told pv sector) none h.alone);
 }
 
 -- a batch that is through has left only values with Q
-pub batch_well : (view : View) (told : Record) (pv sector : ℕ) (Q : List ℕ → Type 0) → view.tags ≡ [] → view.flushing ≡ true → view.lost ≡ None → Brings view told pv sector Q → OnlyLeaves told pv sector Q
+pub batch_well : (view : View) (told : Record) (pv sector : ℕ) (Q : List ℕ → Type 0) → view.tags ≡ [] → view.flushing ≡ true
+    → view.lost ≡ None → Brings view told pv sector Q → OnlyLeaves told pv sector Q
 batch_well view told pv sector Q none flushing well h =
     settled_well told pv sector Q view.tags none (subst (λ (b : Bool). Stage b view.tags told pv sector Q) flushing (h.stage well))
 
-pub only_leaves_submitted : (os : List Operation) (told : Record) (pv sector : ℕ) (P : List ℕ → Type 0) → BringAt (works_of os) pv sector P → OnlyLeaves told pv sector P → OnlyLeaves (submitted_on os told) pv sector P
+pub only_leaves_submitted : (os : List Operation) (told : Record) (pv sector : ℕ) (P : List ℕ → Type 0) → BringAt (works_of os) pv sector P
+    → OnlyLeaves told pv sector P → OnlyLeaves (submitted_on os told) pv sector P
 only_leaves_submitted [] told pv sector P b h = h
 only_leaves_submitted (o ∷ os) told pv sector P b h =
     only_leaves_submitted os (step_on (Submitted o.tag o.work) told) pv sector P b.1 (submitted_leaves o told pv sector P b.0 h)
 
 -- flushes bring nothing and write nothing
-pub flushes_write_nothing : (os : List Operation) (disks : List ℕ) (pv sector : ℕ) (P : List ℕ → Type 0) → OnlyFlushes os disks → BringAt (works_of os) pv sector P × (writes_at (works_of os) pv sector ≡ false)
+pub flushes_write_nothing : (os : List Operation) (disks : List ℕ) (pv sector : ℕ) (P : List ℕ → Type 0) → OnlyFlushes os disks
+    → BringAt (works_of os) pv sector P × (writes_at (works_of os) pv sector ≡ false)
 flushes_write_nothing [] disks pv sector P only = (tt, refl)
 flushes_write_nothing (o ∷ os) [] pv sector P only = cc
 flushes_write_nothing (o ∷ os) (d ∷ disks) pv sector P only =
     let work : o.work ≡ Flushing d = cc in
     let rest : OnlyFlushes os disks = cc in
     let r = flushes_write_nothing os disks pv sector P rest in
-    ((subst (λ (w : Work). BringsAt w pv sector P) (sym work) tt, r.0), ap (λ (w : Work). writes w pv sector || writes_at (works_of os) pv sector) work ∙ r.1)
+    ((subst (λ (w : Work). BringsAt w pv sector P) (sym work) tt, r.0),
+        ap (λ (w : Work). writes w pv sector || writes_at (works_of os) pv sector) work ∙ r.1)

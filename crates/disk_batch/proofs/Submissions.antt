@@ -1,5 +1,6 @@
 -- Operations that are submitted one after another.
-use Rattle.std.proofs.Common.{reverse, ◌==◌, IsTrue, inl, inr, ⊎_elim, ◌≡◌, ℕ, ◌+◌, List, [], ◌∷◌, ◌++◌, map, sum_by, Some, refl, sym, ap, subst, ◌∙◌, arith, append_assoc}
+use Rattle.std.proofs.Common.{reverse, ◌==◌, IsTrue, inl, inr, ⊎_elim, ◌≡◌, ℕ, ◌+◌, List, [], ◌∷◌, ◌++◌, map, sum_by, Some, refl, sym, ap,
+    subst, ◌∙◌, arith, append_assoc}
 use Rattle.std.specs.List.{list_any}
 use Rattle.std.proofs.lemmas.Bool.Decides.{eqb_tells}
 use Rattle.std.proofs.lemmas.List.{map-append, reverse-append}
@@ -25,14 +26,17 @@ any_among (t ∷ tags) tag h = ⊎_elim (λ same. inl same.1) (λ other. inr (an
 
 pub among_any : (tags : List ℕ) (tag : ℕ) → IsAmong tags tag → IsTrue (list_any (λ (t : ℕ). t == tag) tags)
 among_any [] tag h = absurd h
-among_any (t ∷ tags) tag h = ⊎_elim (λ same. rw same.0 refl) (λ other. rw other.0 (⊎_elim (λ (e : t ≡ tag). absurd (other.1 e)) (λ later. among_any tags tag later) h)) (eqb_tells t tag)
+among_any (t ∷ tags) tag h =
+    ⊎_elim (λ same. rw same.0 refl) (λ other. rw other.0
+        (⊎_elim (λ (e : t ≡ tag). absurd (other.1 e)) (λ later. among_any tags tag later) h)) (eqb_tells t tag)
 
 -- nothing was submitted yet
 pub works_none : (state : State) → SubmitsWorks state [] [] state
 works_none state = record { os = []; submits = submits_none state; works_are = refl; tags_are = refl }
 
 -- one operation more was submitted
-pub works_more : (old mid new : State) (works : List Work) (tags : List ℕ) (op : Op) (tag : ℕ) → SubmitsWorks old works tags mid → Submits mid op tag new → SubmitsWorks old (works ++ work_of op ∷ []) (tags ++ tag ∷ []) new
+pub works_more : (old mid new : State) (works : List Work) (tags : List ℕ) (op : Op) (tag : ℕ) → SubmitsWorks old works tags mid
+    → Submits mid op tag new → SubmitsWorks old (works ++ work_of op ∷ []) (tags ++ tag ∷ []) new
 works_more old mid new works tags op tag all one =
     let o : Operation = record { tag = tag; work = work_of op } in
     record {
@@ -43,18 +47,22 @@ works_more old mid new works tags op tag all one =
     }
 
 -- the last write of a reversed list comes next
-pub map_last : (puts rest : List (Span × List (List ℕ))) (put : Span × List (List ℕ)) (works : List Work) (all : List Work) → puts ≡ rest ++ put ∷ [] → works ++ map write_work (reverse puts) ≡ all
+pub map_last : (puts rest : List (Span × List (List ℕ))) (put : Span × List (List ℕ)) (works : List Work) (all : List Work)
+    → puts ≡ rest ++ put ∷ [] → works ++ map write_work (reverse puts) ≡ all
     → (works ++ write_work put ∷ []) ++ map write_work (reverse rest) ≡ all
 map_last puts rest put works all e h =
     append_assoc works (write_work put ∷ []) (map write_work (reverse rest))
     ∙ ap (λ (l : List (Span × List (List ℕ))). works ++ map write_work l) (sym (ap reverse e ∙ reverse-append rest (put ∷ []))) ∙ h
 
 -- the others lie in the disks too
-pub lie_front : (sizes sizes' : List ℕ) (puts rest : List (Span × List (List ℕ))) (put : Span × List (List ℕ)) → puts ≡ rest ++ put ∷ [] → sizes' ≡ sizes → LieIn sizes puts → LieIn sizes' rest
+pub lie_front : (sizes sizes' : List ℕ) (puts rest : List (Span × List (List ℕ))) (put : Span × List (List ℕ)) → puts ≡ rest ++ put ∷ []
+    → sizes' ≡ sizes → LieIn sizes puts → LieIn sizes' rest
 lie_front sizes sizes' puts rest put e s lie =
     let P : Span × List (List ℕ) → Type 0 = λ p. Fills sizes p.0 p.1 in
     subst (λ (l : List ℕ). LieIn l rest) (sym s) ((All-pop P puts rest (Some put) e lie).0)
 
 -- how many sectors the last write and the others have
-pub sum_last : (f : Span × List (List ℕ) → ℕ) (rest : List (Span × List (List ℕ))) (put : Span × List (List ℕ)) → sum_by f (rest ++ put ∷ []) ≡ sum_by f rest + f put
-sum_last f rest put = let one : sum_by f (put ∷ []) ≡ f put = omega arith in sum_by-append f rest (put ∷ []) ∙ ap (λ (n : ℕ). sum_by f rest + n) one
+pub sum_last : (f : Span × List (List ℕ) → ℕ) (rest : List (Span × List (List ℕ))) (put : Span × List (List ℕ))
+    → sum_by f (rest ++ put ∷ []) ≡ sum_by f rest + f put
+sum_last f rest put =
+    let one : sum_by f (put ∷ []) ≡ f put = omega arith in sum_by-append f rest (put ∷ []) ∙ ap (λ (n : ℕ). sum_by f rest + n) one

@@ -15,7 +15,9 @@ IsOn (Lost pv) state = state.in_flight ≡ []
 
 -- its flushes are of disks of the shelf, at least one, and those to come are spare
 abbrev pub IsWithin : State → BatchStep → Type 0
-IsWithin state (Going next) = All (λ (pv : ℕ). pv < length state.sizes) (view_of next).flush × (0 < length (view_of next).flush) × (to_come (view_of next) ≤ state.spare_ops)
+IsWithin state (Going next) =
+    All (λ (pv : ℕ). pv < length state.sizes) (view_of next).flush × (0 < length (view_of next).flush)
+        × (to_come (view_of next) ≤ state.spare_ops)
 IsWithin state Well = Unit {0}
 IsWithin state (Lost pv) = Unit {0}
 

@@ -27,8 +27,11 @@ view_of batching = record { tags = batching.tags.items; flush = batching.disks.i
 
 -- all writes were submitted in their order, or the flushes where there is no write
 abbrev pub Starts : State → List (Span × List (List ℕ)) → List ℕ → View → State → Type 0
-Starts old [] disks view new = SubmitsWorks old (map Flushing disks) view.tags new × (view ≡ record { tags = view.tags; flush = disks; flushing = true; lost = None })
-Starts old (put ∷ puts) disks view new = SubmitsWorks old (map write_work (put ∷ puts)) view.tags new × (view ≡ record { tags = view.tags; flush = disks; flushing = false; lost = None })
+Starts old [] disks view new =
+    SubmitsWorks old (map Flushing disks) view.tags new × (view ≡ record { tags = view.tags; flush = disks; flushing = true; lost = None })
+Starts old (put ∷ puts) disks view new =
+    SubmitsWorks old (map write_work (put ∷ puts)) view.tags new
+        × (view ≡ record { tags = view.tags; flush = disks; flushing = false; lost = None })
 
 -- the view after a completion, before anything is submitted
 abbrev pub after_done : View → Done → View
@@ -37,7 +40,9 @@ after_done view done = done_on done.tag (disk_of done.op) done.well view
 -- what the batch does, by the view after a completion and its turn: nothing else changes
 abbrev pub Follows : State → View → Turn → BatchStep → State → Type 0
 Follows old view Waits (Going next) new = (new ≡ old) × (view_of next ≡ view)
-Follows old view Flushes (Going next) new = SubmitsWorks old (map Flushing view.flush) (view_of next).tags new × (view_of next ≡ record view { tags = (view_of next).tags; flushing = true })
+Follows old view Flushes (Going next) new =
+    SubmitsWorks old (map Flushing view.flush) (view_of next).tags new
+        × (view_of next ≡ record view { tags = (view_of next).tags; flushing = true })
 Follows old view IsWell Well new = new ≡ old
 Follows old view (IsLost pv) (Lost pv') new = (new ≡ old) × (pv' ≡ pv)
 Follows old view turn step new = ⊥

@@ -1,5 +1,6 @@
 -- Batches of writes that are carried out one after another, each lasting before the next begins.
-use Rattle.std.specs.Prelude.{◌≡◌, ◌≤◌, ◌<◌, ◌⊎◌, ◌+◌, ℕ, suc, Bool, false, IsTrue, if◌then◌else◌, List, [], ◌∷◌, ◌++◌, length, map, take, flat_map, sum_by, Option, All}
+use Rattle.std.specs.Prelude.{◌≡◌, ◌≤◌, ◌<◌, ◌⊎◌, ◌+◌, ℕ, suc, Bool, false, IsTrue, if◌then◌else◌, List, [], ◌∷◌, ◌++◌, length, map, take,
+    flat_map, sum_by, Option, All}
 use Rattle.sector_base.specs.declared.spans.Span.{Span}
 use Rattle.sector_base.specs.Spans.{covers}
 use Rattle.disk_model.specs.Steps.{Image, IsSame, Step, Record, now_after, steps_on, value_at}
@@ -53,7 +54,8 @@ pub record WritesInTurn (old : Record) (batches : List (List Put)) (well : Bool)
   pub writes : writes_submitted since ≡ flat_map (λ batch. batch) (take submitted batches)
   pub unread : spans_read since ≡ []
   pub whole : IsTrue well → submitted ≡ length batches
-  pub every_image : (base : Image) → IsBase old base → EveryImageSince (length old.steps) new (HasFirstBatches (take submitted batches) base)
+  pub every_image : (base : Image) → IsBase old base
+      → EveryImageSince (length old.steps) new (HasFirstBatches (take submitted batches) base)
   pub lasting : IsTrue well → (base : Image) → IsBase old base → IsBase new (with_batches batches base)
   pub now : IsTrue well → IsSame (now_after new.opened new.steps) (with_batches batches (now_after old.opened old.steps))
 
@@ -64,7 +66,8 @@ WritesInTurnTold before batches well after = BetweenRecords (λ old new. WritesI
 -- no two of the writes share a sector
 abbrev pub ShareNoSector : List Put → Type 0
 ShareNoSector [] = Unit {0}
-ShareNoSector (put ∷ puts) = ((pv sector : ℕ) → IsTrue (covers put.0 pv sector) → writes_at (map write_work puts) pv sector ≡ false) × ShareNoSector puts
+ShareNoSector (put ∷ puts) =
+    ((pv sector : ℕ) → IsTrue (covers put.0 pv sector) → writes_at (map write_work puts) pv sector ≡ false) × ShareNoSector puts
 
 -- the batch can be carried out on disks of these sizes: it writes and flushes something, no two of its writes share a
 -- sector, and the disk of each is one that it flushes

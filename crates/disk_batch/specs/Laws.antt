@@ -21,32 +21,46 @@ Is value v = v ≡ value
 
 -- a batch that writes the value to a sector that nobody writes brings it there
 abbrev pub StartsBringing : Type 0
-StartsBringing = (os : List Operation) (flush : List ℕ) (told : Record) (pv sector : ℕ) (value : List ℕ) → IsTrue (writes_at (works_of os) pv sector) → BringAt (works_of os) pv sector (Is value) → IsStill told pv sector
+StartsBringing =
+    (os : List Operation) (flush : List ℕ) (told : Record) (pv sector : ℕ) (value : List ℕ) → IsTrue (writes_at (works_of os) pv sector)
+        → BringAt (works_of os) pv sector (Is value) → IsStill told pv sector
     → Brings (record { tags = tags_of os; flush = flush; flushing = false; lost = None }) (submitted_on os told) pv sector (Is value)
 
 -- a step of somebody else that brings nothing to the sector leaves it so
 abbrev pub StaysElsewhere : Type 0
-StaysElsewhere = (view : View) (told : Record) (pv sector : ℕ) (value : List ℕ) (step : Step) → brings step pv sector ≡ false → IsForeign view.tags step
+StaysElsewhere =
+    (view : View) (told : Record) (pv sector : ℕ) (value : List ℕ) (step : Step) → brings step pv sector ≡ false → IsForeign view.tags step
     → Brings view told pv sector (Is value) → Brings view (step_on step told) pv sector (Is value)
 
 -- a completion of its own, well or not, leaves it so
 abbrev pub GoesOn : Type 0
-GoesOn = (view : View) (told : Record) (pv sector : ℕ) (value : List ℕ) (tag disk : ℕ) (work : Work) (well : Bool) (fresh : List Bool) → IsRecord (step_on (Completed tag work well fresh) told).steps
-    → Brings view told pv sector (Is value) → Brings (done_on tag disk well view) (step_on (Completed tag work well fresh) told) pv sector (Is value)
+GoesOn =
+    (view : View) (told : Record) (pv sector : ℕ) (value : List ℕ) (tag disk : ℕ) (work : Work) (well : Bool) (fresh : List Bool)
+        → IsRecord (step_on (Completed tag work well fresh) told).steps
+    → Brings view told pv sector (Is value) → Brings (done_on tag disk well view) (step_on (Completed tag work well fresh) told) pv sector
+    (Is value)
 
 -- the submission of the flushes, one of them of the disk, leaves it so
 abbrev pub BeginsFlushes : Type 0
-BeginsFlushes = (view : View) (os : List Operation) (told : Record) (pv sector : ℕ) (value : List ℕ) → view.tags ≡ [] → view.flushing ≡ false → view.lost ≡ None → works_of os ≡ map Flushing view.flush → IsAmong view.flush pv
-    → Brings view told pv sector (Is value) → Brings (record view { tags = tags_of os; flushing = true }) (submitted_on os told) pv sector (Is value)
+BeginsFlushes =
+    (view : View) (os : List Operation) (told : Record) (pv sector : ℕ) (value : List ℕ) → view.tags ≡ [] → view.flushing ≡ false
+        → view.lost ≡ None → works_of os ≡ map Flushing view.flush → IsAmong view.flush pv
+    → Brings view told pv sector (Is value) → Brings (record view { tags = tags_of os; flushing = true }) (submitted_on os told) pv sector
+    (Is value)
 
 -- once it is through, a crash can leave no other value there
 abbrev pub EndsWell : Type 0
-EndsWell = (view : View) (told : Record) (pv sector : ℕ) (value : List ℕ) → view.tags ≡ [] → view.flushing ≡ true → view.lost ≡ None → Brings view told pv sector (Is value) → OnlyLeaves told pv sector (Is value)
+EndsWell =
+    (view : View) (told : Record) (pv sector : ℕ) (value : List ℕ) → view.tags ≡ [] → view.flushing ≡ true → view.lost ≡ None
+        → Brings view told pv sector (Is value) → OnlyLeaves told pv sector (Is value)
 
 -- a completion that failed makes its disk the lost one, and one that went well changes nothing of that
 abbrev pub LosesOnFailure : Type 0
-LosesOnFailure = (view : View) (tag disk : ℕ) → ((done_on tag disk false view).lost ≡ Some disk) × ((done_on tag disk true view).lost ≡ view.lost)
+LosesOnFailure =
+    (view : View) (tag disk : ℕ) → ((done_on tag disk false view).lost ≡ Some disk) × ((done_on tag disk true view).lost ≡ view.lost)
 
 -- so the count of faults of the lost disk has risen since the batch started
 abbrev pub LostHasRisen : Type 0
-LostHasRisen = (faults : ℕ → ℕ) (view : View) (old new : State) (done : Done) → Completes old done new → FaultsSince faults view.lost old → FaultsSince faults (after_done view done).lost new
+LostHasRisen =
+    (faults : ℕ → ℕ) (view : View) (old new : State) (done : Done) → Completes old done new → FaultsSince faults view.lost old
+        → FaultsSince faults (after_done view done).lost new

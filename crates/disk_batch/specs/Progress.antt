@@ -24,7 +24,8 @@ pub record AwaitsFlush (tags : List ℕ) (told : Record) (pv sector : ℕ) (Q : 
 -- before the flushes are submitted a write of the sector is in flight or has completed well; then its disk's flush is
 -- in flight or has completed well
 abbrev pub Stage : Bool → List ℕ → Record → ℕ → ℕ → (List ℕ → Type 0) → Type 0
-Stage false tags told pv sector Q = OnlyLeavesOrOvertaken told pv sector Q ⊎ (OnlyLeavesOrCompleted told pv sector Q × AwaitsWrite tags told pv sector)
+Stage false tags told pv sector Q =
+    OnlyLeavesOrOvertaken told pv sector Q ⊎ (OnlyLeavesOrCompleted told pv sector Q × AwaitsWrite tags told pv sector)
 Stage true tags told pv sector Q = OnlyLeaves told pv sector Q ⊎ AwaitsFlush tags told pv sector Q
 
 -- the batch is bringing values with Q to the sector, which nobody else writes, and leaves no other value there

@@ -20,7 +20,8 @@ pub record SubmitsWorks (old : State) (works : List Work) (tags : List ℕ) (new
   pub tags_are : tags_of os ≡ tags
 
 -- the last write of a list was taken off and submitted, and its tag was put behind the others
-pub record SubmitsLast (old : State) (puts : List (Span × List (List ℕ))) (tags : List ℕ) (rest : List (Span × List (List ℕ))) (tags' : List ℕ) (new : State) : Type 0 where
+pub record SubmitsLast (old : State) (puts : List (Span × List (List ℕ))) (tags : List ℕ) (rest : List (Span × List (List ℕ)))
+    (tags' : List ℕ) (new : State) : Type 0 where
   pub put : Span × List (List ℕ)
   pub tag : ℕ
   pub last : puts ≡ rest ++ put ∷ []

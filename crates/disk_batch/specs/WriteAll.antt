@@ -41,10 +41,13 @@ pub record WritesAll (old : Record) (puts : List (Span × List (List ℕ))) (dis
   -- at every moment a crash may leave only what it could leave before, and what the writes write
   pub adds : Throughout (length old.steps) (length new.steps) new (AddsOnly old puts)
   -- a read gives what it gave, or what a write of the sector wrote
-  pub now : (pv sector : ℕ) → (now_after new.opened new.steps pv sector ≡ now_after old.opened old.steps pv sector) ⊎ IsWrittenBy puts pv sector (now_after new.opened new.steps pv sector)
+  pub now : (pv sector : ℕ) → (now_after new.opened new.steps pv sector ≡ now_after old.opened old.steps pv sector)
+      ⊎ IsWrittenBy puts pv sector (now_after new.opened new.steps pv sector)
   -- where all went well it gives what was written, wherever a write covers the sector
-  pub written : IsTrue well → (pv sector : ℕ) → IsTrue (writes_at (map write_work puts) pv sector) → IsWrittenBy puts pv sector (now_after new.opened new.steps pv sector)
+  pub written : IsTrue well → (pv sector : ℕ) → IsTrue (writes_at (map write_work puts) pv sector)
+      → IsWrittenBy puts pv sector (now_after new.opened new.steps pv sector)
   -- and of a disk that is flushed a crash may leave nothing else there
-  pub lasting : IsTrue well → (pv sector : ℕ) → IsTrue (writes_at (map write_work puts) pv sector) → IsAmong disks pv → OnlyLeaves new pv sector (IsWrittenBy puts pv sector)
+  pub lasting : IsTrue well → (pv sector : ℕ) → IsTrue (writes_at (map write_work puts) pv sector) → IsAmong disks pv
+      → OnlyLeaves new pv sector (IsWrittenBy puts pv sector)
   -- since each disk was flushed after all writes
   pub flushes : IsTrue well → FlushesLast old puts disks since

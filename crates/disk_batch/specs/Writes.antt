@@ -23,7 +23,8 @@ LieIn sizes puts = All (λ (put : Span × List (List ℕ)). Fills sizes put.0 pu
 -- one of the writes covers the sector, and writes this value to it
 abbrev pub IsWrittenBy : List (Span × List (List ℕ)) → ℕ → ℕ → List ℕ → Type 0
 IsWrittenBy [] pv sector value = ⊥
-IsWrittenBy (put ∷ puts) pv sector value = (IsTrue (covers put.0 pv sector) × (value ≡ value_at put.0 put.1 sector)) ⊎ IsWrittenBy puts pv sector value
+IsWrittenBy (put ∷ puts) pv sector value =
+    (IsTrue (covers put.0 pv sector) × (value ≡ value_at put.0 put.1 sector)) ⊎ IsWrittenBy puts pv sector value
 
 -- the numbers of a set of disks, in order
 unfoldable pub disks_in : FinSet nat_cmp → List ℕ

@@ -19,18 +19,21 @@ one_label sectors a b is is' =
           ]
     ]
 
-pub label_or_refusal : (sectors : List (List ℕ)) (number : ℕ) (refusal : LabelRefusal) → IsFirstLabel sectors number → IsLabelRefusal sectors refusal → ⊥
+pub label_or_refusal : (sectors : List (List ℕ)) (number : ℕ) (refusal : LabelRefusal) → IsFirstLabel sectors number
+    → IsLabelRefusal sectors refusal → ⊥
 label_or_refusal sectors number refusal is refused = refused.none number is.among is.label
 
 -- a sector that begins like a label has one refusal
-one_refusal : (sector : List ℕ) (number : ℕ) (a b : LabelRefusal) → BeginsLikeLabel sector → IsRefused sector number a → IsRefused sector number b → a ≡ b
+one_refusal : (sector : List ℕ) (number : ℕ) (a b : LabelRefusal) → BeginsLikeLabel sector → IsRefused sector number a
+    → IsRefused sector number b → a ≡ b
 one_refusal sector number NoLabel NoLabel begins h k = absurd (h begins)
 one_refusal sector number NoLabel (WrongSector said' found') begins h k = absurd (h begins)
 one_refusal sector number NoLabel (BadSum at') begins h k = absurd (h begins)
 one_refusal sector number NoLabel (BadOffset said') begins h k = absurd (h begins)
 one_refusal sector number NoLabel BadType begins h k = absurd (h begins)
 one_refusal sector number (WrongSector said found) NoLabel begins h k = absurd (k begins)
-one_refusal sector number (WrongSector said found) (WrongSector said' found') begins h k = λ i. WrongSector ((sym h.1 ∙ k.1) i) ((h.2 ∙ sym k.2) i)
+one_refusal sector number (WrongSector said found) (WrongSector said' found') begins h k =
+    λ i. WrongSector ((sym h.1 ∙ k.1) i) ((h.2 ∙ sym k.2) i)
 one_refusal sector number (WrongSector said found) (BadSum at') begins h k = absurd (h.3 (sym h.1 ∙ k.1))
 one_refusal sector number (WrongSector said found) (BadOffset said') begins h k = absurd (h.3 (sym h.1 ∙ k.1))
 one_refusal sector number (WrongSector said found) BadType begins h k = absurd (h.3 (sym h.1 ∙ k.1))
@@ -52,7 +55,8 @@ one_refusal sector number BadType BadType begins h k = refl
 
 -- the first sector that begins like a label
 abbrev FirstBegins : List (List ℕ) → ℕ → Type 0
-FirstBegins sectors number = (number < 4) × BeginsLikeLabel (sector_at sectors number) × ((k : ℕ) → k < number → ¬ BeginsLikeLabel (sector_at sectors k))
+FirstBegins sectors number =
+    (number < 4) × BeginsLikeLabel (sector_at sectors number) × ((k : ℕ) → k < number → ¬ BeginsLikeLabel (sector_at sectors k))
 
 one_beginning : (sectors : List (List ℕ)) (a b : ℕ) → FirstBegins sectors a → FirstBegins sectors b → a ≡ b
 one_beginning sectors a b is is' =
@@ -67,7 +71,8 @@ one_beginning sectors a b is is' =
 
 abbrev FirstRefuses : List (List ℕ) → LabelRefusal → Type 0
 FirstRefuses sectors refusal =
-    (number : ℕ) × (number < 4) × BeginsLikeLabel (sector_at sectors number) × ((k : ℕ) → k < number → ¬ BeginsLikeLabel (sector_at sectors k))
+    (number : ℕ) × (number < 4) × BeginsLikeLabel (sector_at sectors number)
+        × ((k : ℕ) → k < number → ¬ BeginsLikeLabel (sector_at sectors k))
     × IsRefused (sector_at sectors number) number refusal
 
 first_refusals : (sectors : List (List ℕ)) (a b : LabelRefusal) → FirstRefuses sectors a → FirstRefuses sectors b → a ≡ b
@@ -83,7 +88,8 @@ first_causes sectors NoLabel (BadSum at') h k = absurd (h k.0 k.1 k.2)
 first_causes sectors NoLabel (BadOffset said') h k = absurd (h k.0 k.1 k.2)
 first_causes sectors NoLabel BadType h k = absurd (h k.0 k.1 k.2)
 first_causes sectors (WrongSector said found) NoLabel h k = absurd (k h.0 h.1 h.2)
-first_causes sectors (WrongSector said found) (WrongSector said' found') h k = first_refusals sectors (WrongSector said found) (WrongSector said' found') h k
+first_causes sectors (WrongSector said found) (WrongSector said' found') h k =
+    first_refusals sectors (WrongSector said found) (WrongSector said' found') h k
 first_causes sectors (WrongSector said found) (BadSum at') h k = first_refusals sectors (WrongSector said found) (BadSum at') h k
 first_causes sectors (WrongSector said found) (BadOffset said') h k = first_refusals sectors (WrongSector said found) (BadOffset said') h k
 first_causes sectors (WrongSector said found) BadType h k = first_refusals sectors (WrongSector said found) BadType h k
@@ -93,7 +99,8 @@ first_causes sectors (BadSum at) (BadSum at') h k = first_refusals sectors (BadS
 first_causes sectors (BadSum at) (BadOffset said') h k = first_refusals sectors (BadSum at) (BadOffset said') h k
 first_causes sectors (BadSum at) BadType h k = first_refusals sectors (BadSum at) BadType h k
 first_causes sectors (BadOffset said) NoLabel h k = absurd (k h.0 h.1 h.2)
-first_causes sectors (BadOffset said) (WrongSector said' found') h k = first_refusals sectors (BadOffset said) (WrongSector said' found') h k
+first_causes sectors (BadOffset said) (WrongSector said' found') h k =
+    first_refusals sectors (BadOffset said) (WrongSector said' found') h k
 first_causes sectors (BadOffset said) (BadSum at') h k = first_refusals sectors (BadOffset said) (BadSum at') h k
 first_causes sectors (BadOffset said) (BadOffset said') h k = first_refusals sectors (BadOffset said) (BadOffset said') h k
 first_causes sectors (BadOffset said) BadType h k = first_refusals sectors (BadOffset said) BadType h k

@@ -1,5 +1,6 @@
 -- One part of a call that only reads after another, and what one read does.
-use Rattle.std.proofs.Common.{◌≡◌, ◌<◌, ℕ, ◌+◌, ◌-◌, List, [], ◌∷◌, ◌++◌, slice_index_or, IsTrue, Option, Some, None, IfSome, option_map, refl, sym, ap, subst, ◌∙◌, arith, append_assoc}
+use Rattle.std.proofs.Common.{◌≡◌, ◌<◌, ℕ, ◌+◌, ◌-◌, List, [], ◌∷◌, ◌++◌, slice_index_or, IsTrue, Option, Some, None, IfSome, option_map,
+    refl, sym, ap, subst, ◌∙◌, arith, append_assoc}
 use Rattle.std.proofs.lemmas.Bool.Decides.{nat_tests}
 use Rattle.sector_base.specs.declared.spans.Span.{Span}
 use Rattle.sector_base.specs.Spans.{covers}
@@ -48,12 +49,15 @@ well_both s0 s1 s2 first more a b = record {
   faults = λ p. b.faults p ∙ a.faults p;
 }
 
-cause_after : (pv : ℕ) (s0 s1 s2 : State) (refusal : ReadRefusal) → HasSameFaults s0 s1 → IsReadCause pv s1 s2 refusal → IsReadCause pv s0 s2 refusal
+cause_after : (pv : ℕ) (s0 s1 s2 : State) (refusal : ReadRefusal) → HasSameFaults s0 s1 → IsReadCause pv s1 s2 refusal
+    → IsReadCause pv s0 s2 refusal
 cause_after pv s0 s1 s2 NoMemory same cause = λ p. cause p ∙ same p
-cause_after pv s0 s1 s2 (ReadFailed fault) same cause = (cause.0, (cause.1.0, last_fault_after s0 s1 s2 pv (Reading cause.1.0) same cause.1.1))
+cause_after pv s0 s1 s2 (ReadFailed fault) same cause =
+    (cause.0, (cause.1.0, last_fault_after s0 s1 s2 pv (Reading cause.1.0) same cause.1.1))
 
 -- and then one that ended the call
-pub until_after : (pv : ℕ) (s0 s1 s2 : State) (first more : List Span) (refusal : ReadRefusal) → ReadsWell s0 first s1 → ReadsUntil pv s1 more s2 refusal → ReadsUntil pv s0 (first ++ more) s2 refusal
+pub until_after : (pv : ℕ) (s0 s1 s2 : State) (first more : List Span) (refusal : ReadRefusal) → ReadsWell s0 first s1
+    → ReadsUntil pv s1 more s2 refusal → ReadsUntil pv s0 (first ++ more) s2 refusal
 until_after pv s0 s1 s2 first more refusal a b = record {
   read = first ++ b.read;
   rest = b.rest;
@@ -64,7 +68,8 @@ until_after pv s0 s1 s2 first more refusal a b = record {
 }
 
 -- a part that ended the call before others
-pub until_sooner : (pv : ℕ) (s0 s1 : State) (first more spans : List Span) (refusal : ReadRefusal) → first ++ more ≡ spans → ReadsUntil pv s0 first s1 refusal → ReadsUntil pv s0 spans s1 refusal
+pub until_sooner : (pv : ℕ) (s0 s1 : State) (first more spans : List Span) (refusal : ReadRefusal) → first ++ more ≡ spans
+    → ReadsUntil pv s0 first s1 refusal → ReadsUntil pv s0 spans s1 refusal
 until_sooner pv s0 s1 first more spans refusal all a = record {
   read = a.read;
   rest = a.rest ++ more;
@@ -75,11 +80,14 @@ until_sooner pv s0 s1 first more spans refusal all a = record {
 }
 
 -- memory was wanting
-pub until_wanting : (pv : ℕ) (s0 s1 : State) (first more spans : List Span) → first ++ more ≡ spans → ReadsWell s0 first s1 → ReadsUntil pv s0 spans s1 NoMemory
-until_wanting pv s0 s1 first more spans all a = record { read = first; rest = more; front = all; reads = a.reads; again = a.again; cause = a.faults }
+pub until_wanting : (pv : ℕ) (s0 s1 : State) (first more spans : List Span) → first ++ more ≡ spans → ReadsWell s0 first s1
+    → ReadsUntil pv s0 spans s1 NoMemory
+until_wanting pv s0 s1 first more spans all a =
+    record { read = first; rest = more; front = all; reads = a.reads; again = a.again; cause = a.faults }
 
 -- a read that went well
-pub well_read : (s0 s1 : State) (span : Span) (buffer : List (List ℕ)) (done : Done) → CarriesOut s0 (Read span buffer) done s1 → ReadsTold s0.told (span ∷ []) s1.told → HasSameFaults s0 s1 → ReadsWell s0 (span ∷ []) s1
+pub well_read : (s0 s1 : State) (span : Span) (buffer : List (List ℕ)) (done : Done) → CarriesOut s0 (Read span buffer) done s1
+    → ReadsTold s0.told (span ∷ []) s1.told → HasSameFaults s0 s1 → ReadsWell s0 (span ∷ []) s1
 well_read s0 s1 span buffer done c reads faults = record {
   reads = reads;
   silent = λ none. c.told.1 ∙ ap (option_map (with_operation done.tag (Reading span) done.well c.told.0)) none;
@@ -88,7 +96,8 @@ well_read s0 s1 span buffer done c reads faults = record {
 }
 
 -- a read that failed
-pub until_read : (s0 s1 : State) (span : Span) (fault : DiskFault) → ReadsTold s0.told (span ∷ []) s1.told → SpendsAtMost s0 1 span.count s1 → IsLastFault s0 s1 fault.pv (Reading span)
+pub until_read : (s0 s1 : State) (span : Span) (fault : DiskFault) → ReadsTold s0.told (span ∷ []) s1.told → SpendsAtMost s0 1 span.count s1
+    → IsLastFault s0 s1 fault.pv (Reading span)
     → ReadsUntil span.pv s0 (span ∷ []) s1 (ReadFailed fault)
 until_read s0 s1 span fault reads spends last = record {
   read = span ∷ [];
@@ -104,7 +113,8 @@ covers_place span k lt = grind (arith, nat_tests)
 
 -- what stands in the buffer of a read, by its place there
 pub read_holds : (told : Option Record) (span : Span) (sectors : List (List ℕ))
-    → IfSome told (λ t. (pv sector : ℕ) → IsTrue (covers span pv sector) → value_at span sectors sector ≡ now_after t.opened t.steps pv sector)
+    → IfSome told (λ t. (pv sector : ℕ) → IsTrue (covers span pv sector)
+    → value_at span sectors sector ≡ now_after t.opened t.steps pv sector)
     → HoldsOfDisk told span.pv (λ sector_at. (k : ℕ) → k < span.count → slice_index_or sectors k [] ≡ sector_at (span.first + k))
 read_holds None span sectors h = tt
 read_holds (Some t) span sectors h = λ k lt.

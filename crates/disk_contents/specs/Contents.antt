@@ -16,7 +16,8 @@ use Rattle.disk_contents.specs.declared.contents.PvFound.TheVariants.{NoLabel, N
 -- what stands in the sector where the area begins: the header of an area that begins and ends there, or why it is none
 abbrev pub IsMdaFound : List ℕ → Extent → Result MdaHeader MdaRefusal → Type 0
 IsMdaFound sector area found =
-    MatchResult found (λ header. IsHeader sector header × (header.start ≡ area.offset) × (header.size ≡ area.size)) (IsRefused sector area.offset area.size)
+    MatchResult found (λ header. IsHeader sector header × (header.start ≡ area.offset) × (header.size ≡ area.size))
+        (IsRefused sector area.offset area.size)
 
 -- a metadata area, what stands in its first sector, and what that says of the committed text
 abbrev pub IsAreaFound : (ℕ → List ℕ) → AreaFound → Type 0

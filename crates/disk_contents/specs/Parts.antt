@@ -29,4 +29,5 @@ pub record ReadsUntil (pv : ℕ) (old : State) (spans : List Span) (new : State)
 -- the same of the spans that the metadata areas of the disk give
 abbrev pub ReadsAreasUntil : (pv disk : ℕ) → State → (List Extent → List Span) → State → ReadRefusal → Type 0
 ReadsAreasUntil pv disk old spans new refusal =
-    (areas : List Extent) × HoldsOfDisk old.told pv (λ sector_at. AreAreasOf sector_at disk areas) × ReadsUntil pv old (spans areas) new refusal
+    (areas : List Extent) × HoldsOfDisk old.told pv (λ sector_at. AreAreasOf sector_at disk areas)
+        × ReadsUntil pv old (spans areas) new refusal

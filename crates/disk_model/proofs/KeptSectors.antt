@@ -21,9 +21,11 @@ all_weaker P Q pvs up all = λ i d lt. up _ (all i d lt)
 -- nothing was done at all
 pub keeps_told_nothing : (s0 s1 : Option Record) → s1 ≡ s0 → KeepsSectorsTold s0 [] s1
 keeps_told_nothing s0 s1 same =
-    between_same (λ old new. KeepsSectors old [] new) s0 s1 same (λ old. record { since = []; steps = refl; nothing = tt; same = λ pv s. refl; flushes = All-nil (λ pv. HasFlushed pv []) })
+    between_same (λ old new. KeepsSectors old [] new) s0 s1 same
+        (λ old. record { since = []; steps = refl; nothing = tt; same = λ pv s. refl; flushes = All-nil (λ pv. HasFlushed pv []) })
 
-keeps_both : (first more : List ℕ) (old mid new : Record) → KeepsSectors old first mid → KeepsSectors mid more new → KeepsSectors old (first ++ more) new
+keeps_both : (first more : List ℕ) (old mid new : Record) → KeepsSectors old first mid → KeepsSectors mid more new
+    → KeepsSectors old (first ++ more) new
 keeps_both first more old mid new a b = record {
   since = b.since ++ a.since;
   steps = steps_joined old mid new a.since b.since a.steps b.steps;
@@ -31,25 +33,32 @@ keeps_both first more old mid new a b = record {
   same = λ pv s. b.same pv s ∙ a.same pv s;
   flushes =
       All-append (λ pv. HasFlushed pv (b.since ++ a.since)) first more
-      (all_weaker (λ pv. HasFlushed pv a.since) (λ pv. HasFlushed pv (b.since ++ a.since)) first (λ pv h. flushed_later pv b.since a.since h) a.flushes)
-      (all_weaker (λ pv. HasFlushed pv b.since) (λ pv. HasFlushed pv (b.since ++ a.since)) more (λ pv h. flushed_newer pv b.since a.since h) b.flushes);
+      (all_weaker (λ pv. HasFlushed pv a.since) (λ pv. HasFlushed pv (b.since ++ a.since)) first
+          (λ pv h. flushed_later pv b.since a.since h) a.flushes)
+      (all_weaker (λ pv. HasFlushed pv b.since) (λ pv. HasFlushed pv (b.since ++ a.since)) more (λ pv h. flushed_newer pv b.since a.since h)
+          b.flushes);
 }
 
 -- a call that keeps the sectors, and then another
-pub keeps_told_both : (first more : List ℕ) (s0 s1 s2 : Option Record) → KeepsSectorsTold s0 first s1 → KeepsSectorsTold s1 more s2 → KeepsSectorsTold s0 (first ++ more) s2
+pub keeps_told_both : (first more : List ℕ) (s0 s1 s2 : Option Record) → KeepsSectorsTold s0 first s1 → KeepsSectorsTold s1 more s2
+    → KeepsSectorsTold s0 (first ++ more) s2
 keeps_told_both first more s0 s1 s2 a b =
-    between_both (λ old new. KeepsSectors old first new) (λ old new. KeepsSectors old more new) (λ old new. KeepsSectors old (first ++ more) new) s0 s1 s2 (keeps_both first more) a b
+    between_both (λ old new. KeepsSectors old first new) (λ old new. KeepsSectors old more new)
+        (λ old new. KeepsSectors old (first ++ more) new) s0 s1 s2 (keeps_both first more) a b
 
 abbrev flush_steps : ℕ → ℕ → Bool → List Bool → List Step
 flush_steps tag pv well fresh = Completed tag (Flushing pv) well fresh ∷ Submitted tag (Flushing pv) ∷ []
 
-keeps_flush : (t : Record) (tag pv : ℕ) (well : Bool) (fresh : List Bool) → KeepsSectors t (cond well (pv ∷ []) []) (with_operation tag (Flushing pv) well fresh t)
+keeps_flush : (t : Record) (tag pv : ℕ) (well : Bool) (fresh : List Bool)
+    → KeepsSectors t (cond well (pv ∷ []) []) (with_operation tag (Flushing pv) well fresh t)
 keeps_flush t tag pv true fresh = record {
   since = flush_steps tag pv true fresh;
   steps = refl;
   nothing = tt;
   same = λ p s. refl;
-  flushes = All-cons (λ p. HasFlushed p (flush_steps tag pv true fresh)) pv [] (inl refl) (All-nil (λ p. HasFlushed p (flush_steps tag pv true fresh)));
+  flushes =
+      All-cons (λ p. HasFlushed p (flush_steps tag pv true fresh)) pv [] (inl refl)
+          (All-nil (λ p. HasFlushed p (flush_steps tag pv true fresh)));
 }
 keeps_flush t tag pv false fresh = record {
   since = flush_steps tag pv false fresh;
@@ -60,10 +69,12 @@ keeps_flush t tag pv false fresh = record {
 }
 
 -- a flush that was carried out alone
-pub keeps_told_flush : (s0 s1 : State) (pv : ℕ) (done : Done) (well : Bool) → CarriesOut s0 (Flush pv) done s1 → done.well ≡ well → KeepsSectorsTold s0.told (cond well (pv ∷ []) []) s1.told
+pub keeps_told_flush : (s0 s1 : State) (pv : ℕ) (done : Done) (well : Bool) → CarriesOut s0 (Flush pv) done s1 → done.well ≡ well
+    → KeepsSectorsTold s0.told (cond well (pv ∷ []) []) s1.told
 keeps_told_flush s0 s1 pv done well c is =
     told_by_operation s0 (Flush pv) done s1 (λ old new. KeepsSectors old (cond well (pv ∷ []) []) new) c
-    (λ t fresh. subst (λ (b : Bool). KeepsSectors t (cond b (pv ∷ []) []) (with_operation done.tag (Flushing pv) done.well fresh t)) is (keeps_flush t done.tag pv done.well fresh))
+    (λ t fresh. subst (λ (b : Bool). KeepsSectors t (cond b (pv ∷ []) []) (with_operation done.tag (Flushing pv) done.well fresh t)) is
+        (keeps_flush t done.tag pv done.well fresh))
 
 module _ (old new : Record) (flushed : List ℕ) (k : KeepsSectors old flushed new) (base : Image) (is : IsBase old base) where
   abbrev Stays : ℕ → ℕ → List ℕ → Type 0
@@ -77,11 +88,15 @@ module _ (old new : Record) (flushed : List ℕ) (k : KeepsSectors old flushed n
 
   -- and each sector has one value afterwards
   pub kept_base : IsBase new base
-  kept_base = subst (λ (t : Record). IsBase t base) (sym k.steps) (only_leaves Stays old.opened old.steps is k.since (writes_nothing_brings Stays k.since k.nothing))
+  kept_base =
+      subst (λ (t : Record). IsBase t base) (sym k.steps)
+          (only_leaves Stays old.opened old.steps is k.since (writes_nothing_brings Stays k.since k.nothing))
 
 keeps_unflushed : (flushed : List ℕ) (old new : Record) → KeepsSectors old flushed new → KeepsSectors old [] new
-keeps_unflushed flushed old new k = record { since = k.since; steps = k.steps; nothing = k.nothing; same = k.same; flushes = All-nil (λ pv. HasFlushed pv k.since) }
+keeps_unflushed flushed old new k =
+    record { since = k.since; steps = k.steps; nothing = k.nothing; same = k.same; flushes = All-nil (λ pv. HasFlushed pv k.since) }
 
 -- whatever was flushed
 pub keeps_told_unflushed : (flushed : List ℕ) (s0 s1 : Option Record) → KeepsSectorsTold s0 flushed s1 → KeepsSectorsTold s0 [] s1
-keeps_told_unflushed flushed s0 s1 k = between_weaker (λ old new. KeepsSectors old flushed new) (λ old new. KeepsSectors old [] new) s0 s1 (keeps_unflushed flushed) k
+keeps_told_unflushed flushed s0 s1 k =
+    between_weaker (λ old new. KeepsSectors old flushed new) (λ old new. KeepsSectors old [] new) s0 s1 (keeps_unflushed flushed) k

@@ -15,8 +15,10 @@ use Rattle.disk_model.proofs.WritesInFlight.{idle_completed}
 use Rattle.disk_model.proofs.Durable.{new_write, write_completes, flush_submitted, flush_completes}
 
 -- two steps more are told
-pub operation_told : (old : State) (op : Op) (done : Done) (new : State) (t : Record) → CarriesOut old op done new → old.told ≡ Some t → (fresh : List Bool) × (new.told ≡ Some (with_operation done.tag (work_of op) done.well fresh t))
-operation_told old op done new t ran e = (ran.told.0, ran.told.1 ∙ ap (option_map (with_operation done.tag (work_of op) done.well ran.told.0)) e)
+pub operation_told : (old : State) (op : Op) (done : Done) (new : State) (t : Record) → CarriesOut old op done new → old.told ≡ Some t
+    → (fresh : List Bool) × (new.told ≡ Some (with_operation done.tag (work_of op) done.well fresh t))
+operation_told old op done new t ran e =
+    (ran.told.0, ran.told.1 ∙ ap (option_map (with_operation done.tag (work_of op) done.well ran.told.0)) e)
 
 -- what holds of every such two steps holds between what is told before and after
 pub told_by_operation : (old : State) (op : Op) (done : Done) (new : State) (R : Record → Record → Type 0) → CarriesOut old op done new
@@ -31,12 +33,16 @@ idle_told state t lawful idle e =
     sym h ∙ idle
 
 -- after a write and a flush of its disk, both well, where nothing else was in flight, each sector has the written value
-pub acknowledged : (t : Record) (tag tag' : ℕ) (span : Span) (sectors : List (List ℕ)) (fresh fresh' : List Bool) → in_flight_after t.steps ≡ [] → (sector : ℕ) → IsTrue (covers span span.pv sector)
-    → OnlyLeaves (with_operation tag' (Flushing span.pv) true fresh' (with_operation tag (Writing span sectors) true fresh t)) span.pv sector (λ v. v ≡ value_at span sectors sector)
+pub acknowledged : (t : Record) (tag tag' : ℕ) (span : Span) (sectors : List (List ℕ)) (fresh fresh' : List Bool)
+    → in_flight_after t.steps ≡ [] → (sector : ℕ) → IsTrue (covers span span.pv sector)
+    → OnlyLeaves (with_operation tag' (Flushing span.pv) true fresh' (with_operation tag (Writing span sectors) true fresh t)) span.pv
+    sector (λ v. v ≡ value_at span sectors sector)
 acknowledged t tag tag' span sectors fresh fresh' idle sector inside =
     let Q : List ℕ → Type 0 = λ v. v ≡ value_at span sectors sector in
     let work = Writing span sectors in
     let t1 = step_on (Submitted tag work) t in
-    let done : OnlyLeavesOrCompleted t1 span.pv sector Q = new_write t span.pv sector tag span sectors Q (idle_completed t span.pv sector Q idle) refl in
-    let overtaken : OnlyLeavesOrOvertaken (step_on (Completed tag work true fresh) t1) span.pv sector Q = write_completes t1 span.pv sector tag work fresh Q inside done in
+    let done : OnlyLeavesOrCompleted t1 span.pv sector Q =
+        new_write t span.pv sector tag span sectors Q (idle_completed t span.pv sector Q idle) refl in
+    let overtaken : OnlyLeavesOrOvertaken (step_on (Completed tag work true fresh) t1) span.pv sector Q =
+        write_completes t1 span.pv sector tag work fresh Q inside done in
     flush_completes _ span.pv sector tag' fresh' Q (flush_submitted _ span.pv sector tag' Q overtaken)

@@ -11,12 +11,16 @@ use Rattle.disk_model.proofs.NowStands.{now_image}
 pub record IsPatched (told : Record) (span : Span) (sectors : List (List ℕ)) (image : Image) : Type 0 where
   pub old : Image
   pub was : IsImage told old
-  pub each : (pv sector : ℕ) → (image pv sector ≡ old pv sector) ⊎ (IsTrue (covers span pv sector) × (image pv sector ≡ value_at span sectors sector))
+  pub each : (pv sector : ℕ) → (image pv sector ≡ old pv sector)
+      ⊎ (IsTrue (covers span pv sector) × (image pv sector ≡ value_at span sectors sector))
 
-module _ (told : Record) (tag : ℕ) (span : Span) (sectors : List (List ℕ)) (image : Image) (is : IsImage (step_on (Submitted tag (Writing span sectors)) told) image) where
+module _ (told : Record) (tag : ℕ) (span : Span) (sectors : List (List ℕ)) (image : Image)
+    (is : IsImage (step_on (Submitted tag (Writing span sectors)) told) image) where
   -- the value that the earlier image has in the sector
   Choice : (pv sector : ℕ) → Type 0
-  Choice pv sector = (old : List ℕ) × ((write : Option ℕ) × MayLeave told.opened told.steps pv sector write old) × ((image pv sector ≡ old) ⊎ (IsTrue (covers span pv sector) × (image pv sector ≡ value_at span sectors sector)))
+  Choice pv sector =
+      (old : List ℕ) × ((write : Option ℕ) × MayLeave told.opened told.steps pv sector write old)
+          × ((image pv sector ≡ old) ⊎ (IsTrue (covers span pv sector) × (image pv sector ≡ value_at span sectors sector)))
 
   -- there is one
   choice : IsRecord told.steps → (pv sector : ℕ) → Choice pv sector

@@ -18,7 +18,8 @@ reads_write_nothing (Completed tag (Writing span sectors) well fresh ∷ since) 
 reads_write_nothing (Completed tag (Flushing disk) well fresh ∷ since) r = absurd r
 
 -- what a read gives is the same after steps of reads alone
-pub now_after-reads : (opened : Image) (since steps : List Step) → ReadsAlone since → now_after opened (since ++ steps) ≡ now_after opened steps
+pub now_after-reads : (opened : Image) (since steps : List Step) → ReadsAlone since
+    → now_after opened (since ++ steps) ≡ now_after opened steps
 now_after-reads opened [] steps r = refl
 now_after-reads opened (Submitted tag (Reading span) ∷ since) steps r = now_after-reads opened since steps r
 now_after-reads opened (Submitted tag (Writing span sectors) ∷ since) steps r = absurd r
@@ -38,25 +39,32 @@ reads_alone_append (Completed tag (Writing span sectors) well fresh ∷ newer) o
 reads_alone_append (Completed tag (Flushing disk) well fresh ∷ newer) older r q = absurd r
 
 -- what a read gives is the same after a call that reads alone
-pub same_now : (old new : Record) (spans : List Span) → OnlyReads old spans new → now_after new.opened new.steps ≡ now_after old.opened old.steps
+pub same_now : (old new : Record) (spans : List Span) → OnlyReads old spans new
+    → now_after new.opened new.steps ≡ now_after old.opened old.steps
 same_now old new spans r = ap (λ (t : Record). now_after t.opened t.steps) r.steps ∙ now_after-reads old.opened r.since old.steps r.reads
 
-reads_both : (first more : List Span) (old mid new : Record) → OnlyReads old first mid → OnlyReads mid more new → OnlyReads old (first ++ more) new
+reads_both : (first more : List Span) (old mid new : Record) → OnlyReads old first mid → OnlyReads mid more new
+    → OnlyReads old (first ++ more) new
 reads_both first more old mid new a b = record {
   since = b.since ++ a.since;
   steps = steps_joined old mid new a.since b.since a.steps b.steps;
   reads = reads_alone_append b.since a.since b.reads a.reads;
-  spans_are = spans_read-append b.since a.since ∙ ap (λ (l : List Span). l ++ spans_read b.since) a.spans_are ∙ ap (λ (l : List Span). first ++ l) b.spans_are;
+  spans_are =
+      spans_read-append b.since a.since ∙ ap (λ (l : List Span). l ++ spans_read b.since) a.spans_are
+          ∙ ap (λ (l : List Span). first ++ l) b.spans_are;
 }
 
 -- a call that reads alone, and then another
-pub reads_told_both : (first more : List Span) (s0 s1 s2 : Option Record) → ReadsTold s0 first s1 → ReadsTold s1 more s2 → ReadsTold s0 (first ++ more) s2
+pub reads_told_both : (first more : List Span) (s0 s1 s2 : Option Record) → ReadsTold s0 first s1 → ReadsTold s1 more s2
+    → ReadsTold s0 (first ++ more) s2
 reads_told_both first more s0 s1 s2 a b =
-    between_both (λ old new. OnlyReads old first new) (λ old new. OnlyReads old more new) (λ old new. OnlyReads old (first ++ more) new) s0 s1 s2 (reads_both first more) a b
+    between_both (λ old new. OnlyReads old first new) (λ old new. OnlyReads old more new) (λ old new. OnlyReads old (first ++ more) new) s0
+        s1 s2 (reads_both first more) a b
 
 -- nothing was told
 pub reads_told_nothing : (s0 s1 : Option Record) → s1 ≡ s0 → ReadsTold s0 [] s1
-reads_told_nothing s0 s1 same = between_same (λ old new. OnlyReads old [] new) s0 s1 same (λ old. record { since = []; steps = refl; reads = tt; spans_are = refl })
+reads_told_nothing s0 s1 same =
+    between_same (λ old new. OnlyReads old [] new) s0 s1 same (λ old. record { since = []; steps = refl; reads = tt; spans_are = refl })
 
 keeps_reading : (spans : List Span) (old new : Record) → OnlyReads old spans new → KeepsSectors old [] new
 keeps_reading spans old new r = record {
@@ -69,10 +77,12 @@ keeps_reading spans old new r = record {
 
 -- a call that reads alone keeps the sectors
 pub keeps_told_reading : (spans : List Span) (s0 s1 : Option Record) → ReadsTold s0 spans s1 → KeepsSectorsTold s0 [] s1
-keeps_told_reading spans s0 s1 r = between_weaker (λ old new. OnlyReads old spans new) (λ old new. KeepsSectors old [] new) s0 s1 (keeps_reading spans) r
+keeps_told_reading spans s0 s1 r =
+    between_weaker (λ old new. OnlyReads old spans new) (λ old new. KeepsSectors old [] new) s0 s1 (keeps_reading spans) r
 
 -- a read that was carried out alone
-pub reads_span : (t : Record) (tag : ℕ) (span : Span) (well : Bool) (fresh : List Bool) → OnlyReads t (span ∷ []) (with_operation tag (Reading span) well fresh t)
+pub reads_span : (t : Record) (tag : ℕ) (span : Span) (well : Bool) (fresh : List Bool)
+    → OnlyReads t (span ∷ []) (with_operation tag (Reading span) well fresh t)
 reads_span t tag span well fresh = record {
   since = Completed tag (Reading span) well fresh ∷ Submitted tag (Reading span) ∷ [];
   steps = refl;
@@ -81,7 +91,8 @@ reads_span t tag span well fresh = record {
 }
 
 -- what holds of a disk after a call that reads alone held of it before
-pub holds_before : (s0 s1 : Option Record) (spans : List Span) (pv : ℕ) (P : (ℕ → List ℕ) → Type 0) → ReadsTold s0 spans s1 → HoldsOfDisk s1 pv P → HoldsOfDisk s0 pv P
+pub holds_before : (s0 s1 : Option Record) (spans : List Span) (pv : ℕ) (P : (ℕ → List ℕ) → Type 0) → ReadsTold s0 spans s1
+    → HoldsOfDisk s1 pv P → HoldsOfDisk s0 pv P
 holds_before None s1 spans pv P r h = tt
 holds_before (Some old) s1 spans pv P r h =
     let f = r old refl in
@@ -89,7 +100,8 @@ holds_before (Some old) s1 spans pv P r h =
     subst (λ (image : Image). P (image pv)) (same_now old f.0 spans f.2) after
 
 -- and the other way round
-pub holds_after : (s0 s1 : Option Record) (spans : List Span) (pv : ℕ) (P : (ℕ → List ℕ) → Type 0) → ReadsTold s0 spans s1 → (s0 ≡ None → s1 ≡ None) → HoldsOfDisk s0 pv P → HoldsOfDisk s1 pv P
+pub holds_after : (s0 s1 : Option Record) (spans : List Span) (pv : ℕ) (P : (ℕ → List ℕ) → Type 0) → ReadsTold s0 spans s1
+    → (s0 ≡ None → s1 ≡ None) → HoldsOfDisk s0 pv P → HoldsOfDisk s1 pv P
 holds_after None s1 spans pv P r silent h = subst (λ (o : Option Record). HoldsOfDisk o pv P) (sym (silent refl)) tt
 holds_after (Some old) s1 spans pv P r silent h =
     let f = r old refl in
@@ -97,11 +109,13 @@ holds_after (Some old) s1 spans pv P r silent h =
     subst (λ (o : Option Record). HoldsOfDisk o pv P) (sym f.1) here
 
 -- two facts of a disk give a third
-pub holds_both : (s : Option Record) (pv : ℕ) (P Q R : (ℕ → List ℕ) → Type 0) → ((sector_at : ℕ → List ℕ) → P sector_at → Q sector_at → R sector_at) → HoldsOfDisk s pv P → HoldsOfDisk s pv Q → HoldsOfDisk s pv R
+pub holds_both : (s : Option Record) (pv : ℕ) (P Q R : (ℕ → List ℕ) → Type 0)
+    → ((sector_at : ℕ → List ℕ) → P sector_at → Q sector_at → R sector_at) → HoldsOfDisk s pv P → HoldsOfDisk s pv Q → HoldsOfDisk s pv R
 holds_both None pv P Q R make p q = tt
 holds_both (Some t) pv P Q R make p q = make (now_after t.opened t.steps pv) p q
 
-pub holds_weaker : (s : Option Record) (pv : ℕ) (P Q : (ℕ → List ℕ) → Type 0) → ((sector_at : ℕ → List ℕ) → P sector_at → Q sector_at) → HoldsOfDisk s pv P → HoldsOfDisk s pv Q
+pub holds_weaker : (s : Option Record) (pv : ℕ) (P Q : (ℕ → List ℕ) → Type 0) → ((sector_at : ℕ → List ℕ) → P sector_at → Q sector_at)
+    → HoldsOfDisk s pv P → HoldsOfDisk s pv Q
 holds_weaker None pv P Q make p = tt
 holds_weaker (Some t) pv P Q make p = make (now_after t.opened t.steps pv) p
 

@@ -11,10 +11,13 @@ use Rattle.disk_model.proofs.NowStands.{now_image}
 with_value : Image → ℕ → ℕ → List ℕ → Image
 with_value image pv sector value pv' sector' = cond ((pv' == pv) && (sector' == sector)) value (image pv' sector')
 
-module _ (told : Record) (is : IsRecord told.steps) (pv sector : ℕ) (write : Option ℕ) (value : List ℕ) (may : MayLeave told.opened told.steps pv sector write value) where
-  here_or_now : (pv' sector' : ℕ) (a b : Bool) → (pv' == pv) ≡ a → (sector' == sector) ≡ b → (w : Option ℕ) × MayLeave told.opened told.steps pv' sector' w (cond (a && b) value (now_after told.opened told.steps pv' sector'))
+module _ (told : Record) (is : IsRecord told.steps) (pv sector : ℕ) (write : Option ℕ) (value : List ℕ)
+    (may : MayLeave told.opened told.steps pv sector write value) where
+  here_or_now : (pv' sector' : ℕ) (a b : Bool) → (pv' == pv) ≡ a → (sector' == sector) ≡ b
+      → (w : Option ℕ) × MayLeave told.opened told.steps pv' sector' w (cond (a && b) value (now_after told.opened told.steps pv' sector'))
   here_or_now pv' sector' true true e f =
-      (write, subst (λ (s : ℕ). MayLeave told.opened told.steps pv' s write value) (sym (equal sector' sector f)) (subst (λ (p : ℕ). MayLeave told.opened told.steps p sector write value) (sym (equal pv' pv e)) may))
+      (write, subst (λ (s : ℕ). MayLeave told.opened told.steps pv' s write value) (sym (equal sector' sector f))
+          (subst (λ (p : ℕ). MayLeave told.opened told.steps p sector write value) (sym (equal pv' pv e)) may))
     where
       equal : (x y : ℕ) → (x == y) ≡ true → x ≡ y
       equal x y h = grind (arith, nat_tests)
@@ -28,10 +31,15 @@ module _ (told : Record) (is : IsRecord told.steps) (pv sector : ℕ) (write : O
 
   value_there : with_value (now_after told.opened told.steps) pv sector value pv sector ≡ value
   unfolding with_value
-  value_there = ap (λ (b : Bool). cond (b && (sector == sector)) value (now_after told.opened told.steps pv sector)) (eq-eqb pv pv refl) ∙ ap (λ (b : Bool). cond b value (now_after told.opened told.steps pv sector)) (eq-eqb sector sector refl)
+  value_there =
+      ap (λ (b : Bool). cond (b && (sector == sector)) value (now_after told.opened told.steps pv sector)) (eq-eqb pv pv refl)
+          ∙ ap (λ (b : Bool). cond b value (now_after told.opened told.steps pv sector)) (eq-eqb sector sector refl)
 
 -- what every image has in a sector, each of its possible values has
-pub leaves_by_images : (told : Record) (pv sector : ℕ) (Q : List ℕ → Type 0) → IsRecord told.steps → ((image : Image) → IsImage told image → Q (image pv sector)) → OnlyLeaves told pv sector Q
+pub leaves_by_images : (told : Record) (pv sector : ℕ) (Q : List ℕ → Type 0) → IsRecord told.steps
+    → ((image : Image) → IsImage told image → Q (image pv sector)) → OnlyLeaves told pv sector Q
 leaves_by_images told pv sector Q is every = record {
-  each = λ write value may. subst Q (value_there told is pv sector write value may) (every (with_value (now_after told.opened told.steps) pv sector value) (value_in_image told is pv sector write value may));
+  each =
+      λ write value may. subst Q (value_there told is pv sector write value may)
+          (every (with_value (now_after told.opened told.steps) pv sector value) (value_in_image told is pv sector write value may));
 }

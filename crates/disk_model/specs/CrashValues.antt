@@ -20,7 +20,8 @@ IsOvertaken (_ ∷ steps) pv sector write = IsOvertaken steps pv sector write
 -- the write was overtaken when this flush was submitted, so the flush drops its value if it completes well
 abbrev pub IsDropped : List Step → ℕ → ℕ → ℕ → Option ℕ → Type 0
 IsDropped [] flush pv sector write = ⊥
-IsDropped (Submitted tag work ∷ steps) flush pv sector write = IsDropped steps flush pv sector write ⊎ ((tag ≡ flush) × IsOvertaken steps pv sector write)
+IsDropped (Submitted tag work ∷ steps) flush pv sector write =
+    IsDropped steps flush pv sector write ⊎ ((tag ≡ flush) × IsOvertaken steps pv sector write)
 IsDropped (_ ∷ steps) flush pv sector write = IsDropped steps flush pv sector write
 
 -- a crash may leave this value in the sector, which the write with this tag brought (None: which was opened): a write
@@ -28,7 +29,8 @@ IsDropped (_ ∷ steps) flush pv sector write = IsDropped steps flush pv sector 
 abbrev pub MayLeave : Image → List Step → ℕ → ℕ → Option ℕ → List ℕ → Type 0
 MayLeave opened [] pv sector write value = (write ≡ None) × (value ≡ opened pv sector)
 MayLeave opened (Submitted tag (Writing span sectors) ∷ steps) pv sector write value =
-    MayLeave opened steps pv sector write value ⊎ (IsTrue (covers span pv sector) × (write ≡ Some tag) × (value ≡ value_at span sectors sector))
+    MayLeave opened steps pv sector write value
+        ⊎ (IsTrue (covers span pv sector) × (write ≡ Some tag) × (value ≡ value_at span sectors sector))
 MayLeave opened (Completed tag (Flushing disk) true fresh ∷ steps) pv sector write value =
     MayLeave opened steps pv sector write value × (disk ≡ pv → IsDropped steps tag pv sector write → ⊥)
 MayLeave opened (_ ∷ steps) pv sector write value = MayLeave opened steps pv sector write value

@@ -5,7 +5,8 @@ use Rattle.disk_model.specs.CrashValues.{MayLeave, HasCompleted, IsOvertaken, Is
 
 -- each value that a crash may leave in the sector has Q, unless D holds of the write that brought it
 abbrev pub OnlyLeavesUnless : Record → ℕ → ℕ → (Option ℕ → Type 0) → (List ℕ → Type 0) → Type 0
-OnlyLeavesUnless told pv sector D Q = (write : Option ℕ) (value : List ℕ) → MayLeave told.opened told.steps pv sector write value → Q value ⊎ D write
+OnlyLeavesUnless told pv sector D Q =
+    (write : Option ℕ) (value : List ℕ) → MayLeave told.opened told.steps pv sector write value → Q value ⊎ D write
 
 -- each value that a crash may leave in the sector has Q
 pub record OnlyLeaves (told : Record) (pv sector : ℕ) (Q : List ℕ → Type 0) : Type 0 where

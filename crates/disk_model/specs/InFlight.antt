@@ -11,7 +11,8 @@ IsAmong (u ∷ us) t = (u ≡ t) ⊎ IsAmong us t
 
 -- each write of the sector that is in flight has one of these tags
 abbrev pub OnlyTheirs : List ℕ → Record → ℕ → ℕ → Type 0
-OnlyTheirs tags told pv sector = (o : Operation) → IsIn (in_flight_after told.steps) o → IsTrue (writes o.work pv sector) → IsAmong tags o.tag
+OnlyTheirs tags told pv sector =
+    (o : Operation) → IsIn (in_flight_after told.steps) o → IsTrue (writes o.work pv sector) → IsAmong tags o.tag
 
 -- no write of the sector is in flight
 abbrev pub IsStill : Record → ℕ → ℕ → Type 0

@@ -11,7 +11,8 @@ use Rattle.disk_model.specs.Brought.{writes}
 abbrev pub IsAlone : List Step → ℕ → ℕ → ℕ → Type 0
 IsAlone [] read pv sector = Unit {0}
 IsAlone (Submitted tag work ∷ steps) read pv sector =
-    (tag ≡ read → All (λ o. writes o.work pv sector ≡ false) (in_flight_after steps)) × ((tag ≢ read) → (writes work pv sector ≡ false) × IsAlone steps read pv sector)
+    (tag ≡ read → All (λ o. writes o.work pv sector ≡ false) (in_flight_after steps))
+        × ((tag ≢ read) → (writes work pv sector ≡ false) × IsAlone steps read pv sector)
 IsAlone (Completed tag work well fresh ∷ steps) read pv sector = IsAlone steps read pv sector
 
 -- the buffer of a read that completed well holds what stands in its sectors, wherever the read was alone
@@ -22,5 +23,6 @@ Reads told tag _ _ = Unit {0}
 
 -- the buffer of a read that completed well holds what stands in each of its sectors
 abbrev pub ReadsAll : Record → Op → Bool → Type 0
-ReadsAll told (Read span buffer) true = (pv sector : ℕ) → IsTrue (covers span pv sector) → value_at span buffer sector ≡ now_after told.opened told.steps pv sector
+ReadsAll told (Read span buffer) true =
+    (pv sector : ℕ) → IsTrue (covers span pv sector) → value_at span buffer sector ≡ now_after told.opened told.steps pv sector
 ReadsAll told _ _ = Unit {0}

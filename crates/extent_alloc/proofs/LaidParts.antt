@@ -1,5 +1,6 @@
 -- Parts that are cut for one more leg still agree with the legs before, and with the new one.
-use Rattle.std.proofs.Common.{◌≡◌, ℕ, suc, ◌+◌, ◌-◌, ◌<◌, ◌≤◌, ◌⊎◌, true, false, List, [], ◌∷◌, ◌++◌, length, map, cond, if◌then◌else◌, inl, inr, refl, sym, ap, ap₂, subst, ◌∙◌, arith, nat_eq, nat_lt, ⊎_elim}
+use Rattle.std.proofs.Common.{◌≡◌, ℕ, suc, ◌+◌, ◌-◌, ◌<◌, ◌≤◌, ◌⊎◌, true, false, List, [], ◌∷◌, ◌++◌, length, map, cond, if◌then◌else◌, inl,
+    inr, refl, sym, ap, ap₂, subst, ◌∙◌, arith, nat_eq, nat_lt, ⊎_elim}
 use Rattle.std.specs.List.{AllByRecursion}
 use Rattle.std.proofs.lemmas.Bool.{cases_lt, cond-false, cond-true, cond_both, eqb-true, eqb-false, lt-ltb, le-ltb, ltb-true, ltb-false}
 use Rattle.std.proofs.lemmas.List.{map-append}
@@ -46,27 +47,34 @@ extents_cons part parts = sum_by-cons (λ (p : Part). p.extents) part parts
 pub total_cons : (run : PvRun) (runs : List PvRun) → total (run ∷ runs) ≡ run.count + total runs
 total_cons run runs = sum_by-cons (λ (r : PvRun). r.count) run runs
 
-agree_append : (legs : List (List PvRun)) (from : ℕ) (a b : List Part) → AgreeFrom legs from a → AgreeFrom legs (from + extents_in a) b → AgreeFrom legs from (a ++ b)
+agree_append : (legs : List (List PvRun)) (from : ℕ) (a b : List Part) → AgreeFrom legs from a → AgreeFrom legs (from + extents_in a) b
+    → AgreeFrom legs from (a ++ b)
 agree_append legs from [] b agree more = subst (λ n. AgreeFrom legs n b) (omega arith) more
 agree_append legs from (part ∷ a) b agree more =
-    (agree.0, agree.1, agree_append legs (from + part.extents) a b agree.2 (subst (λ n. AgreeFrom legs n b) (omega (arith, extents_cons part a)) more))
+    (agree.0, agree.1, agree_append legs (from + part.extents) a b agree.2
+        (subst (λ n. AgreeFrom legs n b) (omega (arith, extents_cons part a)) more))
 
 -- pieces of one part
 begin_later : (n by : ℕ) (runs : List PartRun) → map (begin_at n) (all_later by runs) ≡ map (begin_at (by + n)) runs
 begin_later n by [] = refl
 begin_later n by (run ∷ runs) =
-    ap₂ (λ (first : ℕ) (rest : List (ℕ × ℕ)). (run.pv, first) ∷ rest) (let e : run.first + by + n ≡ run.first + (by + n) = omega arith in e) (begin_later n by runs)
+    ap₂ (λ (first : ℕ) (rest : List (ℕ × ℕ)). (run.pv, first) ∷ rest) (let e : run.first + by + n ≡ run.first + (by + n) = omega arith in e)
+        (begin_later n by runs)
 
-piece_agrees : (legs : List (List PvRun)) (leg : List PvRun) (part : Part) (at from count : ℕ) (run : PvRun) → Agrees legs at part → from + count ≤ part.extents
-    → ((n : ℕ) → n < count → spot leg (at + from + n) ≡ (run.pv, run.first + n)) → Agrees (legs ++ leg ∷ []) (at + from) (piece part from count run)
+piece_agrees : (legs : List (List PvRun)) (leg : List PvRun) (part : Part) (at from count : ℕ) (run : PvRun) → Agrees legs at part
+    → from + count ≤ part.extents
+    → ((n : ℕ) → n < count → spot leg (at + from + n) ≡ (run.pv, run.first + n))
+    → Agrees (legs ++ leg ∷ []) (at + from) (piece part from count run)
 piece_agrees legs leg part at from count run agrees within same n lt =
     let old : map (begin_at n) (all_later from part.runs) ≡ map (λ l. spot l (at + from + n)) legs =
-    begin_later n from part.runs ∙ agrees (from + n) (omega (arith, within, lt)) ∙ ap (λ k. map (λ l. spot l k) legs) (let e : at + (from + n) ≡ at + from + n = omega arith in e) in
+    begin_later n from part.runs ∙ agrees (from + n) (omega (arith, within, lt))
+        ∙ ap (λ k. map (λ l. spot l k) legs) (let e : at + (from + n) ≡ at + from + n = omega arith in e) in
     map-append (begin_at n) (all_later from part.runs) ((record { pv = run.pv; first = run.first }) ∷ [])
     ∙ ap₂ (λ (a b : List (ℕ × ℕ)). a ++ b) old (ap (λ (s : ℕ × ℕ). s ∷ []) (sym (same n lt)))
     ∙ sym (map-append (λ l. spot l (at + from + n)) legs (leg ∷ []))
 
-pieces_agree : (legs : List (List PvRun)) (leg : List PvRun) (part : Part) (at from left : ℕ) (runs : List PvRun) → Agrees legs at part → from + left ≤ part.extents → Some runs
+pieces_agree : (legs : List (List PvRun)) (leg : List PvRun) (part : Part) (at from left : ℕ) (runs : List PvRun) → Agrees legs at part
+    → from + left ≤ part.extents → Some runs
     → ((n : ℕ) → n < left → spot leg (at + from + n) ≡ spot runs n) → AgreeFrom (legs ++ leg ∷ []) (at + from) (pieces part from left runs)
 pieces_agree legs leg part at from left [] agrees within some same = tt
 pieces_agree legs leg part at from left (run ∷ runs) agrees within some same =
@@ -74,7 +82,8 @@ pieces_agree legs leg part at from left (run ∷ runs) agrees within some same =
     (λ more. cond_both (nat_lt left run.count) _ _ (AgreeFrom (legs ++ leg ∷ []) (at + from))
     (λ short.
     let less = ltb-true left run.count short in
-    (omega (arith, eqb-false left 0 more), piece_agrees legs leg part at from left run agrees within (λ n lt. same n lt ∙ spot_here run runs n (omega (arith, lt, less))), tt))
+    (omega (arith, eqb-false left 0 more), piece_agrees legs leg part at from left run agrees within
+        (λ n lt. same n lt ∙ spot_here run runs n (omega (arith, lt, less))), tt))
     (λ long.
     let le = ltb-false left run.count long in
     let rest : AgreeFrom (legs ++ leg ∷ []) (at + (from + run.count)) (pieces part (from + run.count) (left - run.count) runs) =
@@ -85,7 +94,8 @@ pieces_agree legs leg part at from left (run ∷ runs) agrees within some same =
     ∙ spot_later run runs (run.count + n) (omega arith)
     ∙ ap (spot runs) (let e : run.count + n - run.count ≡ n = omega arith in e)) in (
       some.0,
-      piece_agrees legs leg part at from run.count run agrees (omega (arith, within, le)) (λ n lt. same n (omega (arith, lt, le)) ∙ spot_here run runs n lt),
+      piece_agrees legs leg part at from run.count run agrees (omega (arith, within, le))
+          (λ n lt. same n (omega (arith, lt, le)) ∙ spot_here run runs n lt),
       subst (λ n. AgreeFrom (legs ++ leg ∷ []) n (pieces part (from + run.count) (left - run.count) runs)) (omega arith) rest,
     )))
 
@@ -101,16 +111,23 @@ pieces_sum part from left (run ∷ runs) le =
     omega (arith, rest, fits, extents_cons (piece part from run.count run) (pieces part (from + run.count) (left - run.count) runs))))
 
 -- as many as the runs that they take
-pub pieces_count : (part : Part) (from left : ℕ) (runs : List PvRun) → left ≤ total runs → length (pieces part from left runs) ≡ needed left runs
+pub pieces_count : (part : Part) (from left : ℕ) (runs : List PvRun) → left ≤ total runs
+    → length (pieces part from left runs) ≡ needed left runs
 pieces_count part from left [] le = omega (arith, le)
 pieces_count part from left (run ∷ runs) le =
-    elim (nat_eq left 0) as (λ b. nat_eq left 0 ≡ b → length (cond b [] (cond (nat_lt left run.count) (piece part from left run ∷ []) (piece part from run.count run ∷ pieces part (from + run.count) (left - run.count) runs)))
+    elim (nat_eq left 0) as (λ b. nat_eq left 0 ≡ b
+        → length (cond b [] (cond (nat_lt left run.count) (piece part from left run ∷ [])
+        (piece part from run.count run ∷ pieces part (from + run.count) (left - run.count) runs)))
     ≡ cond b 0 (cond (nat_lt left run.count) 1 (suc (needed (left - run.count) runs)))) [
       | true ↦ λ is. refl
       | false ↦ λ is.
-          elim (nat_lt left run.count) as (λ b. nat_lt left run.count ≡ b → length (cond b (piece part from left run ∷ []) (piece part from run.count run ∷ pieces part (from + run.count) (left - run.count) runs)) ≡ cond b 1 (suc (needed (left - run.count) runs))) [
+          elim (nat_lt left run.count) as (λ b. nat_lt left run.count ≡ b
+              → length (cond b (piece part from left run ∷ [])
+              (piece part from run.count run ∷ pieces part (from + run.count) (left - run.count) runs))
+              ≡ cond b 1 (suc (needed (left - run.count) runs))) [
             | true ↦ λ short. refl
-            | false ↦ λ long. ap suc (pieces_count part (from + run.count) (left - run.count) runs (omega (arith, le, total_cons run runs, ltb-false left run.count long)))
+            | false ↦ λ long. ap suc (pieces_count part (from + run.count) (left - run.count) runs
+                (omega (arith, le, total_cons run runs, ltb-false left run.count long)))
           ] refl
     ] refl
 
@@ -129,12 +146,14 @@ left_some : (left : ℕ) (runs : List PvRun) → Some runs → Some (left_of lef
 left_some left [] some = tt
 left_some left (run ∷ runs) some =
     cond_both (nat_eq left 0) _ _ Some (λ none. some)
-    (λ more. cond_both (nat_lt left run.count) _ _ Some (λ short. (omega (arith, ltb-true left run.count short), some.1)) (λ long. left_some (left - run.count) runs some.1))
+    (λ more. cond_both (nat_lt left run.count) _ _ Some (λ short. (omega (arith, ltb-true left run.count short), some.1))
+        (λ long. left_some (left - run.count) runs some.1))
 
 left_spot : (left n : ℕ) (runs : List PvRun) → left ≤ total runs → spot (left_of left runs) n ≡ spot runs (left + n)
 left_spot left n [] le = refl
 left_spot left n (run ∷ runs) le =
-    cond_both (nat_eq left 0) _ _ (λ some. spot some n ≡ spot (run ∷ runs) (left + n)) (λ none. ap (spot (run ∷ runs)) (let e : n ≡ left + n = omega (arith, eqb-true left 0 none) in e))
+    cond_both (nat_eq left 0) _ _ (λ some. spot some n ≡ spot (run ∷ runs) (left + n))
+        (λ none. ap (spot (run ∷ runs)) (let e : n ≡ left + n = omega (arith, eqb-true left 0 none) in e))
     (λ more. cond_both (nat_lt left run.count) _ _ (λ some. spot some n ≡ spot (run ∷ runs) (left + n))
     (λ short. shorter (ltb-true left run.count short))
     (λ long.
@@ -157,14 +176,17 @@ left_spot left n (run ∷ runs) le =
         ]
 
 -- all parts
-pub laid_agrees : (legs : List (List PvRun)) (leg : List PvRun) (at : ℕ) (parts : List Part) (runs : List PvRun) → AgreeFrom legs at parts → extents_in parts ≤ total runs → Some runs
+pub laid_agrees : (legs : List (List PvRun)) (leg : List PvRun) (at : ℕ) (parts : List Part) (runs : List PvRun) → AgreeFrom legs at parts
+    → extents_in parts ≤ total runs → Some runs
     → ((n : ℕ) → n < extents_in parts → spot leg (at + n) ≡ spot runs n) → AgreeFrom (legs ++ leg ∷ []) at (laid_on parts runs)
 laid_agrees legs leg at [] runs agree fits some same = tt
 laid_agrees legs leg at (part ∷ parts) runs agree fits some same =
     let all = extents_cons part parts in
-    let sum : extents_in (pieces part 0 part.extents runs) ≡ part.extents = pieces_sum part 0 part.extents runs (omega (arith, fits, all)) in
+    let sum : extents_in (pieces part 0 part.extents runs) ≡ part.extents =
+        pieces_sum part 0 part.extents runs (omega (arith, fits, all)) in
     let here : AgreeFrom (legs ++ leg ∷ []) (at + 0) (pieces part 0 part.extents runs) =
-    pieces_agree legs leg part at 0 part.extents runs agree.1 (omega arith) some (λ n lt. ap (spot leg) (let e : at + 0 + n ≡ at + n = omega arith in e) ∙ same n (omega (arith, lt, all))) in
+    pieces_agree legs leg part at 0 part.extents runs agree.1 (omega arith) some
+        (λ n lt. ap (spot leg) (let e : at + 0 + n ≡ at + n = omega arith in e) ∙ same n (omega (arith, lt, all))) in
     let rest : AgreeFrom (legs ++ leg ∷ []) (at + part.extents) (laid_on parts (left_of part.extents runs)) =
     laid_agrees legs leg (at + part.extents) parts (left_of part.extents runs) agree.2
     (omega (arith, fits, all, left_total part.extents runs (omega (arith, fits, all))))
@@ -207,10 +229,13 @@ ends_append : (at n : ℕ) (a b : List Part) → In n (ends_of at (a ++ b)) → 
 ends_append at n [] b is = inr (subst (λ k. In n (ends_of k b)) (omega arith) is)
 ends_append at n (part ∷ a) b (inl here) = inl (inl here)
 ends_append at n (part ∷ a) b (inr later) =
-    ⊎_elim (λ (left : In n (ends_of (at + part.extents) a)). inl (inr left)) (λ (right : In n (ends_of (at + part.extents + extents_in a) b)). inr (subst (λ k. In n (ends_of k b)) (omega (arith, extents_cons part a)) right))
+    ⊎_elim (λ (left : In n (ends_of (at + part.extents) a)). inl (inr left))
+        (λ (right : In n (ends_of (at + part.extents + extents_in a) b)). inr
+        (subst (λ k. In n (ends_of k b)) (omega (arith, extents_cons part a)) right))
     (ends_append (at + part.extents) n a b later)
 
-pieces_end : (part : Part) (from left at n : ℕ) (runs : List PvRun) → left ≤ total runs → In n (ends_of at (pieces part from left runs)) → (n ≡ at + left) ⊎ In n (stops at runs)
+pieces_end : (part : Part) (from left at n : ℕ) (runs : List PvRun) → left ≤ total runs → In n (ends_of at (pieces part from left runs))
+    → (n ≡ at + left) ⊎ In n (stops at runs)
 pieces_end part from left at n [] le is = absurd is
 pieces_end part from left at n (run ∷ runs) le is =
     cond_both (nat_eq left 0) _ _ (λ some. In n (ends_of at some) → (n ≡ at + left) ⊎ In n (stops at (run ∷ runs))) (λ none is. absurd is)
@@ -222,7 +247,8 @@ pieces_end part from left at n (run ∷ runs) le is =
     (λ (same : n ≡ at + run.count). inr (inl same))
     (λ (later : In n (ends_of (at + run.count) (pieces part (from + run.count) (left - run.count) runs))).
     ⊎_elim
-    (λ (last : n ≡ at + run.count + (left - run.count)). inl (last ∙ (let e : at + run.count + (left - run.count) ≡ at + left = omega (arith, fits) in e)))
+    (λ (last : n ≡ at + run.count + (left - run.count)). inl
+        (last ∙ (let e : at + run.count + (left - run.count) ≡ at + left = omega (arith, fits) in e)))
     (λ (stop : In n (stops (at + run.count) runs)). inr (inr stop))
     (pieces_end part (from + run.count) (left - run.count) (at + run.count) n runs (omega (arith, le, total_cons run runs, fits)) later))
     is)) is
@@ -233,25 +259,31 @@ left_stops left at n (run ∷ runs) le is =
     cond_both (nat_eq left 0) _ _ (λ some. In n (stops (at + left) some) → In n (stops at (run ∷ runs)))
     (λ none is. subst (λ k. In n (stops k (run ∷ runs))) (omega (arith, eqb-true left 0 none)) is)
     (λ more. cond_both (nat_lt left run.count) _ _ (λ some. In n (stops (at + left) some) → In n (stops at (run ∷ runs)))
-    (λ short is. subst (λ k. In n (k ∷ stops k runs)) (let e : at + left + (run.count - left) ≡ at + run.count = omega (arith, ltb-true left run.count short) in e) is)
+    (λ short is. subst (λ k. In n (k ∷ stops k runs))
+        (let e : at + left + (run.count - left) ≡ at + run.count = omega (arith, ltb-true left run.count short) in e) is)
     (λ long is.
     let fits = ltb-false left run.count long in
     inr (left_stops (left - run.count) (at + run.count) n runs (omega (arith, le, total_cons run runs, fits))
-    (subst (λ k. In n (stops k (left_of (left - run.count) runs))) (let e : at + left ≡ at + run.count + (left - run.count) = omega (arith, fits) in e) is)))) is
+    (subst (λ k. In n (stops k (left_of (left - run.count) runs)))
+        (let e : at + left ≡ at + run.count + (left - run.count) = omega (arith, fits) in e) is)))) is
 
 -- a part ends where one did before, or where a run of the new leg does
-pub laid_end : (at n : ℕ) (parts : List Part) (runs : List PvRun) → extents_in parts ≤ total runs → In n (ends_of at (laid_on parts runs)) → In n (ends_of at parts) ⊎ In n (stops at runs)
+pub laid_end : (at n : ℕ) (parts : List Part) (runs : List PvRun) → extents_in parts ≤ total runs → In n (ends_of at (laid_on parts runs))
+    → In n (ends_of at parts) ⊎ In n (stops at runs)
 laid_end at n [] runs fits is = absurd is
 laid_end at n (part ∷ parts) runs fits is =
     let all = extents_cons part parts in
     let sum = pieces_sum part 0 part.extents runs (omega (arith, fits, all)) in
     ⊎_elim
     (λ (here : In n (ends_of at (pieces part 0 part.extents runs))).
-    ⊎_elim (λ (last : n ≡ at + part.extents). inl (inl last)) (λ (stop : In n (stops at runs)). inr stop) (pieces_end part 0 part.extents at n runs (omega (arith, fits, all)) here))
+    ⊎_elim (λ (last : n ≡ at + part.extents). inl (inl last)) (λ (stop : In n (stops at runs)). inr stop)
+        (pieces_end part 0 part.extents at n runs (omega (arith, fits, all)) here))
     (λ (there : In n (ends_of (at + extents_in (pieces part 0 part.extents runs)) (laid_on parts (left_of part.extents runs)))).
     ⊎_elim
     (λ (old : In n (ends_of (at + part.extents) parts)). inl (inr old))
-    (λ (stop : In n (stops (at + part.extents) (left_of part.extents runs))). inr (left_stops part.extents at n runs (omega (arith, fits, all)) stop))
-    (laid_end (at + part.extents) n parts (left_of part.extents runs) (omega (arith, fits, all, left_total part.extents runs (omega (arith, fits, all))))
+    (λ (stop : In n (stops (at + part.extents) (left_of part.extents runs))). inr
+        (left_stops part.extents at n runs (omega (arith, fits, all)) stop))
+    (laid_end (at + part.extents) n parts (left_of part.extents runs)
+        (omega (arith, fits, all, left_total part.extents runs (omega (arith, fits, all))))
     (subst (λ k. In n (ends_of k (laid_on parts (left_of part.extents runs)))) (omega (arith, sum)) there)))
     (ends_append at n (pieces part 0 part.extents runs) (laid_on parts (left_of part.extents runs)) is)

@@ -1,5 +1,6 @@
 -- Runs that were sorted have the lengths that are sorted, the greatest first.
-use Rattle.std.proofs.Common.{◌≡◌, ℕ, zero, suc, ◌+◌, ◌<◌, ◌≤◌, ◌^◌, Bool, List, [], ◌∷◌, get_or, cond, inl, inr, refl, sym, ap, ap₂, ◌∙◌, arith, nat_le, sum_by}
+use Rattle.std.proofs.Common.{◌≡◌, ℕ, zero, suc, ◌+◌, ◌<◌, ◌≤◌, ◌^◌, Bool, List, [], ◌∷◌, get_or, cond, inl, inr, refl, sym, ap, ap₂, ◌∙◌,
+    arith, nat_le, sum_by}
 use Rattle.std.specs.Prelude.{All, IsPermutation}
 use Rattle.std.specs.List.{AllByRecursion}
 use Rattle.std.specs.List.Sorted.{IsNonDecreasingBy}
@@ -18,7 +19,8 @@ abbrev pub IsSmall : PvRun → Type 0
 IsSmall run = run.count < 2 ^ 64
 
 -- none of these runs is longer than that
-no_longer : (run : PvRun) (runs : List PvRun) → All IsSmall runs → IsNonDecreasingBy shortness (run ∷ runs) → All (λ (r : PvRun). r.count ≤ run.count) runs
+no_longer : (run : PvRun) (runs : List PvRun) → All IsSmall runs → IsNonDecreasingBy shortness (run ∷ runs)
+    → All (λ (r : PvRun). r.count ≤ run.count) runs
 no_longer run runs small sorted k d lt =
     let order : shortness run ≤ shortness (get_or runs k d) = sorted zero (suc k) d (omega arith) (omega (arith, lt)) in
     omega (arith, order, small k d lt)
@@ -27,7 +29,8 @@ pub descends : (runs : List PvRun) → All IsSmall runs → IsNonDecreasingBy sh
 descends [] small sorted = tt
 descends (run ∷ runs) small sorted =
     let rest : All IsSmall runs = All-tail IsSmall run runs small in
-    (recursion_from_All (λ (r : PvRun). r.count ≤ run.count) runs (no_longer run runs rest sorted), descends runs rest (λ i j d le lt. sorted (suc i) (suc j) d (omega (arith, le)) (omega (arith, lt))))
+    (recursion_from_All (λ (r : PvRun). r.count ≤ run.count) runs (no_longer run runs rest sorted),
+        descends runs rest (λ i j d le lt. sorted (suc i) (suc j) d (omega (arith, le)) (omega (arith, lt))))
 
 -- numbers of which none is greater than one before it
 abbrev Falls : List ℕ → Type 0
@@ -36,13 +39,15 @@ Falls (n ∷ more) = AllByRecursion (λ m. m ≤ n) more × Falls more
 
 all_put : (P : ℕ → Type 0) (n : ℕ) (more : List ℕ) → P n → AllByRecursion P more → AllByRecursion P (put n more)
 all_put P n [] here all = (here, tt)
-all_put P n (m ∷ more) here all = cond_both (nat_le m n) _ _ (AllByRecursion P) (λ le. (here, all)) (λ lt. (all.0, all_put P n more here all.1))
+all_put P n (m ∷ more) here all =
+    cond_both (nat_le m n) _ _ (AllByRecursion P) (λ le. (here, all)) (λ lt. (all.0, all_put P n more here all.1))
 
 put_falls : (n : ℕ) (more : List ℕ) → Falls more → Falls (put n more)
 put_falls n [] falls = (tt, tt)
 put_falls n (m ∷ more) falls =
     cond_both (nat_le m n) _ _ Falls
-    (λ le. let below : m ≤ n = leb-true m n le in ((below, all_weaker (λ k. k ≤ m) (λ k. k ≤ n) (λ k h. omega (arith, below, h)) more falls.0), falls))
+    (λ le. let below : m ≤ n = leb-true m n le in ((below,
+        all_weaker (λ k. k ≤ m) (λ k. k ≤ n) (λ k h. omega (arith, below, h)) more falls.0), falls))
     (λ lt. let below : n < m = leb-false m n lt in (all_put (λ k. k ≤ m) n more (omega arith) falls.0, put_falls n more falls.1))
 
 longest_falls : (numbers : List ℕ) → Falls (longest_first numbers)
@@ -61,7 +66,8 @@ at_least_put : (m n : ℕ) (more : List ℕ) → at_least m (put n more) ≡ one
 unfolding at_least
 at_least_put m n [] = refl
 at_least_put m n (k ∷ more) =
-    cond_both (nat_le k n) _ _ (λ some. at_least m some ≡ one_if (nat_le m n) + (one_if (nat_le m k) + at_least m more)) (λ le. refl) (λ lt. let rest = at_least_put m n more in omega (arith, rest))
+    cond_both (nat_le k n) _ _ (λ some. at_least m some ≡ one_if (nat_le m n) + (one_if (nat_le m k) + at_least m more)) (λ le. refl)
+        (λ lt. let rest = at_least_put m n more in omega (arith, rest))
 
 at_least_longest : (m : ℕ) (numbers : List ℕ) → at_least m (longest_first numbers) ≡ at_least m numbers
 unfolding at_least
@@ -92,23 +98,27 @@ same_falling [] (y ∷ ys) falls falls' same = absurd (omega (arith, same y, one
 same_falling (x ∷ xs) [] falls falls' same = absurd (omega (arith, same x, one_at_least x xs))
 same_falling (x ∷ xs) (y ∷ ys) falls falls' same =
     let first : x ≡ y = omega (arith, not_greater x y xs ys falls.0 same, not_greater y x ys xs falls'.0 (λ m. sym (same m))) in
-    ap₂ (λ (n : ℕ) (more : List ℕ). n ∷ more) first (same_falling xs ys falls.1 falls'.1 (λ m. omega (arith, same m, ap (λ n. one_if (nat_le m n)) first)))
+    ap₂ (λ (n : ℕ) (more : List ℕ). n ∷ more) first
+        (same_falling xs ys falls.1 falls'.1 (λ m. omega (arith, same m, ap (λ n. one_if (nat_le m n)) first)))
 
 counts_fall : (runs : List PvRun) → Descending runs → Falls (counts_of runs)
 counts_fall [] order = tt
 counts_fall (run ∷ runs) order = (below runs order.0, counts_fall runs order.1)
   where
-    below : (some : List PvRun) → AllByRecursion (λ (r : PvRun). r.count ≤ run.count) some → AllByRecursion (λ m. m ≤ run.count) (counts_of some)
+    below : (some : List PvRun) → AllByRecursion (λ (r : PvRun). r.count ≤ run.count) some
+        → AllByRecursion (λ m. m ≤ run.count) (counts_of some)
     below [] all = tt
     below (r ∷ some) all = (all.0, below some all.1)
 
 at_least_counts : (m : ℕ) (runs : List PvRun) → at_least m (counts_of runs) ≡ sum_by (λ (r : PvRun). one_if (nat_le m r.count)) runs
 unfolding at_least
 at_least_counts m [] = refl
-at_least_counts m (run ∷ runs) = let rest = at_least_counts m runs in omega (arith, rest, sum_by-cons (λ (r : PvRun). one_if (nat_le m r.count)) run runs)
+at_least_counts m (run ∷ runs) =
+    let rest = at_least_counts m runs in omega (arith, rest, sum_by-cons (λ (r : PvRun). one_if (nat_le m r.count)) run runs)
 
 -- the lengths of the sorted runs
-pub sorted_counts : (before after : List PvRun) → All IsSmall before → IsPermutation before after → IsNonDecreasingBy shortness after → counts_of after ≡ longest_first (counts_of before)
+pub sorted_counts : (before after : List PvRun) → All IsSmall before → IsPermutation before after → IsNonDecreasingBy shortness after
+    → counts_of after ≡ longest_first (counts_of before)
 sorted_counts before after small moved sorted =
     same_falling (counts_of after) (longest_first (counts_of before))
     (counts_fall after (descends after (All-permutation IsSmall before after moved small) sorted))

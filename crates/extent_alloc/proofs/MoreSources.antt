@@ -21,7 +21,8 @@ or_moved true b c = refl
 or_moved false b c = refl
 
 -- one volume more
-pub one_more : (s : set.FinSet nat_cmp) (n pv : ℕ) (o : On) → o ≡ on.Pv n → set.contains (set.insert s n) pv ≡ (set.contains s pv || is_on pv o)
+pub one_more : (s : set.FinSet nat_cmp) (n pv : ℕ) (o : On) → o ≡ on.Pv n
+    → set.contains (set.insert s n) pv ≡ (set.contains s pv || is_on pv o)
 one_more s n pv o is =
     set.contains-insert nat_cmp_total s n pv
     ∙ ap (λ b. b || set.contains s pv) (unsigned_tied pv n ∙ nat_eq_equiv.symm pv n)

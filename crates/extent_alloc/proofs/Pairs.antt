@@ -17,7 +17,9 @@ module _ {X : Type 0} (R : X → X → Type 0) where
 
   pub pairs_from : (xs : List X) → AllPairs R xs → Pairs R xs
   pairs_from [] pairs = tt
-  pairs_from (x ∷ xs) pairs = (recursion_from_All (R x) xs (first_and x xs pairs), pairs_from xs (λ i j d lt within. pairs (suc i) (suc j) d (omega (arith, lt)) (omega (arith, within))))
+  pairs_from (x ∷ xs) pairs =
+      (recursion_from_All (R x) xs (first_and x xs pairs),
+          pairs_from xs (λ i j d lt within. pairs (suc i) (suc j) d (omega (arith, lt)) (omega (arith, within))))
 
   pub pairs_to : (xs : List X) → Pairs R xs → AllPairs R xs
   pairs_to [] pairs = λ i j d lt within. absurd (omega (arith, within))
@@ -46,4 +48,5 @@ module _ {X : Type 0} (P : X → Type 0) where
 
 pub pairs_filter : {X : Type 0} (R : X → X → Type 0) (p : X → Bool) (xs : List X) → Pairs R xs → Pairs R (filter p xs)
 pairs_filter R p [] pairs = tt
-pairs_filter R p (x ∷ xs) pairs = cond_both (p x) _ _ (Pairs R) (λ is. (all_filter (R x) p xs pairs.0, pairs_filter R p xs pairs.1)) (λ is. pairs_filter R p xs pairs.1)
+pairs_filter R p (x ∷ xs) pairs =
+    cond_both (p x) _ _ (Pairs R) (λ is. (all_filter (R x) p xs pairs.0, pairs_filter R p xs pairs.1)) (λ is. pairs_filter R p xs pairs.1)

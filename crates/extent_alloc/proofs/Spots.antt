@@ -25,16 +25,21 @@ has_spot [] n lt = absurd (omega (arith, lt))
 has_spot (run ∷ runs) n lt =
     elim (cases_lt n run.count) [
       | inl here ↦ inl (in_run run runs n here)
-      | inr later ↦ inr (subst (HasSpot runs) (sym (spot_later run runs n later)) (has_spot runs (n - run.count) (omega (arith, lt, later, total_cons run runs))))
+      | inr later ↦ inr (subst (HasSpot runs) (sym (spot_later run runs n later))
+          (has_spot runs (n - run.count) (omega (arith, lt, later, total_cons run runs))))
     ]
 
 -- what holds of each extent of each run holds of each spot
-pub each_spot : (P : ℕ → ℕ → Type 0) (runs : List PvRun) (n : ℕ) → n < total runs → AllByRecursion (λ (run : PvRun). (extent : ℕ) → run.first ≤ extent → extent < run.first + run.count → P run.pv extent) runs → P (spot runs n).0 (spot runs n).1
+pub each_spot : (P : ℕ → ℕ → Type 0) (runs : List PvRun) (n : ℕ) → n < total runs
+    → AllByRecursion (λ (run : PvRun). (extent : ℕ) → run.first ≤ extent → extent < run.first + run.count → P run.pv extent) runs
+    → P (spot runs n).0 (spot runs n).1
 each_spot P [] n lt all = absurd (omega (arith, lt))
 each_spot P (run ∷ runs) n lt all =
     elim (cases_lt n run.count) [
-      | inl here ↦ subst (λ (s : ℕ × ℕ). P s.0 s.1) (sym (spot_here run runs n here)) (all.0 (run.first + n) (omega arith) (omega (arith, here)))
-      | inr later ↦ subst (λ (s : ℕ × ℕ). P s.0 s.1) (sym (spot_later run runs n later)) (each_spot P runs (n - run.count) (omega (arith, lt, later, total_cons run runs)) all.1)
+      | inl here ↦ subst (λ (s : ℕ × ℕ). P s.0 s.1) (sym (spot_here run runs n here))
+          (all.0 (run.first + n) (omega arith) (omega (arith, here)))
+      | inr later ↦ subst (λ (s : ℕ × ℕ). P s.0 s.1) (sym (spot_later run runs n later))
+          (each_spot P runs (n - run.count) (omega (arith, lt, later, total_cons run runs)) all.1)
     ]
 
 -- a run that lies apart from others has none of their spots
@@ -49,7 +54,8 @@ spots_below [] m n apart less lt same = omega (arith, lt)
 spots_below (run ∷ runs) m n apart less lt same =
     elim (cases_lt n run.count) [
       | inl here ↦
-          let both : run.first + m ≡ run.first + n = ap (λ (s : ℕ × ℕ). s.1) (sym (spot_here run runs m (omega (arith, less, here))) ∙ same ∙ spot_here run runs n here) in
+          let both : run.first + m ≡ run.first + n =
+              ap (λ (s : ℕ × ℕ). s.1) (sym (spot_here run runs m (omega (arith, less, here))) ∙ same ∙ spot_here run runs n here) in
           omega (arith, less)
       | inr there ↦
           let later : spot (run ∷ runs) n ≡ spot runs (n - run.count) = spot_later run runs n there in
@@ -58,7 +64,8 @@ spots_below (run ∷ runs) m n apart less lt same =
                 misses run runs (spot (run ∷ runs) m) apart.0 (in_run run runs m before)
                 (subst (HasSpot runs) (sym (same ∙ later)) (has_spot runs (n - run.count) (omega (arith, lt, there, total_cons run runs))))
             | inr behind ↦
-                spots_below runs (m - run.count) (n - run.count) apart.1 (omega (arith, less, behind)) (omega (arith, lt, there, total_cons run runs)) (sym (spot_later run runs m behind) ∙ same ∙ later)
+                spots_below runs (m - run.count) (n - run.count) apart.1 (omega (arith, less, behind))
+                    (omega (arith, lt, there, total_cons run runs)) (sym (spot_later run runs m behind) ∙ same ∙ later)
           ]
     ]
 
@@ -66,7 +73,8 @@ pub spots_differ : (runs : List PvRun) (m n : ℕ) → Pairs LieApart runs → m
 spots_differ runs m n apart lt lt' differ same =
     elim (cases_order m n) [
       | inl is ↦ differ is
-      | inr rest ↦ elim rest [ inl less ↦ spots_below runs m n apart less lt' same | inr more ↦ spots_below runs n m apart more lt (sym same) ]
+      | inr rest ↦ elim rest [ inl less ↦ spots_below runs m n apart less lt' same | inr more ↦ spots_below runs n m apart more lt
+          (sym same) ]
     ]
 
 -- the first so many extents of a leg lie where the request may have them, each at a place of its own

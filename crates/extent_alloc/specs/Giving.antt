@@ -36,7 +36,8 @@ LieApart a b = (pv extent : ℕ) → LiesAt pv extent a → LiesAt pv extent b �
 
 -- the run lies on a volume that may be used, and each of its extents is free
 abbrev pub MayBeGiven : Group → Request → PvRun → Type 0
-MayBeGiven group want run = IsTrue (is_usable group want run.pv) × ((extent : ℕ) → run.first ≤ extent → extent < run.first + run.count → IsFree group run.pv extent)
+MayBeGiven group want run =
+    IsTrue (is_usable group want run.pv) × ((extent : ℕ) → run.first ≤ extent → extent < run.first + run.count → IsFree group run.pv extent)
 
 -- a request may be given these parts
 pub record IsGiven (group : Group) (want : Request) (parts : List Part) : Type 0 where
@@ -48,4 +49,5 @@ pub record IsGiven (group : Group) (want : Request) (parts : List Part) : Type 0
   -- a leg in one run is a leg of one part
   pub contiguous : IsTrue want.contiguous → length parts ≡ 1
   -- where there are several legs, each lies on one volume, and different ones on different ones
-  pub volumes : 1 < want.legs → (pvs : List ℕ) × AllPairs (λ (a b : ℕ). a ≢ b) pvs × All (λ part. map (λ (run : PartRun). run.pv) part.runs ≡ pvs) parts
+  pub volumes : 1 < want.legs → (pvs : List ℕ) × AllPairs (λ (a b : ℕ). a ≢ b) pvs
+      × All (λ part. map (λ (run : PartRun). run.pv) part.runs ≡ pvs) parts

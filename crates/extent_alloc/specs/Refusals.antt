@@ -1,5 +1,6 @@
 -- Why a request is refused.
-use Rattle.std.specs.Prelude.{◌≡◌, ℕ, Bool, not, ◌&&◌, nat_eq, nat_lt, if◌then◌else◌, List, length, filter, find, Option, None, Some, option_map}
+use Rattle.std.specs.Prelude.{◌≡◌, ℕ, Bool, not, ◌&&◌, nat_eq, nat_lt, if◌then◌else◌, List, length, filter, find, Option, None, Some,
+    option_map}
 use Rattle.std.specs.FinSet as set
 use Rattle.std.specs.Option.{option_or}
 use Rattle.meta_model.specs.declared.group.Group.{Group}
@@ -37,7 +38,8 @@ room_refusal group want pvs =
 
 -- the first reason for which the request is refused
 abbrev pub refusal_of : Group → Request → Option AllocRefusal
-refusal_of group want = option_or (option_map (λ pv. NotAllocatable pv) (first_barred group want)) (room_refusal group want (usable_pvs group want))
+refusal_of group want =
+    option_or (option_map (λ pv. NotAllocatable pv) (first_barred group want)) (room_refusal group want (usable_pvs group want))
 
 -- memory was wanting, or this is the reason
 abbrev pub IsReason : Option AllocRefusal → AllocRefusal → Type 0

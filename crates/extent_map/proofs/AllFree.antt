@@ -1,5 +1,6 @@
 -- The free runs of all volumes, one after the other.
-use Rattle.std.proofs.Common.{◌≡◌, ◌≢◌, ℕ, zero, suc, ◌+◌, ◌<◌, ◌⊎◌, List, [], ◌∷◌, ◌++◌, length, map, Some, inl, inr, refl, sym, ap, subst, ◌∙◌, arith, ⊎_elim}
+use Rattle.std.proofs.Common.{◌≡◌, ◌≢◌, ℕ, zero, suc, ◌+◌, ◌<◌, ◌⊎◌, List, [], ◌∷◌, ◌++◌, length, map, Some, inl, inr, refl, sym, ap, subst,
+    ◌∙◌, arith, ⊎_elim}
 use Rattle.std.specs.Prelude.{Vec, slice_get, slice_index_or, slice_set}
 use Rattle.std.specs.List.{range_with_len}
 use Rattle.std.proofs.lemmas.List.{length_push}
@@ -17,14 +18,16 @@ pub record AreFreeBelow (group : Group) (count : ℕ) (all : List (List ExtentRu
   pub each : (pv : ℕ) (runs : List ExtentRun) → slice_get all pv ≡ Some runs → AreFreeRuns group pv runs
 
 -- what stands in a list with one more item
-found_in_more : {X : Type 0} (xs : List X) (x y : X) (k : ℕ) → slice_get (xs ++ x ∷ []) k ≡ Some y → (slice_get xs k ≡ Some y) ⊎ ((k ≡ length xs) × (x ≡ y))
+found_in_more : {X : Type 0} (xs : List X) (x y : X) (k : ℕ) → slice_get (xs ++ x ∷ []) k ≡ Some y
+    → (slice_get xs k ≡ Some y) ⊎ ((k ≡ length xs) × (x ≡ y))
 found_in_more [] x y zero is = inr (refl, same_Some x y is)
 found_in_more [] x y (suc k) is = absurd (none-some y is)
 found_in_more (first ∷ xs) x y zero is = inl is
 found_in_more (first ∷ xs) x y (suc k) is = ⊎_elim (λ old. inl old) (λ last. inr (ap suc last.0, last.1)) (found_in_more xs x y k is)
 
 -- one more
-pub free_more : (group : Group) (count : ℕ) (all : List (List ExtentRun)) (runs : List ExtentRun) → AreFreeBelow group count all → AreFreeRuns group count runs → AreFreeBelow group (count + 1) (all ++ runs ∷ [])
+pub free_more : (group : Group) (count : ℕ) (all : List (List ExtentRun)) (runs : List ExtentRun) → AreFreeBelow group count all
+    → AreFreeRuns group count runs → AreFreeBelow group (count + 1) (all ++ runs ∷ [])
 free_more group count all runs free next = record {
   long = length_push all runs ∙ ap (λ n. n + 1) free.long;
   each = λ pv some is.
@@ -34,13 +37,15 @@ free_more group count all runs free next = record {
 }
 
 -- what a bucket has
-pub bucket_has : {Z : Type 0} (buckets : List (Vec ExtentSpan Z)) (k : ℕ) (bucket : Vec ExtentSpan Z) (runs : List ExtentSpan) → slice_get (lists_of buckets) k ≡ Some runs → bucket ≡ slice_index_or buckets k bucket → bucket.items ≡ runs
+pub bucket_has : {Z : Type 0} (buckets : List (Vec ExtentSpan Z)) (k : ℕ) (bucket : Vec ExtentSpan Z) (runs : List ExtentSpan)
+    → slice_get (lists_of buckets) k ≡ Some runs → bucket ≡ slice_index_or buckets k bucket → bucket.items ≡ runs
 bucket_has [] k bucket runs is at = absurd (none-some runs is)
 bucket_has (first ∷ buckets) zero bucket runs is at = ap (λ v. v.items) at ∙ same_Some first.items runs is
 bucket_has (first ∷ buckets) (suc k) bucket runs is at = bucket_has buckets k bucket runs is at
 
 -- the others are as they were where one was put in order
-pub others_stay : {Z : Type 0} (buckets : List (Vec ExtentSpan Z)) (k n : ℕ) (bucket : Vec ExtentSpan Z) → n ≢ k → slice_get (lists_of (slice_set buckets k bucket)) n ≡ slice_get (lists_of buckets) n
+pub others_stay : {Z : Type 0} (buckets : List (Vec ExtentSpan Z)) (k n : ℕ) (bucket : Vec ExtentSpan Z) → n ≢ k
+    → slice_get (lists_of (slice_set buckets k bucket)) n ≡ slice_get (lists_of buckets) n
 others_stay [] k n bucket other = refl
 others_stay (first ∷ buckets) zero zero bucket other = absurd (other refl)
 others_stay (first ∷ buckets) zero (suc n) bucket other = refl

@@ -1,5 +1,6 @@
 -- Extents that runs have.
-use Rattle.std.proofs.Common.{◌≡◌, ℕ, zero, suc, ◌+◌, ◌<◌, ◌≤◌, Bool, true, false, List, [], ◌∷◌, ⊎_elim, refl, sym, subst, ◌∙◌, ◌↔◌, IsTrue, arith}
+use Rattle.std.proofs.Common.{◌≡◌, ℕ, zero, suc, ◌+◌, ◌<◌, ◌≤◌, Bool, true, false, List, [], ◌∷◌, ⊎_elim, refl, sym, subst, ◌∙◌, ◌↔◌,
+    IsTrue, arith}
 use Rattle.std.specs.Prelude.{Contains, nat_le, nat_lt}
 use Rattle.std.specs.List.{list_any}
 use Rattle.std.specs.List.Sorted.{IsPermutation}
@@ -22,7 +23,8 @@ cover_first run runs extent has = (run, contains_first run runs, has)
 pub cover_later : (run : ExtentSpan) (runs : List ExtentSpan) (extent : ℕ) → Cover runs extent → Cover (run ∷ runs) extent
 cover_later run runs extent cover = (cover.0, contains_later run cover.0 runs cover.1, cover.2)
 
-pub cover_cases : {P : Type 0} (run : ExtentSpan) (runs : List ExtentSpan) (extent : ℕ) → Cover (run ∷ runs) extent → (Has run extent → P) → (Cover runs extent → P) → P
+pub cover_cases : {P : Type 0} (run : ExtentSpan) (runs : List ExtentSpan) (extent : ℕ) → Cover (run ∷ runs) extent → (Has run extent → P)
+    → (Cover runs extent → P) → P
 cover_cases run runs extent (one, (zero, lt, is), has) first later = first (subst (λ (r : ExtentSpan). Has r extent) (sym is) has)
 cover_cases run runs extent (one, (suc k, lt, is), has) first later = later (one, (k, omega arith, is), has)
 
@@ -43,7 +45,8 @@ pub cover_found : (extent : ℕ) (runs : List ExtentSpan) → Cover runs extent 
 cover_found extent [] cover = absurd (omega (arith, cover.1.1))
 cover_found extent (run ∷ runs) cover =
     cover_cases run runs extent cover
-    (λ has. or_left (is_in extent run) (list_any (is_in extent) runs) (and_from _ _ (le-leb run.first extent has.0) (lt-ltb extent (run.first + run.count) has.1)))
+    (λ has. or_left (is_in extent run) (list_any (is_in extent) runs)
+        (and_from _ _ (le-leb run.first extent has.0) (lt-ltb extent (run.first + run.count) has.1)))
     (λ later. or_right (is_in extent run) (list_any (is_in extent) runs) (cover_found extent runs later))
 
 is_true : (b : Bool) → IsTrue b → b ≡ true
@@ -55,4 +58,5 @@ true_is true is = grind arith
 true_is false is = absurd (false≢true is)
 
 pub test_covers : (extent : ℕ) (runs : List ExtentSpan) (b : Bool) → b ≡ list_any (is_in extent) runs → IsTrue b ↔ Cover runs extent
-test_covers extent runs b same = (λ is. cover_from extent runs (sym same ∙ is_true b is), λ cover. true_is b (same ∙ cover_found extent runs cover))
+test_covers extent runs b same =
+    (λ is. cover_from extent runs (sym same ∙ is_true b is), λ cover. true_is b (same ∙ cover_found extent runs cover))

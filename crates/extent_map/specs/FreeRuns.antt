@@ -9,7 +9,8 @@ use Rattle.extent_map.specs.declared.extent_run.ExtentRun.{ExtentRun}
 
 -- the physical volume with this number has the extent, and no leg lies on it
 abbrev pub IsFree : Group → ℕ → ℕ → Type 0
-IsFree group pv extent = ((row : List ℕ × Pv) × (slice_get group.pvs pv ≡ Some row) × (extent < row.1.pe_count)) × (IsUsed group (on.Pv pv) extent → ⊥)
+IsFree group pv extent =
+    ((row : List ℕ × Pv) × (slice_get group.pvs pv ≡ Some row) × (extent < row.1.pe_count)) × (IsUsed group (on.Pv pv) extent → ⊥)
 
 -- the extent lies in one of these runs
 abbrev pub LiesIn : List ExtentRun → ℕ → Type 0

@@ -1,9 +1,11 @@
 -- Entries of a map, marks of disks and flushes in flight, as events change them.
-use Rattle.std.proofs.Common.{◌≡◌, ◌<◌, ◌≤◌, ℕ, zero, suc, ◌+◌, Bool, true, false, not, cond, ◌&&◌, ◌||◌, nat_eq, nat_le, nat_lt, List, [], ◌∷◌, length, get_or, set, max, refl, sym, ap, ◌∙◌, arith}
+use Rattle.std.proofs.Common.{◌≡◌, ◌<◌, ◌≤◌, ℕ, zero, suc, ◌+◌, Bool, true, false, not, cond, ◌&&◌, ◌||◌, nat_eq, nat_le, nat_lt, List, [],
+    ◌∷◌, length, get_or, set, max, refl, sym, ap, ◌∙◌, arith}
 use Rattle.std.specs.Prelude.{AllPairs, None, Option, Some, remove}
 use Rattle.std.specs.List.{list_any, position_or_len}
 use Rattle.std.specs.Map.{lookup}
-use Rattle.std.proofs.lemmas.Bool.{and_from, and_left, and_parts, and_right, eqb-true, eqb-false, eq-eqb, le-leb, leb-true, leb-false, lt-leb, ltb-true, ltb-false, ne_eqb}
+use Rattle.std.proofs.lemmas.Bool.{and_from, and_left, and_parts, and_right, eqb-true, eqb-false, eq-eqb, le-leb, leb-true, leb-false,
+    lt-leb, ltb-true, ltb-false, ne_eqb}
 use Rattle.std.proofs.lemmas.List.Edits.{get_or-remove_above, get_or-remove_below, length-remove}
 use Rattle.std.proofs.lemmas.List.Folds.{list_any_at}
 use Rattle.indexmap.specs.IndexMap.{insert_entry}
@@ -28,22 +30,26 @@ same_told w x y same =
 pub lookup_put : (es : List (Write × ℕ)) (w : Write) (place : ℕ) → lookup (same_write w) (insert_entry same_write es w place) ≡ Some place
 lookup_put [] w place = rw (same_itself w) refl
 lookup_put (e ∷ es) w place =
-    elim (same_write w e.0) as (λ b. same_write w e.0 ≡ b → lookup (same_write w) (cond b ((e.0, place) ∷ es) (e ∷ insert_entry same_write es w place)) ≡ Some place) [
+    elim (same_write w e.0) as (λ b. same_write w e.0 ≡ b
+        → lookup (same_write w) (cond b ((e.0, place) ∷ es) (e ∷ insert_entry same_write es w place)) ≡ Some place) [
       | true ↦ λ t. rw (t) refl
       | false ↦ λ t. rw (t) (lookup_put es w place)
     ] refl
 
 -- each other one
-pub lookup_other : (es : List (Write × ℕ)) (w x : Write) (place : ℕ) → same_write x w ≡ false → lookup (same_write x) (insert_entry same_write es w place) ≡ lookup (same_write x) es
+pub lookup_other : (es : List (Write × ℕ)) (w x : Write) (place : ℕ) → same_write x w ≡ false
+    → lookup (same_write x) (insert_entry same_write es w place) ≡ lookup (same_write x) es
 lookup_other [] w x place other = rw (other) refl
 lookup_other (e ∷ es) w x place other =
-    elim (same_write w e.0) as (λ b. same_write w e.0 ≡ b → lookup (same_write x) (cond b ((e.0, place) ∷ es) (e ∷ insert_entry same_write es w place)) ≡ lookup (same_write x) (e ∷ es)) [
+    elim (same_write w e.0) as (λ b. same_write w e.0 ≡ b
+        → lookup (same_write x) (cond b ((e.0, place) ∷ es) (e ∷ insert_entry same_write es w place)) ≡ lookup (same_write x) (e ∷ es)) [
       | true ↦ λ t. let apart : same_write x e.0 ≡ false = same_told w e.0 x t ∙ other in rw (apart) refl
       | false ↦ λ t. ap (λ (o : Option ℕ). cond (same_write x e.0) (Some e.1) o) (lookup_other es w x place other)
     ] refl
 
 -- a number of the marks that a write of marks leaves
-pub mark_kept : (f : Marks → ℕ) (marks : List Marks) (i : ℕ) (m d : Marks) → f m ≡ f (get_or marks i d) → (k : ℕ) → f (get_or (set marks i m) k d) ≡ f (get_or marks k d)
+pub mark_kept : (f : Marks → ℕ) (marks : List Marks) (i : ℕ) (m d : Marks) → f m ≡ f (get_or marks i d) → (k : ℕ)
+    → f (get_or (set marks i m) k d) ≡ f (get_or marks k d)
 mark_kept f [] i m d same k = refl
 mark_kept f (x ∷ marks) zero m d same zero = same
 mark_kept f (x ∷ marks) zero m d same (suc k) = refl
@@ -94,6 +100,8 @@ pub tags_left : (flushes : List Flush) (at : ℕ) → at < length flushes → Al
 tags_left flushes at lt apart k d within =
     let count : length (remove flushes at) + 1 ≡ length flushes = length-remove flushes at lt in
     elim (nat_lt k at) as (λ b. nat_lt k at ≡ b → nat_eq (get_or flushes at d).tag (get_or (remove flushes at) k d).tag ≡ false) [
-      | true ↦ λ t. rw (get_or-remove_below flushes at d k (ltb-true k at t) lt) (tags_swap (get_or flushes k d).tag (get_or flushes at d).tag (apart k at d (ltb-true k at t) lt))
-      | false ↦ λ t. rw (get_or-remove_above flushes at d k (ltb-false k at t) lt) (apart at (k + 1) d (omega (arith, ltb-false k at t)) (omega arith))
+      | true ↦ λ t. rw (get_or-remove_below flushes at d k (ltb-true k at t) lt)
+          (tags_swap (get_or flushes k d).tag (get_or flushes at d).tag (apart k at d (ltb-true k at t) lt))
+      | false ↦ λ t. rw (get_or-remove_above flushes at d k (ltb-false k at t) lt)
+          (apart at (k + 1) d (omega (arith, ltb-false k at t)) (omega arith))
     ] refl

@@ -32,12 +32,14 @@ marks_within plan o pv =
     ] refl
 
 -- a place that is put in is one of the places
-last_within : (es : List (Write × ℕ)) (w : Write) (place held : ℕ) → place ≤ held → All (λ e. e.1 ≤ held) es → All (λ e. e.1 ≤ held) (insert_entry same_write es w place)
+last_within : (es : List (Write × ℕ)) (w : Write) (place held : ℕ) → place ≤ held → All (λ e. e.1 ≤ held) es
+    → All (λ e. e.1 ≤ held) (insert_entry same_write es w place)
 last_within [] w place held le all = All-cons (λ (e : Write × ℕ). e.1 ≤ held) (w, place) [] le (All-nil (λ (e : Write × ℕ). e.1 ≤ held))
 last_within (e ∷ es) w place held le all =
     let head : e.1 ≤ held = all 0 e (omega arith) in
     let tail : All (λ (x : Write × ℕ). x.1 ≤ held) es = λ k d lt. all (suc k) d (omega arith) in
-    elim (same_write w e.0) as (λ b. All (λ (x : Write × ℕ). x.1 ≤ held) (cond b ((e.0, place) ∷ es) (e ∷ insert_entry same_write es w place))) [
+    elim (same_write w e.0) as (λ b. All (λ (x : Write × ℕ). x.1 ≤ held)
+        (cond b ((e.0, place) ∷ es) (e ∷ insert_entry same_write es w place))) [
       | true ↦ All-cons (λ (x : Write × ℕ). x.1 ≤ held) (e.0, place) es le tail
       | false ↦ All-cons (λ (x : Write × ℕ). x.1 ≤ held) e (insert_entry same_write es w place) head (last_within es w place held le tail)
     ]
@@ -47,8 +49,12 @@ pub orderly_by_wrote : (plan : Plan) (number pv : ℕ) → IsOrderly plan → Is
 orderly_by_wrote plan number pv o =
     let m : IsWithin plan.held (marks_of plan pv) = marks_within plan o pv in
     record {
-      last = last_within plan.last (record { number = number; pv = pv }) (plan.held + 1) (plan.held + 1) (omega arith) (λ k d lt. let h : (get_or plan.last k d).1 ≤ plan.held = o.last k d lt in omega arith);
-      marks = All-set (IsWithin (plan.held + 1)) plan.marks pv (record (marks_of plan pv) { written = plan.held + 1 }) (omega arith, m.1, omega arith)
+      last =
+          last_within plan.last (record { number = number; pv = pv }) (plan.held + 1) (plan.held + 1) (omega arith)
+              (λ k d lt. let h : (get_or plan.last k d).1 ≤ plan.held = o.last k d lt in omega arith);
+      marks =
+          All-set (IsWithin (plan.held + 1)) plan.marks pv (record (marks_of plan pv) { written = plan.held + 1 })
+              (omega arith, m.1, omega arith)
           (λ k d lt. let h : IsWithin plan.held (get_or plan.marks k d) = o.marks k d lt in (omega arith, h.1, omega arith));
       flushes = λ k d lt. let h : (get_or plan.flushes k d).after ≤ plan.held = o.flushes k d lt in omega arith;
     }
@@ -58,7 +64,8 @@ pub orderly_by_submitted : (plan : Plan) (pv tag : ℕ) → IsOrderly plan → I
 orderly_by_submitted plan pv tag o = record {
   last = o.last;
   marks = o.marks;
-  flushes = All-push (λ (f : Flush). f.after ≤ plan.held) plan.flushes (record { tag = tag; pv = pv; after = plan.held }) o.flushes (omega arith);
+  flushes =
+      All-push (λ (f : Flush). f.after ≤ plan.held) plan.flushes (record { tag = tag; pv = pv; after = plan.held }) o.flushes (omega arith);
 }
 
 -- a flush that completed well, and one that failed
@@ -70,7 +77,10 @@ orderly_by_flushed plan tag flies o =
     let m : IsWithin plan.held (marks_of plan f.pv) = marks_within plan o f.pv in
     record {
       last = o.last;
-      marks = All-set (IsWithin plan.held) plan.marks f.pv (record (marks_of plan f.pv) { ended = max (marks_of plan f.pv).ended f.after; stable = max (marks_of plan f.pv).stable f.after }) (m.0, omega arith, omega arith) o.marks;
+      marks =
+          All-set (IsWithin plan.held) plan.marks f.pv
+              (record (marks_of plan f.pv) { ended = max (marks_of plan f.pv).ended f.after;
+              stable = max (marks_of plan f.pv).stable f.after }) (m.0, omega arith, omega arith) o.marks;
       flushes = all_remove (λ (g : Flush). g.after ≤ plan.held) plan.flushes (flush_at plan tag) at o.flushes;
     }
 
@@ -82,6 +92,8 @@ orderly_by_lost plan tag flies o =
     let m : IsWithin plan.held (marks_of plan f.pv) = marks_within plan o f.pv in
     record {
       last = o.last;
-      marks = All-set (IsWithin plan.held) plan.marks f.pv (record (marks_of plan f.pv) { ended = max (marks_of plan f.pv).ended f.after }) (m.0, omega arith, omega arith) o.marks;
+      marks =
+          All-set (IsWithin plan.held) plan.marks f.pv (record (marks_of plan f.pv) { ended = max (marks_of plan f.pv).ended f.after })
+              (m.0, omega arith, omega arith) o.marks;
       flushes = all_remove (λ (g : Flush). g.after ≤ plan.held) plan.flushes (flush_at plan tag) at o.flushes;
     }

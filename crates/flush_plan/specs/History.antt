@@ -1,5 +1,6 @@
 -- What happened to a plan, and which writes that has made stable, by the events alone.
-use Rattle.std.specs.Prelude.{◌≡◌, ◌<◌, ℕ, Bool, true, false, ◌==◌, ◌&&◌, ◌||◌, max, if◌then◌else◌, IsFalse, IsTrue, List, [], ◌∷◌, Option, None, Some, length}
+use Rattle.std.specs.Prelude.{◌≡◌, ◌<◌, ℕ, Bool, true, false, ◌==◌, ◌&&◌, ◌||◌, max, if◌then◌else◌, IsFalse, IsTrue, List, [], ◌∷◌, Option,
+    None, Some, length}
 use Rattle.std.specs.Option.{option_map, option_map_or}
 use Rattle.flush_plan.specs.Plans.{Plan, is_in_flight, is_stable}
 use Rattle.flush_plan.specs.Steps.{new_plan, after_wrote, after_submitted, after_flushed, after_lost}
@@ -45,7 +46,8 @@ is_write number pv (Lost tag) = false
 -- the events since the last write of this number on this disk completed, if one did
 abbrev pub since_write : ℕ → ℕ → List Event → Option (List Event)
 since_write number pv [] = None
-since_write number pv (e ∷ before) = if is_write number pv e then Some [] else option_map (λ since. e ∷ since) (since_write number pv before)
+since_write number pv (e ∷ before) =
+    if is_write number pv e then Some [] else option_map (λ since. e ∷ since) (since_write number pv before)
 
 -- whether a write of this number on this disk is held, and a flush that was submitted after the completion of the last of
 -- them has completed well
@@ -81,4 +83,6 @@ MayBeToldAll disks (e ∷ before) = MayBeTold (plan_after disks before) e × May
 -- after any events a plan says of a write that it is stable exactly where a flush that was submitted after its last
 -- completion has completed well
 abbrev pub StableIsFlushedAfter : Type 0
-StableIsFlushedAfter = (disks : ℕ) (events : List Event) (number pv : ℕ) → MayBeToldAll disks events → is_stable (plan_after disks events) number pv ≡ is_flushed_after number pv events
+StableIsFlushedAfter =
+    (disks : ℕ) (events : List Event) (number pv : ℕ) → MayBeToldAll disks events
+        → is_stable (plan_after disks events) number pv ≡ is_flushed_after number pv events

@@ -43,7 +43,9 @@ flush_of plan tag = slice_index_or plan.flushes (flush_at plan tag) (record { ta
 -- whether a write of this number on this disk is held, and a flush that was submitted after the completion of the last of
 -- them has completed well
 abbrev pub is_stable : Plan → ℕ → ℕ → Bool
-is_stable plan number pv = option_map_or (λ place. nat_le place (marks_of plan pv).stable) (lookup (same_write (record { number = number; pv = pv })) plan.last) false
+is_stable plan number pv =
+    option_map_or (λ place. nat_le place (marks_of plan pv).stable) (lookup (same_write (record { number = number; pv = pv })) plan.last)
+        false
 
 -- whether a write on this disk has completed for which no flush submitted after it has ended, and no flush of the disk is
 -- in flight

@@ -35,7 +35,8 @@ lv_is_no_pv lv pv same = some (ap lv_number same) where
   some is = absurd cc
 
 -- each copy is at such a place
-pub copy_is_used : (group : Group) (lv sector : ℕ) (legs : List (ℕ × ℕ)) (at : At) → IsAccepted group → HasCopyAt group (sector_of lv sector) legs at → IsUsedAt group at
+pub copy_is_used : (group : Group) (lv sector : ℕ) (legs : List (ℕ × ℕ)) (at : At) → IsAccepted group
+    → HasCopyAt group (sector_of lv sector) legs at → IsUsedAt group at
 copy_is_used group lv sector [] at accepted copy = absurd (lv_is_no_pv lv at.pv (ap (λ (s : Spot). s.on) copy.lead))
 copy_is_used group lv sector (leg ∷ legs) at accepted copy =
     let r : InRun group copy.lead.0 leg.0 leg.1 (record { on = on.Pv at.pv; sector = copy.into }) =
@@ -52,9 +53,11 @@ primary_is_used group lv sector at accepted is =
 
 -- the sector is before or behind these extents of a physical volume
 abbrev pub IsBesideRun : Group → PvRun → Pv → ℕ → Type 0
-IsBesideRun group run pv sector = (sector < pv.pe_start + run.first * group.extent_size) ⊎ (pv.pe_start + (run.first + run.count) * group.extent_size ≤ sector)
+IsBesideRun group run pv sector =
+    (sector < pv.pe_start + run.first * group.extent_size) ⊎ (pv.pe_start + (run.first + run.count) * group.extent_size ≤ sector)
 
-module _ (group : Group) (accepted : IsAccepted group) (run : PvRun) (free : IsFreeRun group run) (pv : List ℕ × Pv) (is_pv : slice_get group.pvs run.pv ≡ Some pv) where
+module _ (group : Group) (accepted : IsAccepted group) (run : PvRun) (free : IsFreeRun group run) (pv : List ℕ × Pv)
+    (is_pv : slice_get group.pvs run.pv ≡ Some pv) where
   -- what is used on the volume is beside free extents
   pub used_beside : (at : At) → IsUsedAt group at → at.pv ≡ run.pv → IsBesideRun group run pv.1 at.sector
   used_beside at used same =
@@ -70,12 +73,14 @@ module _ (group : Group) (accepted : IsAccepted group) (run : PvRun) (free : IsF
       starts : used.pv.1.pe_start ≡ pv.1.pe_start
       starts = ap (λ (p : List ℕ × Pv). p.1.pe_start) (same_Some used.pv pv (sym used.is_pv ∙ ap (slice_get group.pvs) same ∙ is_pv))
 
-      none : pv.1.pe_start + run.first * group.extent_size ≤ at.sector → at.sector < pv.1.pe_start + (run.first + run.count) * group.extent_size → ⊥
+      none : pv.1.pe_start + run.first * group.extent_size ≤ at.sector
+          → at.sector < pv.1.pe_start + (run.first + run.count) * group.extent_size → ⊥
       none reached inside =
           let some : 0 < group.extent_size = (let least = (accepted Numbers).extent_size.0 in omega (arith, least)) in
           let low : run.first * group.extent_size ≤ used.into = omega (arith, reached, starts, used.at_is) in
           let high : used.into < (run.first + run.count) * group.extent_size = omega (arith, inside, starts, used.at_is) in
-          (free (used.into / group.extent_size) (le-div run.first used.into group.extent_size some low) (div_below used.into group.extent_size (run.first + run.count) some high)).1
+          (free (used.into / group.extent_size) (le-div run.first used.into group.extent_size some low)
+              (div_below used.into group.extent_size (run.first + run.count) some high)).1
           (subst (λ (n : ℕ). IsUsed group (on.Pv n) (used.into / group.extent_size)) same used.used)
 
   -- so is each primary place there
@@ -83,7 +88,9 @@ module _ (group : Group) (accepted : IsAccepted group) (run : PvRun) (free : IsF
   primary_beside lv sector at is same = used_beside at (primary_is_used group lv sector at accepted is) same
 
   -- and each on its disk, where different physical volumes are on different disks
-  pub primary_beside_on : (disk_of : List ℕ) → DisksDiffer group disk_of → (lv sector : ℕ) (at : At) → primary group lv sector ≡ Some at → slice_index disk_of at.pv ≡ slice_index disk_of run.pv → IsBesideRun group run pv.1 at.sector
+  pub primary_beside_on : (disk_of : List ℕ) → DisksDiffer group disk_of → (lv sector : ℕ) (at : At) → primary group lv sector ≡ Some at
+      → slice_index disk_of at.pv ≡ slice_index disk_of run.pv → IsBesideRun group run pv.1 at.sector
   primary_beside_on disk_of differ lv sector at is same =
       let used : IsUsedAt group at = primary_is_used group lv sector at accepted is in
-      used_beside at used (differ at.pv run.pv (slice_get_within group.pvs at.pv used.pv used.is_pv) (slice_get_within group.pvs run.pv pv is_pv) same)
+      used_beside at used (differ at.pv run.pv (slice_get_within group.pvs at.pv used.pv used.is_pv)
+          (slice_get_within group.pvs run.pv pv is_pv) same)

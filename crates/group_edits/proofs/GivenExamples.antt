@@ -74,7 +74,8 @@ is_new : with_volume (8 ∷ [], new_lv (8 ∷ []) (Mirror 1024 None []) given 77
       8 ∷ [],
       record {
         id = 8 ∷ [];
-        status = record { read = true; write = true; visible = true; fixed_minor = false; pvmove = false; locked = false; notsynced = false };
+        status =
+            record { read = true; write = true; visible = true; fixed_minor = false; pvmove = false; locked = false; notsynced = false };
         created = 77;
         host = 108 ∷ 111 ∷ 99 ∷ 97 ∷ 108 ∷ 104 ∷ 111 ∷ 115 ∷ 116 ∷ [];
         segments =

@@ -1,5 +1,6 @@
 -- The legs of the segments that are made of given extents: what they cover is free, and lies apart.
-use Rattle.std.proofs.Common.{◌≡◌, ◌≤◌, ◌<◌, ℕ, ◌+◌, ◌-◌, ◌*◌, ◌/◌, List, [], ◌∷◌, ◌++◌, length, map, Some, refl, sym, ap, subst, ◌∙◌, arith}
+use Rattle.std.proofs.Common.{◌≡◌, ◌≤◌, ◌<◌, ℕ, ◌+◌, ◌-◌, ◌*◌, ◌/◌, List, [], ◌∷◌, ◌++◌, length, map, Some, refl, sym, ap, subst, ◌∙◌,
+    arith}
 use Rattle.std.specs.Prelude.{slice_get, All, AllPairs}
 use Rattle.std.proofs.lemmas.List.{length-map}
 use Rattle.std.proofs.lemmas.List.Elements.{All-append, All-cons, All-head, All-nil, All-tail}
@@ -28,7 +29,8 @@ use Rattle.group_edits.specs.GivenSegments.{IsFreeRun, MayBeLaid, extents_by, ki
 
 -- what a request may be given may be laid
 pub given_may : (group : Group) (want : Request) (parts : List Part) → IsGiven group want parts → MayBeLaid group want.legs parts
-given_may group want parts given = record { legs = given.legs; free = λ k d within extent from below. (given.free k d within).1 extent from below; apart = given.apart }
+given_may group want parts given =
+    record { legs = given.legs; free = λ k d within extent from below. (given.free k d within).1 extent from below; apart = given.apart }
 
 -- and is a part or more
 pub given_some : (group : Group) (want : Request) (parts : List Part) → IsRequest want → IsGiven group want parts → 1 ≤ length parts
@@ -49,7 +51,8 @@ legs_count part = length-map part.runs leg_at
 plus_none : (n : ℕ) → n ≡ n + 0
 plus_none n = omega arith
 
-pub share_is : (part : Part) (kind : SegKind) → 1 ≤ length part.runs → leg_share (extents_by part.extents (kind_on (legs_in part) kind)) (kind_on (legs_in part) kind) ≡ part.extents
+pub share_is : (part : Part) (kind : SegKind) → 1 ≤ length part.runs
+    → leg_share (extents_by part.extents (kind_on (legs_in part) kind)) (kind_on (legs_in part) kind) ≡ part.extents
 share_is part (Striped stripe others) some =
     ap (λ (n : ℕ). n / length (legs_in part)) (plus_none (part.extents * length (legs_in part)))
     ∙ div-mul-add part.extents (length (legs_in part)) 0 (let same = legs_count part in omega (arith, some, same))
@@ -76,11 +79,13 @@ laid_append [] c (run ∷ b) d first second = absurd first
 laid_append (leg ∷ a) c [] d first second = absurd first
 laid_append (leg ∷ a) c (run ∷ b) d first second = (first.0, laid_append a c b d first.1 second)
 
-laid_all : (P : LegRun → Type 0) (Q : PvRun → Type 0) → ((leg : LegRun) (run : PvRun) → IsLaid leg run → Q run → P leg) → (a : List LegRun) (b : List PvRun) → AreLaid a b → All Q b → All P a
+laid_all : (P : LegRun → Type 0) (Q : PvRun → Type 0) → ((leg : LegRun) (run : PvRun) → IsLaid leg run → Q run → P leg)
+    → (a : List LegRun) (b : List PvRun) → AreLaid a b → All Q b → All P a
 laid_all P Q step [] [] laid all = All-nil P
 laid_all P Q step [] (run ∷ b) laid all = absurd laid
 laid_all P Q step (leg ∷ a) [] laid all = absurd laid
-laid_all P Q step (leg ∷ a) (run ∷ b) laid all = All-cons P leg a (step leg run laid.0 (All-head Q run b all)) (laid_all P Q step a b laid.1 (All-tail Q run b all))
+laid_all P Q step (leg ∷ a) (run ∷ b) laid all =
+    All-cons P leg a (step leg run laid.0 (All-head Q run b all)) (laid_all P Q step a b laid.1 (All-tail Q run b all))
 
 pv_same : (a b : ℕ) → on.Pv a ≡ on.Pv b → a ≡ b
 pv_same a b same = ap pv_number same where
@@ -104,40 +109,51 @@ laid_pairs [] b laid pairs = λ i j d before within. absurd (omega (arith, befor
 laid_pairs (leg ∷ a) [] laid pairs = absurd laid
 laid_pairs (leg ∷ a) (run ∷ b) laid pairs =
     AllPairs-cons LieApart leg a
-    (laid_all (LieApart leg) (PvApart run) (λ other there is apart. legs_apart leg other run there laid.0 is apart) a b laid.1 (first_pairs PvApart run b pairs))
+    (laid_all (LieApart leg) (PvApart run) (λ other there is apart. legs_apart leg other run there laid.0 is apart) a b laid.1
+        (first_pairs PvApart run b pairs))
     (laid_pairs a b laid.1 (later_pairs PvApart run b pairs))
 
 -- ---- the segments
 
 module _ (kind : SegKind) (lv : ℕ) where
   legs_laid : (segment number count : ℕ) (runs : List PartRun)
-      → AreLaid (runs_of_legs lv segment count number (map leg_at runs)) (map (λ (run : PartRun). record { pv = run.pv; first = run.first; count = count }) runs)
+      → AreLaid (runs_of_legs lv segment count number (map leg_at runs))
+      (map (λ (run : PartRun). record { pv = run.pv; first = run.first; count = count }) runs)
   legs_laid segment number count [] = tt
-  legs_laid segment number count (run ∷ runs) = (record { on_pv = refl; first_is = refl; count_is = refl }, legs_laid segment (number + 1) count runs)
+  legs_laid segment number count (run ∷ runs) =
+      (record { on_pv = refl; first_is = refl; count_is = refl }, legs_laid segment (number + 1) count runs)
 
   part_laid : (segment start : ℕ) (part : Part) → 1 ≤ length part.runs
-      → AreLaid (runs_of_legs lv segment (leg_share (extents_by part.extents (kind_on (legs_in part) kind)) (kind_on (legs_in part) kind)) 0 (legs_of (kind_on (legs_in part) kind))) (covered_by part)
+      → AreLaid (runs_of_legs lv segment (leg_share (extents_by part.extents (kind_on (legs_in part) kind)) (kind_on (legs_in part) kind)) 0
+      (legs_of (kind_on (legs_in part) kind))) (covered_by part)
   part_laid segment start part some =
-      subst (λ (share : ℕ). AreLaid (runs_of_legs lv segment share 0 (legs_of (kind_on (legs_in part) kind))) (covered_by part)) (sym (share_is part kind some))
-      (subst (λ (legs : List Leg). AreLaid (runs_of_legs lv segment part.extents 0 legs) (covered_by part)) (sym (legs_on (legs_in part) kind)) (legs_laid segment 0 part.extents part.runs))
+      subst (λ (share : ℕ). AreLaid (runs_of_legs lv segment share 0 (legs_of (kind_on (legs_in part) kind))) (covered_by part))
+          (sym (share_is part kind some))
+      (subst (λ (legs : List Leg). AreLaid (runs_of_legs lv segment part.extents 0 legs) (covered_by part))
+          (sym (legs_on (legs_in part) kind)) (legs_laid segment 0 part.extents part.runs))
 
-  pub parts_laid : (segment start : ℕ) (parts : List Part) → All (λ (part : Part). 1 ≤ length part.runs) parts → AreLaid (runs_of_segments lv segment (segments_of kind start parts)) (covered parts)
+  pub parts_laid : (segment start : ℕ) (parts : List Part) → All (λ (part : Part). 1 ≤ length part.runs) parts
+      → AreLaid (runs_of_segments lv segment (segments_of kind start parts)) (covered parts)
   parts_laid segment start [] some = tt
   parts_laid segment start (part ∷ parts) some =
       laid_append
-      (runs_of_legs lv segment (leg_share (extents_by part.extents (kind_on (legs_in part) kind)) (kind_on (legs_in part) kind)) 0 (legs_of (kind_on (legs_in part) kind)))
+      (runs_of_legs lv segment (leg_share (extents_by part.extents (kind_on (legs_in part) kind)) (kind_on (legs_in part) kind)) 0
+          (legs_of (kind_on (legs_in part) kind)))
       (runs_of_segments lv (segment + 1) (segments_of kind (start + extents_by part.extents (kind_on (legs_in part) kind)) parts))
       (covered_by part) (covered parts)
       (part_laid segment start part (All-head (λ (part : Part). 1 ≤ length part.runs) part parts some))
-      (parts_laid (segment + 1) (start + extents_by part.extents (kind_on (legs_in part) kind)) parts (All-tail (λ (part : Part). 1 ≤ length part.runs) part parts some))
+      (parts_laid (segment + 1) (start + extents_by part.extents (kind_on (legs_in part) kind)) parts
+          (All-tail (λ (part : Part). 1 ≤ length part.runs) part parts some))
 
 -- ---- the legs of all parts
 
 -- what holds of what is covered holds of each leg
-module _ (Q : PvRun → Type 0) (R : Leg → Type 0) (step : (run : PartRun) (count : ℕ) → Q (record { pv = run.pv; first = run.first; count = count }) → R (leg_at run)) where
+module _ (Q : PvRun → Type 0) (R : Leg → Type 0)
+    (step : (run : PartRun) (count : ℕ) → Q (record { pv = run.pv; first = run.first; count = count }) → R (leg_at run)) where
   part_legs : (part : Part) (more : List PvRun) → All Q (covered_by part ++ more) → All R (legs_in part) × All Q more
   part_legs part more all = by part.runs all where
-    by : (runs : List PartRun) → All Q (map (λ (run : PartRun). record { pv = run.pv; first = run.first; count = part.extents }) runs ++ more) → All R (map leg_at runs) × All Q more
+    by : (runs : List PartRun) → All Q (map (λ (run : PartRun). record { pv = run.pv; first = run.first; count = part.extents }) runs
+        ++ more) → All R (map leg_at runs) × All Q more
     by [] all = (All-nil R, all)
     by (run ∷ runs) all =
         let rest : List PvRun = map (λ (run : PartRun). record { pv = run.pv; first = run.first; count = part.extents }) runs ++ more in
@@ -165,12 +181,17 @@ module _ (group : Group) (count : ℕ) (parts : List Part) (may : MayBeLaid grou
       (by part.runs (All-head (λ (part : Part). 1 ≤ part.extents) part parts some))
       (covered_some parts (All-tail (λ (part : Part). 1 ≤ part.extents) part parts some))
     where
-      by : (runs : List PartRun) → 1 ≤ part.extents → All (λ (run : PvRun). 1 ≤ run.count) (map (λ (run : PartRun). record { pv = run.pv; first = run.first; count = part.extents }) runs)
+      by : (runs : List PartRun) → 1 ≤ part.extents
+          → All (λ (run : PvRun). 1 ≤ run.count) (map (λ (run : PartRun). record { pv = run.pv; first = run.first; count = part.extents })
+          runs)
       by [] here = All-nil (λ (run : PvRun). 1 ≤ run.count)
-      by (run ∷ runs) here = All-cons (λ (run : PvRun). 1 ≤ run.count) (record { pv = run.pv; first = run.first; count = part.extents }) (map (λ (run : PartRun). record { pv = run.pv; first = run.first; count = part.extents }) runs) here (by runs here)
+      by (run ∷ runs) here =
+          All-cons (λ (run : PvRun). 1 ≤ run.count) (record { pv = run.pv; first = run.first; count = part.extents })
+              (map (λ (run : PartRun). record { pv = run.pv; first = run.first; count = part.extents }) runs) here (by runs here)
 
   -- the last extent of a free run is one of its volume
-  pub free_within : (run : PvRun) → 1 ≤ run.count → IsFreeRun group run → (row : List ℕ × Pv) × (slice_get group.pvs run.pv ≡ Some row) × (run.first + run.count ≤ row.1.pe_count)
+  pub free_within : (run : PvRun) → 1 ≤ run.count → IsFreeRun group run
+      → (row : List ℕ × Pv) × (slice_get group.pvs run.pv ≡ Some row) × (run.first + run.count ≤ row.1.pe_count)
   free_within run some free =
       let last = free (run.first + (run.count - 1)) (omega arith) (omega (arith, some)) in
       let below : run.first + (run.count - 1) < last.0.0.1.pe_count = last.0.2 in
@@ -197,7 +218,11 @@ module _ (group : Group) (count : ℕ) (parts : List Part) (may : MayBeLaid grou
 
   pub runs_new : (kind : SegKind) (lv segment start : ℕ) → All (IsNewRun group) (runs_of_segments lv segment (segments_of kind start parts))
   runs_new kind lv segment start =
-      laid_all (IsNewRun group) (λ (run : PvRun). (1 ≤ run.count) × IsFreeRun group run) new_run (runs_of_segments lv segment (segments_of kind start parts)) (covered parts) (parts_laid kind lv segment start parts each_has_runs) each_free
+      laid_all (IsNewRun group) (λ (run : PvRun). (1 ≤ run.count) × IsFreeRun group run) new_run
+          (runs_of_segments lv segment (segments_of kind start parts)) (covered parts)
+          (parts_laid kind lv segment start parts each_has_runs) each_free
 
   pub runs_apart : (kind : SegKind) (lv segment start : ℕ) → AllPairs LieApart (runs_of_segments lv segment (segments_of kind start parts))
-  runs_apart kind lv segment start = laid_pairs (runs_of_segments lv segment (segments_of kind start parts)) (covered parts) (parts_laid kind lv segment start parts each_has_runs) may.apart
+  runs_apart kind lv segment start =
+      laid_pairs (runs_of_segments lv segment (segments_of kind start parts)) (covered parts)
+          (parts_laid kind lv segment start parts each_has_runs) may.apart

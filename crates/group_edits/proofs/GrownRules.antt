@@ -1,9 +1,11 @@
 -- The next version of a group keeps all rules, where new legs lie on free extents of physical volumes: those of one volume, or of
 -- a new one. What the rules on ids, counts and segments ask is asked of it.
-use Rattle.std.proofs.Common.{◌≡◌, ◌≤◌, ◌<◌, ◌⊎◌, ℕ, ◌+◌, Bool, false, true≢false, cond, List, [], ◌∷◌, ◌++◌, Some, None, inl, inr, ⊎_elim, refl, sym, ap, subst, ◌∙◌, arith}
+use Rattle.std.proofs.Common.{◌≡◌, ◌≤◌, ◌<◌, ◌⊎◌, ℕ, ◌+◌, Bool, false, true≢false, cond, List, [], ◌∷◌, ◌++◌, Some, None, inl, inr, ⊎_elim,
+    refl, sym, ap, subst, ◌∙◌, arith}
 use Rattle.std.specs.Prelude.{nat_eq, slice_get, All, AllPairs, Contains}
 use Rattle.std.specs.List.{AllByRecursion as Each}
-use Rattle.std.proofs.lemmas.List.Elements.{All-append, All-contains, All-contains_itself, All-from_recursion, All-head, All-tail, All-weaker, Contains-append_cases, Contains-append_left, Contains-append_right, recursion_from_All}
+use Rattle.std.proofs.lemmas.List.Elements.{All-append, All-contains, All-contains_itself, All-from_recursion, All-head, All-tail,
+    All-weaker, Contains-append_cases, Contains-append_left, Contains-append_right, recursion_from_All}
 use Rattle.std.proofs.lemmas.Option.{same_Some}
 use Rattle.meta_model.specs.declared.group.Group.{Group}
 use Rattle.meta_model.specs.declared.lv.Lv.{Lv}
@@ -15,7 +17,8 @@ use Rattle.volume_rules.specs.Extents.{extents_of}
 use Rattle.volume_rules.specs.Legs.{IsInRun, IsUsed, IsWayDown, LegRun, LieApart, LiesOn, runs_of}
 use Rattle.volume_rules.specs.Moving.{lv_number}
 use Rattle.volume_rules.specs.Rules.{IsAccepted, IsMove, IsMoving, IsPvmove, Keeps, LiesWithin, LvIsSmall, counts, pvmove_number}
-use Rattle.volume_rules.specs.declared.rule.Rule.TheVariants.{Numbers, Ids, Volumes, Segments, Extents, Follows, Stripes, Mirrors, Within, Apart, Depth, Moved, Pvmove, Locked}
+use Rattle.volume_rules.specs.declared.rule.Rule.TheVariants.{Numbers, Ids, Volumes, Segments, Extents, Follows, Stripes, Mirrors, Within,
+    Apart, Depth, Moved, Pvmove, Locked}
 use Rattle.group_edits.proofs.Inserted.{first_pairs, later_pairs, pairs_inserted}
 use Rattle.group_edits.specs.NextVersion.{with_lvs}
 
@@ -26,7 +29,8 @@ Row = List ℕ × Lv
 
 module _ {X : Type 0} (R : X → X → Type 0) (turn : (a b : X) → R a b → R b a) where
   -- a list whose elements are related to all of another list, in the midst of that
-  pub pairs_between : (xs ys zs : List X) → AllPairs R (xs ++ zs) → AllPairs R ys → All (λ y. All (R y) (xs ++ zs)) ys → AllPairs R (xs ++ (ys ++ zs))
+  pub pairs_between : (xs ys zs : List X) → AllPairs R (xs ++ zs) → AllPairs R ys → All (λ y. All (R y) (xs ++ zs)) ys
+      → AllPairs R (xs ++ (ys ++ zs))
   pairs_between xs [] zs pairs new cross = pairs
   pairs_between xs (y ∷ ys) zs pairs new cross =
       let others : All (R y) (xs ++ zs) = All-head (λ y. All (R y) (xs ++ zs)) y ys cross in
@@ -77,7 +81,8 @@ pub record IsGrown (group : Group) (lvs : List Row) : Type 0 where
   pub new : All (IsNewRun group) more
   pub apart : AllPairs LieApart more
   pub stays : (n : ℕ) (row : Row) → slice_get group.lvs n ≡ Some row → (later : Row) × (slice_get lvs n ≡ Some later) × GrowsTo row later
-  pub came : (n : ℕ) (later : Row) → slice_get lvs n ≡ Some later → ((row : Row) × (slice_get group.lvs n ≡ Some row) × GrowsTo row later) ⊎ IsPlain later
+  pub came : (n : ℕ) (later : Row) → slice_get lvs n ≡ Some later
+      → ((row : Row) × (slice_get group.lvs n ≡ Some row) × GrowsTo row later) ⊎ IsPlain later
   pub pvmove_is : (n : ℕ) (row : Row) → slice_get group.lvs n ≡ Some row → nat_eq n (pvmove_number lvs) ≡ nat_eq n (pvmove_number group.lvs)
 
 -- ---- the rules
@@ -98,7 +103,8 @@ module _ (group : Group) (lvs : List Row) (grown : IsGrown group lvs) (accepted 
   run_back run within =
       ⊎_elim
       (λ first. inl (old (Contains-append_left grown.front grown.back run first)))
-      (λ later. ⊎_elim (λ new. inr new) (λ last. inl (old (Contains-append_right grown.front grown.back run last))) (Contains-append_cases grown.more grown.back run later))
+      (λ later. ⊎_elim (λ new. inr new) (λ last. inl (old (Contains-append_right grown.front grown.back run last)))
+          (Contains-append_cases grown.more grown.back run later))
       (Contains-append_cases grown.front (grown.more ++ grown.back) run (subst (λ (runs : List LegRun). Contains runs run) grown.is within))
     where
       old : Contains (grown.front ++ grown.back) run → Contains (runs_of group) run
@@ -118,10 +124,12 @@ module _ (group : Group) (lvs : List Row) (grown : IsGrown group lvs) (accepted 
   within_kept =
       subst (All (λ (run : LegRun). LiesWithin next run.on (run.first + run.count))) (sym grown.is)
       (All-append P grown.front (grown.more ++ grown.back)
-      (All-weaker (Contains grown.front) P (λ run there. old run (Contains-append_left grown.front grown.back run there)) grown.front (All-contains_itself grown.front))
+      (All-weaker (Contains grown.front) P (λ run there. old run (Contains-append_left grown.front grown.back run there)) grown.front
+          (All-contains_itself grown.front))
       (All-append P grown.more grown.back
       (All-weaker (IsNewRun group) P (λ run is. lies_within run.on (run.first + run.count) is.within) grown.more grown.new)
-      (All-weaker (Contains grown.back) P (λ run there. old run (Contains-append_right grown.front grown.back run there)) grown.back (All-contains_itself grown.back))))
+      (All-weaker (Contains grown.back) P (λ run there. old run (Contains-append_right grown.front grown.back run there)) grown.back
+          (All-contains_itself grown.back))))
     where
       P : LegRun → Type 0
       P run = LiesWithin next run.on (run.first + run.count)
@@ -129,17 +137,20 @@ module _ (group : Group) (lvs : List Row) (grown : IsGrown group lvs) (accepted 
       old : (run : LegRun) → Contains (grown.front ++ grown.back) run → P run
       old run there =
           lies_within run.on (run.first + run.count)
-          (All-contains (λ (run : LegRun). LiesWithin group run.on (run.first + run.count)) (runs_of group) run (accepted Within) (subst (λ (runs : List LegRun). Contains runs run) (sym grown.was) there))
+          (All-contains (λ (run : LegRun). LiesWithin group run.on (run.first + run.count)) (runs_of group) run (accepted Within)
+              (subst (λ (runs : List LegRun). Contains runs run) (sym grown.was) there))
 
   -- ---- Apart
 
   apart_kept : Keeps next Apart
   apart_kept =
       subst (AllPairs LieApart) (sym grown.is)
-      (pairs_between LieApart apart_turned grown.front grown.more grown.back (subst (AllPairs LieApart) grown.was (accepted Apart)) grown.apart
+      (pairs_between LieApart apart_turned grown.front grown.more grown.back (subst (AllPairs LieApart) grown.was (accepted Apart))
+          grown.apart
       (All-weaker (IsNewRun group) (λ run. All (LieApart run) (grown.front ++ grown.back))
       (λ run is. All-weaker (Contains (grown.front ++ grown.back)) (LieApart run)
-      (λ other there on extent in_new in_old. is.unused on extent in_new (other, subst (λ (runs : List LegRun). Contains runs other) (sym grown.was) there, in_old))
+      (λ other there on extent in_new in_old. is.unused on extent in_new
+          (other, subst (λ (runs : List LegRun). Contains runs other) (sym grown.was) there, in_old))
       (grown.front ++ grown.back) (All-contains_itself (grown.front ++ grown.back)))
       grown.more grown.new))
 
@@ -156,7 +167,8 @@ module _ (group : Group) (lvs : List Row) (grown : IsGrown group lvs) (accepted 
   lies_on_back : (lv below : ℕ) → LiesOn next lv below → LiesOn group lv below
   lies_on_back lv below lies =
       ⊎_elim (λ old. (lies.0, old, lies.2, lies.3))
-      (λ new. let is : IsNewRun group lies.0 = All-contains (IsNewRun group) grown.more lies.0 grown.new new in absurd (pv_is_no_lv is.pv below (sym is.on_pv ∙ lies.3)))
+      (λ new. let is : IsNewRun group lies.0 = All-contains (IsNewRun group) grown.more lies.0 grown.new new in absurd
+          (pv_is_no_lv is.pv below (sym is.on_pv ∙ lies.3)))
       (run_back lies.0 lies.1)
 
   way_there : (way : List ℕ) → IsWayDown group way → IsWayDown next way
@@ -182,7 +194,8 @@ module _ (group : Group) (lvs : List Row) (grown : IsGrown group lvs) (accepted 
   load_same lv [] down = refl
   load_same lv (below ∷ way) down =
       let row = named lv below down.0 in
-      ap (λ (b : Bool). cond b 0 1 + load (counts next) way) (grown.pvmove_is below row.0 row.1) ∙ ap (λ (n : ℕ). counts group below + n) (load_same below way down.1)
+      ap (λ (b : Bool). cond b 0 1 + load (counts next) way) (grown.pvmove_is below row.0 row.1)
+          ∙ ap (λ (n : ℕ). counts group below + n) (load_same below way down.1)
 
   depth_kept : Keeps next Depth
   depth_kept = record {
@@ -191,7 +204,8 @@ module _ (group : Group) (lvs : List Row) (grown : IsGrown group lvs) (accepted 
         let row = named lv below old in
         let found = grown.stays below row.0 row.1 in
         let same : found.0 ≡ (is.0, volume) = same_Some found.0 (is.0, volume) (sym found.1 ∙ is.1) in
-        ap (λ (r : Row). r.1.status.visible) (sym same) ∙ ap (λ (s : LvStatus). s.visible) found.2.status ∙ (accepted Depth).hidden lv below row.0.1 old (row.0.0, row.1);
+        ap (λ (r : Row). r.1.status.visible) (sym same) ∙ ap (λ (s : LvStatus). s.visible) found.2.status
+            ∙ (accepted Depth).hidden lv below row.0.1 old (row.0.0, row.1);
     ends = λ lv way is. (accepted Depth).ends lv way (way_back (lv ∷ way) is);
     few = λ lv way is.
         let down : IsWayDown group (lv ∷ way) = way_back (lv ∷ way) is in
@@ -208,7 +222,9 @@ module _ (group : Group) (lvs : List Row) (grown : IsGrown group lvs) (accepted 
       (grown.came n (is.1.0, is.0) is.1.1)
 
   is_pvmove_there : (n : ℕ) → IsPvmove group n → IsPvmove next n
-  is_pvmove_there n is = let found = grown.stays n (is.1.0, is.0) is.1.1 in (found.0.1, (found.0.0, found.1), ap (λ (s : LvStatus). s.pvmove) found.2.status ∙ is.2)
+  is_pvmove_there n is =
+      let found = grown.stays n (is.1.0, is.0)
+          is.1.1 in (found.0.1, (found.0.0, found.1), ap (λ (s : LvStatus). s.pvmove) found.2.status ∙ is.2)
 
   move_kept : (n : ℕ) (name : List ℕ) (lv : Lv) → IsMove group n name lv → IsMove next n name lv
   move_kept n name lv move = record {
@@ -225,7 +241,8 @@ module _ (group : Group) (lvs : List Row) (grown : IsGrown group lvs) (accepted 
     whole = λ n name lv is has.
         ⊎_elim
         (λ old.
-        let move : IsMove group n old.0.0 old.0.1 = (accepted Pvmove).whole n old.0.0 old.0.1 old.1 (ap (λ (s : LvStatus). s.pvmove) (sym old.2.status) ∙ has) in
+        let move : IsMove group n old.0.0 old.0.1 =
+            (accepted Pvmove).whole n old.0.0 old.0.1 old.1 (ap (λ (s : LvStatus). s.pvmove) (sym old.2.status) ∙ has) in
         subst (λ (row : Row). IsMove next n row.0 row.1) (sym (old.2.hidden move.hidden)) (move_kept n old.0.0 old.0.1 move))
         (λ plain. absurd (true≢false (sym has ∙ plain.pvmove)))
         (grown.came n (name, lv) is);
@@ -235,7 +252,8 @@ module _ (group : Group) (lvs : List Row) (grown : IsGrown group lvs) (accepted 
   locked_kept n lv is has =
       ⊎_elim
       (λ old.
-      let moving : IsMoving group n = (accepted Locked) n old.0.1 (old.0.0, old.1) (ap (λ (s : LvStatus). s.locked) (sym old.2.status) ∙ has) in
+      let moving : IsMoving group n =
+          (accepted Locked) n old.0.1 (old.0.0, old.1) (ap (λ (s : LvStatus). s.locked) (sym old.2.status) ∙ has) in
       (moving.0, way_there (n ∷ moving.0) moving.1, (moving.2.0, moving.2.1, is_pvmove_there moving.2.0 moving.2.2)))
       (λ plain. absurd (true≢false (sym has ∙ plain.locked)))
       (grown.came n (is.0, lv) is.1)

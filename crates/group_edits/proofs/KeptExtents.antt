@@ -1,5 +1,6 @@
 -- How many extents of segments stay, and that the segment which is cut keeps whole stripes.
-use Rattle.std.proofs.Common.{◌≡◌, ◌≤◌, ◌<◌, ℕ, ◌+◌, ◌-◌, ◌*◌, ◌/◌, Bool, true, false, cond, List, [], ◌∷◌, length, inl, inr, refl, ap, ◌∙◌, arith}
+use Rattle.std.proofs.Common.{◌≡◌, ◌≤◌, ◌<◌, ℕ, ◌+◌, ◌-◌, ◌*◌, ◌/◌, Bool, true, false, cond, List, [], ◌∷◌, length, inl, inr, refl, ap, ◌∙◌,
+    arith}
 use Rattle.std.specs.Prelude.{◌%◌, min, nat_le, sum_by}
 use Rattle.std.specs.List.{AllByRecursion as Each}
 use Rattle.std.proofs.lemmas.Bool.{cases_lt}
@@ -48,16 +49,20 @@ pub whole_more : (count : ℕ) (kind : SegKind) → 1 ≤ length (legs_of kind) 
 whole_more count (Striped stripe legs) some = (div_ceil_times count (length legs) (omega (arith, some))).0
 whole_more count (Mirror region moved legs) some = omega arith
 
-pub whole_below : (size count most : ℕ) (kind : SegKind) → 1 ≤ length (legs_of kind) → IsWholeStriped size most kind → count ≤ most → whole_stripes count kind ≤ most
+pub whole_below : (size count most : ℕ) (kind : SegKind) → 1 ≤ length (legs_of kind) → IsWholeStriped size most kind → count ≤ most
+    → whole_stripes count kind ≤ most
 whole_below size count most (Striped stripe legs) some is less = parts_below count most (length legs) some less is.2
 whole_below size count most (Mirror region moved legs) some is less = less
 
-whole_again : (count : ℕ) (kind : SegKind) → 1 ≤ length (legs_of kind) → whole_stripes (whole_stripes count kind) kind ≡ whole_stripes count kind
-whole_again count (Striped stripe legs) some = ap (λ (n : ℕ). n * length legs) (parts_times (parts_of count (length legs)) (length legs) some)
+whole_again : (count : ℕ) (kind : SegKind) → 1 ≤ length (legs_of kind)
+    → whole_stripes (whole_stripes count kind) kind ≡ whole_stripes count kind
+whole_again count (Striped stripe legs) some =
+    ap (λ (n : ℕ). n * length legs) (parts_times (parts_of count (length legs)) (length legs) some)
 whole_again count (Mirror region moved legs) some = refl
 
 -- so many extents, which end with a whole stripe, are a segment's
-pub whole_striped : (size count most : ℕ) (kind : SegKind) → 1 ≤ length (legs_of kind) → whole_stripes count kind ≡ count → IsWholeStriped size most kind → IsWholeStriped size count kind
+pub whole_striped : (size count most : ℕ) (kind : SegKind) → 1 ≤ length (legs_of kind) → whole_stripes count kind ≡ count
+    → IsWholeStriped size most kind → IsWholeStriped size count kind
 whole_striped size count most (Striped stripe legs) some whole is =
     let p : ℕ = parts_of count (length legs) in
     let e : count ≡ p * length legs + 0 = omega (arith, whole) in
@@ -71,9 +76,11 @@ abbrev pub IsShared : ℕ → Segment → Type 0
 IsShared size segment = (1 ≤ length (legs_of segment.kind)) × IsWholeStriped size segment.count segment.kind
 
 -- no more than there are, where no more are said
-pub kept_below : (size : ℕ) (segments : List Segment) (said : ℕ) → Each (IsShared size) segments → said ≤ sum_by (λ (s : Segment). s.count) segments → kept_of segments said ≤ sum_by (λ (s : Segment). s.count) segments
+pub kept_below : (size : ℕ) (segments : List Segment) (said : ℕ) → Each (IsShared size) segments
+    → said ≤ sum_by (λ (s : Segment). s.count) segments → kept_of segments said ≤ sum_by (λ (s : Segment). s.count) segments
 kept_below size [] said shared less = less
-kept_below size (segment ∷ segments) said shared less = by (nat_le said segment.count) refl (kept_below size segments (said - segment.count) shared.1) where
+kept_below size (segment ∷ segments) said shared less =
+    by (nat_le said segment.count) refl (kept_below size segments (said - segment.count) shared.1) where
   rest : ℕ
   rest = sum_by (λ (s : Segment). s.count) segments
 
@@ -81,10 +88,12 @@ kept_below size (segment ∷ segments) said shared less = by (nat_le said segmen
   all = sum_by-cons (λ (s : Segment). s.count) segment segments
 
   by : (b : Bool) → nat_le said segment.count ≡ b → (said - segment.count ≤ rest → kept_of segments (said - segment.count) ≤ rest)
-      → cond b (whole_stripes said segment.kind) (segment.count + kept_of segments (said - segment.count)) ≤ sum_by (λ (s : Segment). s.count) (segment ∷ segments)
+      → cond b (whole_stripes said segment.kind) (segment.count + kept_of segments (said - segment.count))
+      ≤ sum_by (λ (s : Segment). s.count) (segment ∷ segments)
   by true within later =
       let few : said ≤ segment.count = grind (arith, nat_tests, within) in
-      let own : whole_stripes said segment.kind ≤ segment.count = whole_below size said segment.count segment.kind shared.0.0 shared.0.1 few in
+      let own : whole_stripes said segment.kind ≤ segment.count =
+          whole_below size said segment.count segment.kind shared.0.0 shared.0.1 few in
       omega (arith, own, all)
   by false past later =
       let more : kept_of segments (said - segment.count) ≤ rest = later (omega (arith, less, all)) in
@@ -93,24 +102,33 @@ kept_below size (segment ∷ segments) said shared less = by (nat_le said segmen
 -- no fewer than said
 pub kept_more : (size : ℕ) (segments : List Segment) (said : ℕ) → Each (IsShared size) segments → said ≤ kept_of segments said
 kept_more size [] said shared = omega arith
-kept_more size (segment ∷ segments) said shared = by (nat_le said segment.count) refl (kept_more size segments (said - segment.count) shared.1) where
-  by : (b : Bool) → nat_le said segment.count ≡ b → said - segment.count ≤ kept_of segments (said - segment.count) → said ≤ cond b (whole_stripes said segment.kind) (segment.count + kept_of segments (said - segment.count))
+kept_more size (segment ∷ segments) said shared =
+    by (nat_le said segment.count) refl (kept_more size segments (said - segment.count) shared.1) where
+  by : (b : Bool) → nat_le said segment.count ≡ b → said - segment.count ≤ kept_of segments (said - segment.count)
+      → said ≤ cond b (whole_stripes said segment.kind) (segment.count + kept_of segments (said - segment.count))
   by true is later = whole_more said segment.kind shared.0.0
   by false is later = omega (arith, later)
 
 -- they stay where they are said
-pub kept_again : (size : ℕ) (segments : List Segment) (said : ℕ) → Each (IsShared size) segments → kept_of segments (kept_of segments said) ≡ kept_of segments said
+pub kept_again : (size : ℕ) (segments : List Segment) (said : ℕ) → Each (IsShared size) segments
+    → kept_of segments (kept_of segments said) ≡ kept_of segments said
 kept_again size [] said shared = refl
 kept_again size (segment ∷ segments) said shared =
-    by (nat_le said segment.count) refl (kept_again size segments (said - segment.count) shared.1) (kept_more size segments (said - segment.count) shared.1) where
-      by : (b : Bool) → nat_le said segment.count ≡ b → kept_of segments (kept_of segments (said - segment.count)) ≡ kept_of segments (said - segment.count) → said - segment.count ≤ kept_of segments (said - segment.count)
-          → kept_of (segment ∷ segments) (cond b (whole_stripes said segment.kind) (segment.count + kept_of segments (said - segment.count))) ≡ cond b (whole_stripes said segment.kind) (segment.count + kept_of segments (said - segment.count))
+    by (nat_le said segment.count) refl (kept_again size segments (said - segment.count) shared.1)
+        (kept_more size segments (said - segment.count) shared.1) where
+      by : (b : Bool) → nat_le said segment.count ≡ b
+          → kept_of segments (kept_of segments (said - segment.count)) ≡ kept_of segments (said - segment.count)
+          → said - segment.count ≤ kept_of segments (said - segment.count)
+          → kept_of (segment ∷ segments) (cond b (whole_stripes said segment.kind)
+          (segment.count + kept_of segments (said - segment.count)))
+          ≡ cond b (whole_stripes said segment.kind) (segment.count + kept_of segments (said - segment.count))
       by true is again more =
           let n : ℕ = whole_stripes said segment.kind in
           let less : said ≤ segment.count = grind (arith, nat_tests, is) in
           let below : n ≤ segment.count = whole_below size said segment.count segment.kind shared.0.0 shared.0.1 less in
           let test : nat_le n segment.count ≡ true = grind (arith, nat_tests, below) in
-          ap (λ (b : Bool). cond b (whole_stripes n segment.kind) (segment.count + kept_of segments (n - segment.count))) test ∙ whole_again said segment.kind shared.0.0
+          ap (λ (b : Bool). cond b (whole_stripes n segment.kind) (segment.count + kept_of segments (n - segment.count))) test
+              ∙ whole_again said segment.kind shared.0.0
       by false is again more =
           let k : ℕ = kept_of segments (said - segment.count) in
           let n : ℕ = segment.count + k in

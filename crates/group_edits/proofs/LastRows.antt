@@ -13,7 +13,8 @@ remove_none zero = refl
 remove_none (suc removed) = refl
 
 -- another one goes last
-without_next : {X : Type 0} (xs : List X) (removed n : ℕ) (x : X) → n ≢ removed → slice_get xs n ≡ Some x → remove (take (suc n) xs) removed ≡ remove (take n xs) removed ++ x ∷ []
+without_next : {X : Type 0} (xs : List X) (removed n : ℕ) (x : X) → n ≢ removed → slice_get xs n ≡ Some x
+    → remove (take (suc n) xs) removed ≡ remove (take n xs) removed ++ x ∷ []
 without_next [] removed n x other is = absurd cc
 without_next (y ∷ ys) zero zero x other is = absurd (other refl)
 without_next (y ∷ ys) (suc removed) zero x other is =
@@ -29,18 +30,21 @@ without_same [] (suc removed) = refl
 without_same (y ∷ ys) zero = refl
 without_same (y ∷ ys) (suc removed) = ap (λ zs. y ∷ zs) (without_same ys removed)
 
-pub passed_over : {X : Type 0} (xs rest : List X) (place removed : ℕ) → place ≡ removed → rest ≡ remove (take place xs) removed → rest ≡ remove (take (place + 1) xs) removed
+pub passed_over : {X : Type 0} (xs rest : List X) (place removed : ℕ) → place ≡ removed → rest ≡ remove (take place xs) removed
+    → rest ≡ remove (take (place + 1) xs) removed
 passed_over xs rest place removed same is =
     let next : suc removed ≡ place + 1 = omega (arith, same) in
     is ∙ ap (λ (n : ℕ). remove (take n xs) removed) same ∙ sym (without_same xs removed) ∙ ap (λ (n : ℕ). remove (take n xs) removed) next
 
-pub put_last : {X : Type 0} (xs rest new : List X) (place removed : ℕ) (x : X) → place ≢ removed → rest ≡ remove (take place xs) removed → slice_get xs place ≡ Some x → new ≡ rest ++ x ∷ [] → new ≡ remove (take (place + 1) xs) removed
+pub put_last : {X : Type 0} (xs rest new : List X) (place removed : ℕ) (x : X) → place ≢ removed → rest ≡ remove (take place xs) removed
+    → slice_get xs place ≡ Some x → new ≡ rest ++ x ∷ [] → new ≡ remove (take (place + 1) xs) removed
 put_last xs rest new place removed x other is there last =
     let next : suc place ≡ place + 1 = omega arith in
     last ∙ ap (λ ys. ys ++ x ∷ []) is ∙ sym (without_next xs removed place x other there) ∙ ap (λ (n : ℕ). remove (take n xs) removed) next
 
 -- ---- by a function
 
-pub mapped_last : {X Y : Type 0} (f : X → Y) (xs : List X) (all new : List Y) (place : ℕ) (x : X) (y : Y) → all ≡ map f (take place xs) → slice_get xs place ≡ Some x → y ≡ f x → new ≡ all ++ y ∷ [] → new ≡ map f (take (place + 1) xs)
+pub mapped_last : {X Y : Type 0} (f : X → Y) (xs : List X) (all new : List Y) (place : ℕ) (x : X) (y : Y) → all ≡ map f (take place xs)
+    → slice_get xs place ≡ Some x → y ≡ f x → new ≡ all ++ y ∷ [] → new ≡ map f (take (place + 1) xs)
 mapped_last f xs all new place x y is there made last =
     last ∙ (λ i. is i ++ made i ∷ []) ∙ sym (map-append f (take place xs) (x ∷ [])) ∙ ap (map f) (sym (take-next xs place x there))

@@ -1,5 +1,6 @@
 -- The last segment of a volume, and those behind it.
-use Rattle.std.proofs.Common.{◌≡◌, ◌<◌, ℕ, zero, suc, ◌+◌, ◌-◌, ◌^◌, List, [], ◌∷◌, ◌++◌, length, map, take, Some, None, inl, inr, sym, ap, subst, ◌∙◌, arith}
+use Rattle.std.proofs.Common.{◌≡◌, ◌<◌, ℕ, zero, suc, ◌+◌, ◌-◌, ◌^◌, List, [], ◌∷◌, ◌++◌, length, map, take, Some, None, inl, inr, sym, ap,
+    subst, ◌∙◌, arith}
 use Rattle.std.specs.Prelude.{slice_get}
 use Rattle.std.proofs.lemmas.List.{map-append}
 use Rattle.std.proofs.lemmas.Option.{same_Some, slice_get_cases, slice_get_within}
@@ -15,17 +16,20 @@ use Rattle.group_edits.specs.GivenSegments.{extents_in, segments_of}
 use Rattle.group_edits.specs.LongerVolume.{CanBeLonger, last_kind, longer}
 use Rattle.group_edits.specs.NextVersion.{changed_if}
 
-kind_at : (segments : List Segment) (k : ℕ) (last : Segment) → k + 1 ≡ length segments → slice_get segments k ≡ Some last → last_kind segments ≡ last.kind
+kind_at : (segments : List Segment) (k : ℕ) (last : Segment) → k + 1 ≡ length segments → slice_get segments k ≡ Some last
+    → last_kind segments ≡ last.kind
 kind_at [] k last is at = absurd cc
 kind_at (s ∷ []) zero last is at = ap (λ (s : Segment). s.kind) (same_Some s last at)
 kind_at (s ∷ []) (suc k) last is at = absurd cc
 kind_at (s ∷ t ∷ segments) zero last is at = absurd (omega (arith, is))
 kind_at (s ∷ t ∷ segments) (suc k) last is at = kind_at (t ∷ segments) k last (omega (arith, is)) at
 
-module _ (lv : Lv) (given : List Part) (can : CanBeLonger given lv) (found : List Segment) (same : found ≡ lv.segments) (last : Segment) (at : slice_get found (length found - 1) ≡ Some last) where
+module _ (lv : Lv) (given : List Part) (can : CanBeLonger given lv) (found : List Segment) (same : found ≡ lv.segments) (last : Segment)
+    (at : slice_get found (length found - 1) ≡ Some last) where
   kind_is : last_kind lv.segments ≡ last.kind
   kind_is =
-      let there : slice_get lv.segments (length lv.segments - 1) ≡ Some last = subst (λ (xs : List Segment). slice_get xs (length xs - 1) ≡ Some last) same at in
+      let there : slice_get lv.segments (length lv.segments - 1) ≡ Some last =
+          subst (λ (xs : List Segment). slice_get xs (length xs - 1) ≡ Some last) same at in
       let within : length lv.segments - 1 < length lv.segments = slice_get_within lv.segments (length lv.segments - 1) last there in
       kind_at lv.segments (length lv.segments - 1) last (omega (arith, within)) there
 
@@ -41,7 +45,8 @@ module _ (lv : Lv) (given : List Part) (can : CanBeLonger given lv) (found : Lis
       (subst (λ (k : SegKind). Fits (extents_of lv + extents_in (segments_of k (extents_of lv) given))) kind_is
       (subst Fits (extents_both lv.segments (segments_of (last_kind lv.segments) (extents_of lv) given)) can.fits))
 
-  pub added_is : (copies all : List Segment) → copies ≡ lv.segments → all ≡ copies ++ segments_of last.kind (last.start + last.count) given → all ≡ (longer given lv).segments
+  pub added_is : (copies all : List Segment) → copies ≡ lv.segments → all ≡ copies ++ segments_of last.kind (last.start + last.count) given
+      → all ≡ (longer given lv).segments
   added_is copies all copied is =
       is
       ∙ ap (λ (xs : List Segment). xs ++ segments_of last.kind (last.start + last.count) given) copied
@@ -49,7 +54,8 @@ module _ (lv : Lv) (given : List Part) (can : CanBeLonger given lv) (found : Lis
       ∙ ap (λ (k : SegKind). lv.segments ++ segments_of k (extents_of lv) given) (sym kind_is)
 
 -- there is a last one
-pub no_last : (lv : Lv) (given : List Part) → CanBeLonger given lv → (found : List Segment) → found ≡ lv.segments → slice_get found (length found - 1) ≡ None → ⊥
+pub no_last : (lv : Lv) (given : List Part) → CanBeLonger given lv → (found : List Segment) → found ≡ lv.segments
+    → slice_get found (length found - 1) ≡ None → ⊥
 no_last lv given can found same none =
     elim (slice_get_cases lv.segments (length lv.segments - 1)).1 [
       | inl some ↦ is_some some.0 (sym some.2 ∙ there)
@@ -63,8 +69,10 @@ no_last lv given can found same none =
     is_some x is = absurd cc
 
 -- one row more
-pub next_changed : (name : List ℕ) (change : List ℕ × Lv → List ℕ × Lv) (lvs all later : List (List ℕ × Lv)) (n : ℕ) (own copy : List ℕ) (lv next : Lv) → all ≡ map (changed_if name change) (take n lvs) → slice_get lvs n ≡ Some (own, lv)
-    → (own, next) ≡ changed_if name change (own, lv) → copy ≡ own → later ≡ all ++ (copy, next) ∷ [] → later ≡ map (changed_if name change) (take (n + 1) lvs)
+pub next_changed : (name : List ℕ) (change : List ℕ × Lv → List ℕ × Lv) (lvs all later : List (List ℕ × Lv)) (n : ℕ) (own copy : List ℕ)
+    (lv next : Lv) → all ≡ map (changed_if name change) (take n lvs) → slice_get lvs n ≡ Some (own, lv)
+    → (own, next) ≡ changed_if name change (own, lv) → copy ≡ own → later ≡ all ++ (copy, next) ∷ []
+    → later ≡ map (changed_if name change) (take (n + 1) lvs)
 next_changed name change lvs all later n own copy lv next so_far there is same pushed =
     pushed
     ∙ ap (λ (rows : List (List ℕ × Lv)). rows ++ (copy, next) ∷ []) so_far

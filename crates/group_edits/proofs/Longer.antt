@@ -1,5 +1,6 @@
 -- A group in which a visible volume has more segments on free extents keeps all rules, and a tree stands for it.
-use Rattle.std.proofs.Common.{◌≡◌, ◌≢◌, ◌<◌, ℕ, ◌^◌, true, false, List, [], ◌∷◌, ◌++◌, length, map, Option, Some, None, refl, sym, ap, subst, ◌∙◌, append-nil, true≢false, arith}
+use Rattle.std.proofs.Common.{◌≡◌, ◌≢◌, ◌<◌, ℕ, ◌^◌, true, false, List, [], ◌∷◌, ◌++◌, length, map, Option, Some, None, refl, sym, ap,
+    subst, ◌∙◌, append-nil, true≢false, arith}
 use Rattle.std.specs.Prelude.{All, IsSomeAnd}
 use Rattle.std.specs.List.{AllByRecursion as Each}
 use Rattle.std.proofs.lemmas.List.Elements.{All-from_recursion}
@@ -33,7 +34,8 @@ Row = List ℕ × Lv
 
 -- ---- around the volume
 
-module _ (group : Group) (before after : List Row) (row : Row) (given : List Part) (rows : group.lvs ≡ before ++ row ∷ after) (seen : row.1.status.visible ≡ true)
+module _ (group : Group) (before after : List Row) (row : Row) (given : List Part) (rows : group.lvs ≡ before ++ row ∷ after)
+    (seen : row.1.status.visible ≡ true)
     (may : MayGrow group row.1 given) (accepted : IsAccepted group) where
   abbrev next : Group
   next = with_lvs group (before ++ longer_row given row ∷ after)
@@ -55,7 +57,8 @@ module _ (group : Group) (before after : List Row) (row : Row) (given : List Par
   printable_longer : group.seqno < 4294967295 → IsPrintable group → IsPrintable next
   printable_longer below can =
       version_printable group (before ++ longer_row given row ∷ after) below can (subst (AreNames []) (sym names_same) can.lv_names)
-      (each_replaced (λ (r : Row). IsLv next r.1) before after row (longer_row given row) olds (longer_lv (each_between (λ (r : Row). IsLv next r.1) before after row olds))) where
+      (each_replaced (λ (r : Row). IsLv next r.1) before after row (longer_row given row) olds
+          (longer_lv (each_between (λ (r : Row). IsLv next r.1) before after row olds))) where
         olds : Each (λ (r : Row). IsLv next r.1) (before ++ row ∷ after)
         olds =
             subst (Each (λ (r : Row). IsLv next r.1)) rows
@@ -69,7 +72,8 @@ module _ (group : Group) (before after : List Row) (row : Row) (given : List Par
           count_fits = few below;
           each =
               join_all (IsSegment next) row.1.segments added is.each
-              (parts_print (last_kind row.1.segments) group next _ given (legs_may group before after row rows accepted) may.laid (accepted Numbers).pvs refl can.pv_names (extents_of row.1)
+              (parts_print (last_kind row.1.segments) group next _ given (legs_may group before after row rows accepted) may.laid
+                  (accepted Numbers).pvs refl can.pv_names (extents_of row.1)
               (ends group before after row rows accepted given seen may));
         }
 
@@ -109,15 +113,18 @@ module _ (group : Group) (name : List ℕ) (given : List Part) where
         let place : IsSplit name group.lvs v.1 = split name 0 group.lvs [] v found (printable group tree).lv_names in
         record { v = v; place = place; may = subst (λ (lv : Lv). MayGrow group lv given) (sym place.is_volume) may }
 
-  changed_is : (f : IsFound) → longer_volume name given group ≡ with_lvs group (f.place.before ++ longer_row given f.place.row ∷ f.place.after)
+  changed_is : (f : IsFound) → longer_volume name given group
+      ≡ with_lvs group (f.place.before ++ longer_row given f.place.row ∷ f.place.after)
   changed_is f =
       ap (λ (lvs : List Row). with_lvs group (map (changed_if name (longer_row given)) lvs)) f.place.rows_is
-      ∙ ap (with_lvs group) (change_between name (longer_row given) f.place.before f.place.after f.place.row f.place.earlier f.place.later f.place.named)
+      ∙ ap (with_lvs group) (change_between name (longer_row given) f.place.before f.place.after f.place.row f.place.earlier f.place.later
+      f.place.named)
 
   pub longer_whole : Grows → group.seqno ≢ 4294967295 → IsAccepted group → HasTree group → IsWhole (longer_volume name given group)
   longer_whole grows other accepted tree =
       let f : IsFound = found_by tree grows in
-      subst IsWhole (sym (changed_is f)) (whole_around group f.place.before f.place.after f.place.row given f.place.rows_is f.place.seen f.may accepted (seqno_below group accepted other) tree)
+      subst IsWhole (sym (changed_is f)) (whole_around group f.place.before f.place.after f.place.row given f.place.rows_is f.place.seen
+          f.may accepted (seqno_below group accepted other) tree)
 
   others_can : (rows : List Row) → Each (λ (row : Row). same_bytes row.0 name ≡ false) rows → Each (CanBeLongerIf name given) rows
   others_can [] others = tt
@@ -129,7 +136,8 @@ module _ (group : Group) (name : List ℕ) (given : List Part) where
       subst (All (CanBeLongerIf name given)) (sym f.place.rows_is)
       (All-from_recursion (CanBeLongerIf name given) (f.place.before ++ f.place.row ∷ f.place.after)
       (join_all (CanBeLongerIf name given) f.place.before (f.place.row ∷ f.place.after) (others_can f.place.before f.place.earlier)
-      (λ named. can_be group f.place.before f.place.after f.place.row given f.place.rows_is f.place.seen f.may accepted, others_can f.place.after f.place.later)))
+      (λ named. can_be group f.place.before f.place.after f.place.row given f.place.rows_is f.place.seen f.may accepted,
+          others_can f.place.after f.place.later)))
 
 -- ---- as it is made
 
@@ -137,14 +145,18 @@ module _ (group found : Group) (name : List ℕ) (given parts : List Part) (same
   pub can_made : Grows group name given → IsAccepted found → HasTree found → All (CanBeLongerIf name parts) found.lvs
   can_made grows accepted tree =
       subst (λ (ps : List Part). All (CanBeLongerIf name ps) found.lvs) (sym slice)
-      (subst (λ (g : Group). All (CanBeLongerIf name given) g.lvs) (sym same) (can_lengthen group name given grows (subst IsAccepted same accepted) (subst HasTree same tree)))
+      (subst (λ (g : Group). All (CanBeLongerIf name given) g.lvs) (sym same)
+          (can_lengthen group name given grows (subst IsAccepted same accepted) (subst HasTree same tree)))
 
-  pub longer_made : (lvs : List Row) (later : Group) → lvs ≡ map (changed_if name (longer_row parts)) found.lvs → later ≡ with_lvs found lvs → later ≡ longer_volume name given group
+  pub longer_made : (lvs : List Row) (later : Group) → lvs ≡ map (changed_if name (longer_row parts)) found.lvs → later ≡ with_lvs found lvs
+      → later ≡ longer_volume name given group
   longer_made lvs later rows made =
       made
       ∙ ap (with_lvs found) rows
       ∙ ap (λ (ps : List Part). longer_volume name ps found) slice
       ∙ ap (longer_volume name given) same
 
-  pub made_whole : (later : Group) → later ≡ longer_volume name given group → Grows group name given → group.seqno ≢ 4294967295 → IsAccepted found → HasTree found → IsWhole later
-  made_whole later is grows other accepted tree = subst IsWhole (sym is) (longer_whole group name given grows other (subst IsAccepted same accepted) (subst HasTree same tree))
+  pub made_whole : (later : Group) → later ≡ longer_volume name given group → Grows group name given → group.seqno ≢ 4294967295
+      → IsAccepted found → HasTree found → IsWhole later
+  made_whole later is grows other accepted tree =
+      subst IsWhole (sym is) (longer_whole group name given grows other (subst IsAccepted same accepted) (subst HasTree same tree))

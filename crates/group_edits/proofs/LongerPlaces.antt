@@ -24,9 +24,11 @@ abbrev Row : Type 0
 Row = List ℕ × Lv
 
 -- what is found among segments is found where more stand behind them
-front_found : (extent sector number : ℕ) (xs ys : List Segment) (f : ℕ × Segment) → segment_from extent sector number xs ≡ Some f → segment_from extent sector number (xs ++ ys) ≡ Some f
+front_found : (extent sector number : ℕ) (xs ys : List Segment) (f : ℕ × Segment) → segment_from extent sector number xs ≡ Some f
+    → segment_from extent sector number (xs ++ ys) ≡ Some f
 front_found extent sector number [] ys f is = absurd cc
-front_found extent sector number (x ∷ xs) ys f is = by (has_sector extent sector x) is (front_found extent sector (number + 1) xs ys f) where
+front_found extent sector number (x ∷ xs) ys f is =
+    by (has_sector extent sector x) is (front_found extent sector (number + 1) xs ys f) where
   by : (b : Bool) → cond b (Some (number, x)) (segment_from extent sector (number + 1) xs) ≡ Some f
       → (segment_from extent sector (number + 1) xs ≡ Some f → segment_from extent sector (number + 1) (xs ++ ys) ≡ Some f)
       → cond b (Some (number, x)) (segment_from extent sector (number + 1) (xs ++ ys)) ≡ Some f
@@ -43,10 +45,12 @@ module _ (name : List ℕ) (given : List Part) (group : Group) where
   abbrev met_in : ℕ → ℕ → Row → Option Met
   met_in lv sector row = option_map (make group lv sector) (segment_from group.extent_size sector 0 row.1.segments)
 
-  met_front : (lv sector : ℕ) (m : Met) (row : Row) (o : Option (ℕ × Segment)) → segment_from group.extent_size sector 0 row.1.segments ≡ o → option_map (make group lv sector) o ≡ Some m → met_in lv sector (longer_row given row) ≡ Some m
+  met_front : (lv sector : ℕ) (m : Met) (row : Row) (o : Option (ℕ × Segment)) → segment_from group.extent_size sector 0 row.1.segments ≡ o
+      → option_map (make group lv sector) o ≡ Some m → met_in lv sector (longer_row given row) ≡ Some m
   met_front lv sector m row None found is = absurd cc
   met_front lv sector m row (Some f) found is =
-      ap (option_map (make group lv sector)) (front_found group.extent_size sector 0 row.1.segments (segments_of (last_kind row.1.segments) (extents_of row.1) given) f found) ∙ is
+      ap (option_map (make group lv sector)) (front_found group.extent_size sector 0 row.1.segments
+          (segments_of (last_kind row.1.segments) (extents_of row.1) given) f found) ∙ is
 
   met_grown : (lv sector : ℕ) (m : Met) (row : Row) → met_in lv sector row ≡ Some m → met_in lv sector (grown row) ≡ Some m
   met_grown lv sector m row is = by (same_bytes row.0 name) where
@@ -54,16 +58,20 @@ module _ (name : List ℕ) (given : List Part) (group : Group) where
     by true = met_front lv sector m row (segment_from group.extent_size sector 0 row.1.segments) refl is
     by false = is
 
-  met_row : (lv sector : ℕ) (m : Met) (o : Option Row) → option_and_then (met_in lv sector) o ≡ Some m → option_and_then (met_in lv sector) (option_map grown o) ≡ Some m
+  met_row : (lv sector : ℕ) (m : Met) (o : Option Row) → option_and_then (met_in lv sector) o ≡ Some m
+      → option_and_then (met_in lv sector) (option_map grown o) ≡ Some m
   met_row lv sector m None is = absurd cc
   met_row lv sector m (Some row) is = met_grown lv sector m row is
 
   met_longer : (lv sector : ℕ) (m : Met) → met group lv sector ≡ Some m → met (longer_volume name given group) lv sector ≡ Some m
   unfolding met
-  met_longer lv sector m is = ap (option_and_then (met_in lv sector)) (slice_get-map grown group.lvs lv) ∙ met_row lv sector m (slice_get group.lvs lv) is
+  met_longer lv sector m is =
+      ap (option_and_then (met_in lv sector)) (slice_get-map grown group.lvs lv) ∙ met_row lv sector m (slice_get group.lvs lv) is
 
-  pub primary_longer : (lv sector : ℕ) (at : At) → primary group lv sector ≡ Some at → primary (longer_volume name given group) lv sector ≡ Some at
-  primary_longer lv sector at is = primary_where_met group (longer_volume name given group) (λ k pv stays there. there) refl met_longer lv sector at is
+  pub primary_longer : (lv sector : ℕ) (at : At) → primary group lv sector ≡ Some at
+      → primary (longer_volume name given group) lv sector ≡ Some at
+  primary_longer lv sector at is =
+      primary_where_met group (longer_volume name given group) (λ k pv stays there. there) refl met_longer lv sector at is
 
 -- ---- one more volume
 
@@ -72,9 +80,11 @@ module _ (row : Row) (group : Group) where
   abbrev met_of : ℕ → ℕ → Row → Option Met
   met_of lv sector volume = option_map (make group lv sector) (segment_from group.extent_size sector 0 volume.1.segments)
 
-  met_pushed : (lv sector : ℕ) (m : Met) (o : Option Row) → slice_get group.lvs lv ≡ o → option_and_then (met_of lv sector) o ≡ Some m → option_and_then (met_of lv sector) (slice_get (group.lvs ++ row ∷ []) lv) ≡ Some m
+  met_pushed : (lv sector : ℕ) (m : Met) (o : Option Row) → slice_get group.lvs lv ≡ o → option_and_then (met_of lv sector) o ≡ Some m
+      → option_and_then (met_of lv sector) (slice_get (group.lvs ++ row ∷ []) lv) ≡ Some m
   met_pushed lv sector m None there is = absurd cc
-  met_pushed lv sector m (Some volume) there is = ap (option_and_then (met_of lv sector)) (slice_get-pushed group.lvs (row ∷ []) lv volume there) ∙ is
+  met_pushed lv sector m (Some volume) there is =
+      ap (option_and_then (met_of lv sector)) (slice_get-pushed group.lvs (row ∷ []) lv volume there) ∙ is
 
   met_more : (lv sector : ℕ) (m : Met) → met group lv sector ≡ Some m → met (with_volume row group) lv sector ≡ Some m
   unfolding met

@@ -1,5 +1,6 @@
 -- A group in which one volume has more segments on free extents keeps all rules.
-use Rattle.std.proofs.Common.{◌≡◌, ◌≤◌, ◌<◌, ℕ, zero, suc, ◌+◌, ◌*◌, ◌^◌, true, cond, List, [], ◌∷◌, ◌++◌, length, map, Some, None, inl, refl, sym, ap, subst, ◌∙◌, append_assoc, true≢false, arith}
+use Rattle.std.proofs.Common.{◌≡◌, ◌≤◌, ◌<◌, ℕ, zero, suc, ◌+◌, ◌*◌, ◌^◌, true, cond, List, [], ◌∷◌, ◌++◌, length, map, Some, None, inl,
+    refl, sym, ap, subst, ◌∙◌, append_assoc, true≢false, arith}
 use Rattle.std.specs.Prelude.{◌≢◌, nat_eq, slice_get, sum_by, All, AllPairs}
 use Rattle.std.proofs.lemmas.List.{length-append}
 use Rattle.std.proofs.lemmas.List.Elements.{All-append, All-from_recursion, All-head, All-tail, recursion_from_All}
@@ -13,9 +14,11 @@ use Rattle.meta_model.specs.declared.segment.Segment.{Segment}
 use Rattle.extent_alloc.specs.declared.part.Part.{Part}
 use Rattle.volume_rules.specs.Extents.{extents_of, leg_share}
 use Rattle.volume_rules.specs.Legs.{LegRun, runs_of, runs_of_legs, runs_of_segments, runs_of_volumes}
-use Rattle.volume_rules.specs.Rules.{Follow, IsAccepted, IsWholeMirror, IsWholeStriped, Keeps, KindIsSmall, LvIsSmall, MovedIsAllowed, SegmentIsSmall, pvmove_number}
+use Rattle.volume_rules.specs.Rules.{Follow, IsAccepted, IsWholeMirror, IsWholeStriped, Keeps, KindIsSmall, LvIsSmall, MovedIsAllowed,
+    SegmentIsSmall, pvmove_number}
 use Rattle.volume_rules.specs.declared.rule.Rule.TheVariants.{Numbers, Ids, Volumes, Segments, Follows, Stripes, Mirrors, Moved}
-use Rattle.group_edits.proofs.GivenRules.{extents_both, follow_both, legs_some, parts_follow, parts_mirror, parts_moved, parts_small, parts_striped, segments_count}
+use Rattle.group_edits.proofs.GivenRules.{extents_both, follow_both, legs_some, parts_follow, parts_mirror, parts_moved, parts_small,
+    parts_striped, segments_count}
 use Rattle.group_edits.proofs.GivenRuns.{runs_apart, runs_new}
 use Rattle.group_edits.proofs.GrownRules.{GrowsTo, IsGrown, grown_accepted}
 use Rattle.group_edits.proofs.Split.{at_replaced, each_between, each_replaced, length_replaced, map_replaced, sum_replaced}
@@ -28,22 +31,26 @@ Row = List ℕ × Lv
 
 -- ---- runs of parts of lists
 
-pub segments_both : (lv number : ℕ) (xs ys : List Segment) → runs_of_segments lv number (xs ++ ys) ≡ runs_of_segments lv number xs ++ runs_of_segments lv (number + length xs) ys
+pub segments_both : (lv number : ℕ) (xs ys : List Segment)
+    → runs_of_segments lv number (xs ++ ys) ≡ runs_of_segments lv number xs ++ runs_of_segments lv (number + length xs) ys
 segments_both lv number [] ys = ap (λ (n : ℕ). runs_of_segments lv n ys) (let e : number ≡ number + 0 = omega arith in e)
 segments_both lv number (x ∷ xs) ys =
     let first : List LegRun = runs_of_legs lv number (leg_share x.count x.kind) 0 (legs_of x.kind) in
     ap (λ (runs : List LegRun). first ++ runs)
     (segments_both lv (number + 1) xs ys
-    ∙ ap (λ (n : ℕ). runs_of_segments lv (number + 1) xs ++ runs_of_segments lv n ys) (let e : number + 1 + length xs ≡ number + suc (length xs) = omega arith in e))
+    ∙ ap (λ (n : ℕ). runs_of_segments lv (number + 1) xs ++ runs_of_segments lv n ys)
+    (let e : number + 1 + length xs ≡ number + suc (length xs) = omega arith in e))
     ∙ sym (append_assoc first (runs_of_segments lv (number + 1) xs) (runs_of_segments lv (number + suc (length xs)) ys))
 
-pub volumes_both : (number : ℕ) (xs ys : List Row) → runs_of_volumes number (xs ++ ys) ≡ runs_of_volumes number xs ++ runs_of_volumes (number + length xs) ys
+pub volumes_both : (number : ℕ) (xs ys : List Row)
+    → runs_of_volumes number (xs ++ ys) ≡ runs_of_volumes number xs ++ runs_of_volumes (number + length xs) ys
 volumes_both number [] ys = ap (λ (n : ℕ). runs_of_volumes n ys) (let e : number ≡ number + 0 = omega arith in e)
 volumes_both number (x ∷ xs) ys =
     let first : List LegRun = runs_of_segments number 0 x.1.segments in
     ap (λ (runs : List LegRun). first ++ runs)
     (volumes_both (number + 1) xs ys
-    ∙ ap (λ (n : ℕ). runs_of_volumes (number + 1) xs ++ runs_of_volumes n ys) (let e : number + 1 + length xs ≡ number + suc (length xs) = omega arith in e))
+    ∙ ap (λ (n : ℕ). runs_of_volumes (number + 1) xs ++ runs_of_volumes n ys)
+    (let e : number + 1 + length xs ≡ number + suc (length xs) = omega arith in e))
     ∙ sym (append_assoc first (runs_of_volumes (number + 1) xs) (runs_of_volumes (number + suc (length xs)) ys))
 
 -- what holds of each segment holds of the last one's kind
@@ -65,7 +72,8 @@ below_sectors group accepted n below = by group.extent_size (accepted Numbers).e
 
 -- ---- the group
 
-module _ (group : Group) (before after : List Row) (row : Row) (rows : group.lvs ≡ before ++ row ∷ after) (accepted : IsAccepted group) where
+module _ (group : Group) (before after : List Row) (row : Row) (rows : group.lvs ≡ before ++ row ∷ after) (accepted : IsAccepted group)
+    where
   abbrev kind : SegKind
   kind = last_kind row.1.segments
 
@@ -87,12 +95,17 @@ module _ (group : Group) (before after : List Row) (row : Row) (rows : group.lvs
   pub legs_may : MayHaveLegs group.extent_size count kind
   legs_may =
       by kind
-      (last_is SegmentIsSmall KindIsSmall (λ segment small. small.2) row.1.segments its_some (its (λ (r : Row). LvIsSmall r.1) (accepted Numbers).lvs).1)
-      (last_is (λ (s : Segment). IsWholeStriped group.extent_size s.count s.kind) (λ (k : SegKind). (n : ℕ) × IsWholeStriped group.extent_size n k) (λ segment whole. (segment.count, whole)) row.1.segments its_some
+      (last_is SegmentIsSmall KindIsSmall (λ segment small. small.2) row.1.segments its_some
+          (its (λ (r : Row). LvIsSmall r.1) (accepted Numbers).lvs).1)
+      (last_is (λ (s : Segment). IsWholeStriped group.extent_size s.count s.kind)
+          (λ (k : SegKind). (n : ℕ) × IsWholeStriped group.extent_size n k) (λ segment whole. (segment.count, whole)) row.1.segments
+          its_some
       (its (λ (r : Row). All (λ segment. IsWholeStriped group.extent_size segment.count segment.kind) r.1.segments) (accepted Stripes)))
-      (last_is (λ (s : Segment). IsWholeMirror s.kind) IsWholeMirror (λ segment whole. whole) row.1.segments its_some (its (λ (r : Row). All (λ segment. IsWholeMirror segment.kind) r.1.segments) (accepted Mirrors)))
+      (last_is (λ (s : Segment). IsWholeMirror s.kind) IsWholeMirror (λ segment whole. whole) row.1.segments its_some
+          (its (λ (r : Row). All (λ segment. IsWholeMirror segment.kind) r.1.segments) (accepted Mirrors)))
     where
-      by : (k : SegKind) → KindIsSmall k → (n : ℕ) × IsWholeStriped group.extent_size n k → IsWholeMirror k → MayHaveLegs group.extent_size (length (legs_of k)) k
+      by : (k : SegKind) → KindIsSmall k → (n : ℕ) × IsWholeStriped group.extent_size n k → IsWholeMirror k
+          → MayHaveLegs group.extent_size (length (legs_of k)) k
       by (Striped stripe legs) small striped mirror = (small.0, striped.1.0, striped.1.1, striped.1.3)
       by (Mirror region None legs) small striped mirror = (small.0, mirror.0, mirror.1, mirror.2, mirror.3)
       by (Mirror region (Some moved) legs) small striped mirror = (small.0, mirror.0, mirror.1, mirror.2, mirror.3)
@@ -111,7 +124,9 @@ module _ (group : Group) (before after : List Row) (row : Row) (rows : group.lvs
 
     -- and all of them are as it asks, where the longer one is
     all_next : (P : Row → Type 0) → All P group.lvs → P (longer_row given row) → All P lvs
-    all_next P all here = All-from_recursion P lvs (each_replaced P before after row (longer_row given row) (recursion_from_All P (before ++ row ∷ after) (subst (All P) rows all)) here)
+    all_next P all here =
+        All-from_recursion P lvs (each_replaced P before after row (longer_row given row)
+            (recursion_from_All P (before ++ row ∷ after) (subst (All P) rows all)) here)
 
     abbrev added : List Segment
     added = segments_of kind (extents_of row.1) given
@@ -128,12 +143,15 @@ module _ (group : Group) (before after : List Row) (row : Row) (rows : group.lvs
     small_kept =
         let small : LvIsSmall row.1 = its (λ (r : Row). LvIsSmall r.1) (accepted Numbers).lvs in
         all_next (λ (r : Row). LvIsSmall r.1) (accepted Numbers).lvs
-        (small.0, All-append SegmentIsSmall row.1.segments added small.1 (parts_small kind group count given legs_may may.laid (accepted Numbers).pvs (extents_of row.1) ends))
+        (small.0, All-append SegmentIsSmall row.1.segments added small.1
+            (parts_small kind group count given legs_may may.laid (accepted Numbers).pvs (extents_of row.1) ends))
 
     ids_kept : Keeps next Ids
     ids_kept =
-        subst (λ (ids : List (List ℕ)). AllPairs (λ (a b : List ℕ). a ≢ b) (group.id ∷ (map (λ (pv : List ℕ × Pv). pv.1.id) group.pvs ++ ids)))
-        (ap (map (λ (lv : Row). lv.1.id)) rows ∙ map_replaced (λ (lv : Row). lv.1.id) before after row (longer_row given row) refl) (accepted Ids)
+        subst (λ (ids : List (List ℕ)). AllPairs (λ (a b : List ℕ). a ≢ b)
+            (group.id ∷ (map (λ (pv : List ℕ × Pv). pv.1.id) group.pvs ++ ids)))
+        (ap (map (λ (lv : Row). lv.1.id)) rows ∙ map_replaced (λ (lv : Row). lv.1.id) before after row (longer_row given row) refl)
+            (accepted Ids)
 
     count_same : length lvs ≡ length group.lvs
     count_same = sym (ap (λ (rs : List Row). length rs) rows ∙ length_replaced before after row (longer_row given row))
@@ -152,21 +170,28 @@ module _ (group : Group) (before after : List Row) (row : Row) (rows : group.lvs
     segments_kept : Keeps next Segments
     segments_kept = record {
       few =
-          let more : length (row.1.segments ++ added) ≡ length row.1.segments + length given = length-append row.1.segments added ∙ ap (λ (n : ℕ). length row.1.segments + n) (segments_count kind (extents_of row.1) given) in
-          let replaced : sum_by segments_of_row lvs + length row.1.segments ≡ sum_by segments_of_row (before ++ row ∷ after) + length (row.1.segments ++ added) =
+          let more : length (row.1.segments ++ added) ≡ length row.1.segments + length given =
+              length-append row.1.segments added ∙ ap (λ (n : ℕ). length row.1.segments + n)
+                  (segments_count kind (extents_of row.1) given) in
+          let replaced : sum_by segments_of_row lvs + length row.1.segments
+              ≡ sum_by segments_of_row (before ++ row ∷ after) + length (row.1.segments ++ added) =
           sum_replaced segments_of_row before after row (longer_row given row)
           in
           let was : segments_in group ≡ sum_by segments_of_row (before ++ row ∷ after) = ap (sum_by segments_of_row) rows in
           let most = may.segments in
           omega (arith, more, replaced, was, most);
       some = all_next (λ (r : Row). 1 ≤ length r.1.segments) (accepted Segments).some
-          (let more : length (row.1.segments ++ added) ≡ length row.1.segments + length added = length-append row.1.segments added in let some = its_some in omega (arith, more, some));
+          (let more : length (row.1.segments ++ added)
+              ≡ length row.1.segments + length added = length-append row.1.segments added in let some = its_some in omega
+              (arith, more, some));
     }
 
     follows_kept : Keeps next Follows
     follows_kept =
         all_next (λ (r : Row). Follow 0 r.1.segments × (extents_of r.1 * group.extent_size < 2 ^ 48)) (accepted Follows) (
-          follow_both 0 row.1.segments added follows.0 (subst (λ (n : ℕ). Follow n added) (let e : extents_of row.1 ≡ 0 + extents_of row.1 = omega arith in e) (parts_follow kind group count given legs_may may.laid (extents_of row.1))),
+          follow_both 0 row.1.segments added follows.0
+              (subst (λ (n : ℕ). Follow n added) (let e : extents_of row.1 ≡ 0 + extents_of row.1 = omega arith in e)
+              (parts_follow kind group count given legs_may may.laid (extents_of row.1))),
           may.sectors,
         )
 
@@ -206,7 +231,9 @@ module _ (group : Group) (before after : List Row) (row : Row) (rows : group.lvs
     more = runs_of_segments number (0 + length row.1.segments) added
 
     grows : GrowsTo row (longer_row given row)
-    grows = record { status = refl; extents = (let e = longer_extents in omega (arith, e)); hidden = λ none. absurd (true≢false (sym seen ∙ none)) }
+    grows =
+        record { status = refl; extents = (let e = longer_extents in omega (arith, e));
+            hidden = λ none. absurd (true≢false (sym seen ∙ none)) }
 
     pvmove_same : (rows : List Row) → pvmove_number (rows ++ longer_row given row ∷ after) ≡ pvmove_number (rows ++ row ∷ after)
     pvmove_same [] = refl
@@ -218,16 +245,23 @@ module _ (group : Group) (before after : List Row) (row : Row) (rows : group.lvs
       front = front;
       more = more;
       back = back;
-      was = ap (runs_of_volumes 0) rows ∙ volumes_both 0 before (row ∷ after) ∙ sym (append_assoc (runs_of_volumes 0 before) (runs_of_segments number 0 row.1.segments) back);
+      was =
+          ap (runs_of_volumes 0) rows ∙ volumes_both 0 before (row ∷ after)
+              ∙ sym (append_assoc (runs_of_volumes 0 before) (runs_of_segments number 0 row.1.segments) back);
       is = volumes_both 0 before (longer_row given row ∷ after)
           ∙ ap (λ (runs : List LegRun). runs_of_volumes 0 before ++ (runs ++ back)) (segments_both number 0 row.1.segments added)
-          ∙ ap (λ (runs : List LegRun). runs_of_volumes 0 before ++ runs) (append_assoc (runs_of_segments number 0 row.1.segments) more back)
+          ∙ ap (λ (runs : List LegRun). runs_of_volumes 0 before ++ runs)
+          (append_assoc (runs_of_segments number 0 row.1.segments) more back)
           ∙ sym (append_assoc (runs_of_volumes 0 before) (runs_of_segments number 0 row.1.segments) (more ++ back));
       new = runs_new group count given may.laid some_legs kind number (0 + length row.1.segments) (extents_of row.1);
       apart = runs_apart group count given may.laid some_legs kind number (0 + length row.1.segments) (extents_of row.1);
-      stays = λ n r there. at_replaced GrowsTo (λ r. record { status = refl; extents = omega arith; hidden = λ none. refl }) before after row (longer_row given row) grows n r (ap (λ (rs : List Row). slice_get rs n) (sym rows) ∙ there);
+      stays =
+          λ n r there. at_replaced GrowsTo (λ r. record { status = refl; extents = omega arith; hidden = λ none. refl }) before after row
+              (longer_row given row) grows n r (ap (λ (rs : List Row). slice_get rs n) (sym rows) ∙ there);
       came = λ n later there.
-          let found = at_replaced (λ (r s : Row). GrowsTo s r) (λ r. record { status = refl; extents = omega arith; hidden = λ none. refl }) before after (longer_row given row) row grows n later there in
+          let found =
+              at_replaced (λ (r s : Row). GrowsTo s r) (λ r. record { status = refl; extents = omega arith; hidden = λ none. refl }) before
+                  after (longer_row given row) row grows n later there in
           inl (found.0, ap (λ (rs : List Row). slice_get rs n) rows ∙ found.1, found.2);
       pvmove_is = λ n r there. ap (nat_eq n) (pvmove_same before) ∙ ap (λ (rs : List Row). nat_eq n (pvmove_number rs)) (sym rows);
     }
@@ -235,4 +269,5 @@ module _ (group : Group) (before after : List Row) (row : Row) (rows : group.lvs
     pub longer_accepted : group.seqno < 4294967295 → IsAccepted next
     longer_accepted below =
         grown_accepted group lvs is_grown accepted below
-        (record { small = small_kept; ids = ids_kept; volumes = volumes_kept; segments = segments_kept; follows = follows_kept; stripes = stripes_kept; mirrors = mirrors_kept; moved = moved_kept })
+        (record { small = small_kept; ids = ids_kept; volumes = volumes_kept; segments = segments_kept; follows = follows_kept;
+            stripes = stripes_kept; mirrors = mirrors_kept; moved = moved_kept })

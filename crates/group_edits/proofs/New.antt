@@ -38,7 +38,8 @@ host_content : IsContent (codes "localhost")
 unfolding kind
 host_content = refl
 
-module _ (group : Group) (name id : List ℕ) (made : SegKind) (given : List Part) (now : ℕ) (may : MayHave group id made given now) (accepted : IsAccepted group) where
+module _ (group : Group) (name id : List ℕ) (made : SegKind) (given : List Part) (now : ℕ) (may : MayHave group id made given now)
+    (accepted : IsAccepted group) where
   abbrev row : Row
   row = (name, new_lv id made given now)
 
@@ -48,20 +49,26 @@ module _ (group : Group) (name id : List ℕ) (made : SegKind) (given : List Par
   names_more : lv_names next ≡ lv_names group ++ name ∷ []
   names_more = map-append (λ (lv : Row). lv.0) group.lvs (row ∷ [])
 
-  printable_new : is_among (names_of group.lvs) name ≡ false → volume_name_refusal name ≡ None → IsId id → group.seqno < 4294967295 → IsPrintable group → IsPrintable next
+  printable_new : is_among (names_of group.lvs) name ≡ false → volume_name_refusal name ≡ None → IsId id → group.seqno < 4294967295
+      → IsPrintable group → IsPrintable next
   printable_new free valid is_id below can =
-      version_printable group (group.lvs ++ row ∷ []) below can (subst (AreNames []) (sym names_more) (names_pushed [] (lv_names group) name (given_named name valid) refl free can.lv_names))
-      (each_pushed (λ (r : Row). IsLv next r.1) group.lvs row (each_lv group next (again_more group next (name ∷ []) refl names_more) group.lvs can.each_lv) is_new) where
+      version_printable group (group.lvs ++ row ∷ []) below can
+          (subst (AreNames []) (sym names_more) (names_pushed [] (lv_names group) name (given_named name valid) refl free can.lv_names))
+      (each_pushed (λ (r : Row). IsLv next r.1) group.lvs row
+          (each_lv group next (again_more group next (name ∷ []) refl names_more) group.lvs can.each_lv) is_new) where
         is_new : IsLv next (new_lv id made given now)
         is_new = record {
           id_again = id_again id is_id;
           created_fits = (let small = may.created in omega (arith, small));
           host_content = host_content;
           count_fits = (let few = may.segments in let same = segments_count made 0 given in omega (arith, few, same));
-          each = parts_print made group next may.count given may.legs may.laid (accepted Numbers).pvs refl can.pv_names 0 (ends group name id made given now may accepted);
+          each =
+              parts_print made group next may.count given may.legs may.laid (accepted Numbers).pvs refl can.pv_names 0
+                  (ends group name id made given now may accepted);
         }
 
-  pub new_whole : is_among (names_of group.lvs) name ≡ false → volume_name_refusal name ≡ None → IsId id → group.seqno ≢ 4294967295 → HasTree group → IsWhole next
+  pub new_whole : is_among (names_of group.lvs) name ≡ false → volume_name_refusal name ≡ None → IsId id → group.seqno ≢ 4294967295
+      → HasTree group → IsWhole next
   new_whole free valid is_id other tree =
       let below : group.seqno < 4294967295 = seqno_below group accepted other in
       record {
@@ -70,25 +77,32 @@ module _ (group : Group) (name id : List ℕ) (made : SegKind) (given : List Par
       }
 
 -- the extents of the new volume fit
-pub new_fits : (group : Group) (id : List ℕ) (made : SegKind) (given parts : List Part) (now : ℕ) → parts ≡ given → MayHave group id made given now → IsAccepted group → extents_in (segments_of made 0 parts) < 2 ^ 64
+pub new_fits : (group : Group) (id : List ℕ) (made : SegKind) (given parts : List Part) (now : ℕ) → parts ≡ given
+    → MayHave group id made given now → IsAccepted group → extents_in (segments_of made 0 parts) < 2 ^ 64
 new_fits group id made given parts now slice may accepted =
     subst (λ (ps : List Part). extents_in (segments_of made 0 ps) < 2 ^ 64) (sym slice)
     (let few = below_sectors group accepted (extents_in (segments_of made 0 given)) may.sectors in omega (arith, few))
 
 -- ---- as it is made
 
-module _ (group found : Group) (name id : List ℕ) (made : SegKind) (given parts : List Part) (now : ℕ) (same : found ≡ group) (slice : parts ≡ given) where
+module _ (group found : Group) (name id : List ℕ) (made : SegKind) (given parts : List Part) (now : ℕ) (same : found ≡ group)
+    (slice : parts ≡ given) where
   pub fits_made : MayHave group id made given now → IsAccepted found → extents_in (segments_of made 0 parts) < 2 ^ 64
   fits_made may accepted = new_fits group id made given parts now slice may (subst IsAccepted same accepted)
 
-  pub new_made : (before : Group) (lv : Lv) (own : List ℕ) (lvs : List Row) → before ≡ next_version found → lv ≡ new_lv id made parts now → own ≡ name → lvs ≡ before.lvs ++ (own, lv) ∷ []
+  pub new_made : (before : Group) (lv : Lv) (own : List ℕ) (lvs : List Row) → before ≡ next_version found → lv ≡ new_lv id made parts now
+      → own ≡ name → lvs ≡ before.lvs ++ (own, lv) ∷ []
       → record before { lvs = lvs } ≡ with_volume (name, new_lv id made given now) group
   new_made before lv own lvs is lv_is own_is pushed =
-      ap (λ (rows : List Row). record before { lvs = rows }) (pushed ∙ ap (λ (l : Lv). before.lvs ++ (own, l) ∷ []) (lv_is ∙ ap (λ (ps : List Part). new_lv id made ps now) slice) ∙ ap (λ (n : List ℕ). before.lvs ++ (n, new_lv id made given now) ∷ []) own_is)
+      ap (λ (rows : List Row). record before { lvs = rows })
+          (pushed ∙ ap (λ (l : Lv). before.lvs ++ (own, l) ∷ []) (lv_is ∙ ap (λ (ps : List Part). new_lv id made ps now) slice)
+          ∙ ap (λ (n : List ℕ). before.lvs ++ (n, new_lv id made given now) ∷ []) own_is)
       ∙ ap (λ (g : Group). record g { lvs = g.lvs ++ (name, new_lv id made given now) ∷ [] }) is
       ∙ ap (with_volume (name, new_lv id made given now)) same
 
-  pub made_whole : (later : Group) → later ≡ with_volume (name, new_lv id made given now) group → is_among (names_of group.lvs) name ≡ false → volume_name_refusal name ≡ None → IsId id → MayHave group id made given now → group.seqno ≢ 4294967295
+  pub made_whole : (later : Group) → later ≡ with_volume (name, new_lv id made given now) group → is_among (names_of group.lvs) name ≡ false
+      → volume_name_refusal name ≡ None → IsId id → MayHave group id made given now → group.seqno ≢ 4294967295
       → IsAccepted found → HasTree found → IsWhole later
   made_whole later is free valid is_id may other accepted tree =
-      subst IsWhole (sym is) (new_whole group name id made given now may (subst IsAccepted same accepted) free valid is_id other (subst HasTree same tree))
+      subst IsWhole (sym is) (new_whole group name id made given now may (subst IsAccepted same accepted) free valid is_id other
+          (subst HasTree same tree))

@@ -1,5 +1,6 @@
 -- The visible volume of a name, where it stands, and that no other volume has its name.
-use Rattle.std.proofs.Common.{◌≡◌, ℕ, suc, ◌+◌, Bool, true, false, ◌||◌, ◌&&◌, cond, List, [], ◌∷◌, map, Option, Some, None, refl, sym, ap, ◌∙◌, arith}
+use Rattle.std.proofs.Common.{◌≡◌, ℕ, suc, ◌+◌, Bool, true, false, ◌||◌, ◌&&◌, cond, List, [], ◌∷◌, map, Option, Some, None, refl, sym, ap,
+    ◌∙◌, arith}
 use Rattle.std.specs.Prelude.{nat_eq, option_map, slice_get, Contains}
 use Rattle.std.specs.List.{AllByRecursion as Each}
 use Rattle.std.specs.Cmp.Lexicographic.{pointwise}
@@ -34,8 +35,10 @@ pub record IsVisibleAt (number : ℕ) (name : List ℕ) (rows : List Row) (v : �
 module _ (name : List ℕ) where
   visible_at_from : (number : ℕ) (rows : List Row) (v : ℕ × Lv) → visible_from number name rows ≡ Some v → IsVisibleAt number name rows v
   visible_at_from number [] v found = absurd cc
-  visible_at_from number (row ∷ rows) v found = by (row.1.status.visible && same_bytes row.0 name) refl found (λ made. visible_at_from (number + 1) rows v made) where
-    by : (b : Bool) → (row.1.status.visible && same_bytes row.0 name) ≡ b → cond b (Some (number, row.1)) (visible_from (number + 1) name rows) ≡ Some v
+  visible_at_from number (row ∷ rows) v found =
+      by (row.1.status.visible && same_bytes row.0 name) refl found (λ made. visible_at_from (number + 1) rows v made) where
+    by : (b : Bool) → (row.1.status.visible && same_bytes row.0 name) ≡ b
+        → cond b (Some (number, row.1)) (visible_from (number + 1) name rows) ≡ Some v
         → (visible_from (number + 1) name rows ≡ Some v → IsVisibleAt (number + 1) name rows v) → IsVisibleAt number name (row ∷ rows) v
     by true is made later =
         let same : (number, row.1) ≡ v = same_Some (number, row.1) v made in
@@ -49,7 +52,8 @@ module _ (name : List ℕ) where
         }
     by false is made later =
         let rest : IsVisibleAt (number + 1) name rows v = later made in
-        record { k = suc rest.k; row = rest.row; place = omega (arith, rest.place); there = rest.there; volume = rest.volume; visible = rest.visible }
+        record { k = suc rest.k; row = rest.row; place = omega (arith, rest.place); there = rest.there; volume = rest.volume;
+            visible = rest.visible }
 
   -- ---- no other has the name
 
@@ -64,9 +68,12 @@ module _ (name : List ℕ) where
   among_first own names same = ap (λ (b : Bool). b || is_among names name) (ap (pointwise nat_eq name) same ∙ pointwise_same name)
 
   -- none has it where it stood before
-  others : (rows : List Row) (taken : List (List ℕ)) → AreNames taken (map (λ (row : Row). row.0) rows) → is_among taken name ≡ true → Each HasOther rows
+  others : (rows : List Row) (taken : List (List ℕ)) → AreNames taken (map (λ (row : Row). row.0) rows) → is_among taken name ≡ true
+      → Each HasOther rows
   others [] taken are among = tt
-  others (row ∷ rows) taken are among = (by (same_bytes row.0 name) refl, others rows (row.0 ∷ taken) are.2 (or_right (pointwise nat_eq name row.0) (is_among taken name) among)) where
+  others (row ∷ rows) taken are among =
+      (by (same_bytes row.0 name) refl, others rows (row.0 ∷ taken) are.2
+          (or_right (pointwise nat_eq name row.0) (is_among taken name) among)) where
     by : (b : Bool) → same_bytes row.0 name ≡ b → b ≡ false
     by true is = absurd (true≢false (sym among ∙ ap (is_among taken) (sym (same_bytes_tells row.0 name is)) ∙ are.1))
     by false is = refl
@@ -74,7 +81,8 @@ module _ (name : List ℕ) where
   none_of_others : (number : ℕ) (rows : List Row) → Each HasOther rows → visible_from number name rows ≡ None
   none_of_others number [] all = refl
   none_of_others number (row ∷ rows) all = by row.1.status.visible ∙ none_of_others (number + 1) rows all.1 where
-    by : (seen : Bool) → cond (seen && same_bytes row.0 name) (Some (number, row.1)) (visible_from (number + 1) name rows) ≡ visible_from (number + 1) name rows
+    by : (seen : Bool) → cond (seen && same_bytes row.0 name) (Some (number, row.1)) (visible_from (number + 1) name rows)
+        ≡ visible_from (number + 1) name rows
     by true = ap (λ (b : Bool). cond b (Some (number, row.1)) (visible_from (number + 1) name rows)) all.0
     by false = refl
 
@@ -87,11 +95,13 @@ module _ (name : List ℕ) where
     no : None ≡ Some v → ⊥
     no is = absurd cc
 
-  each_this : (number : ℕ) (rows : List Row) (taken : List (List ℕ)) (v : ℕ × Lv) → visible_from number name rows ≡ Some v → AreNames taken (map (λ (row : Row). row.0) rows) → Each (IsThis v.1) rows
+  each_this : (number : ℕ) (rows : List Row) (taken : List (List ℕ)) (v : ℕ × Lv) → visible_from number name rows ≡ Some v
+      → AreNames taken (map (λ (row : Row). row.0) rows) → Each (IsThis v.1) rows
   each_this number [] taken v found are = tt
   each_this number (row ∷ rows) taken v found are =
       by (row.1.status.visible && same_bytes row.0 name) refl found (λ made. each_this (number + 1) rows (row.0 ∷ taken) v made are.2) where
-        by : (b : Bool) → (row.1.status.visible && same_bytes row.0 name) ≡ b → cond b (Some (number, row.1)) (visible_from (number + 1) name rows) ≡ Some v
+        by : (b : Bool) → (row.1.status.visible && same_bytes row.0 name) ≡ b
+            → cond b (Some (number, row.1)) (visible_from (number + 1) name rows) ≡ Some v
             → (visible_from (number + 1) name rows ≡ Some v → Each (IsThis v.1) rows) → Each (IsThis v.1) (row ∷ rows)
         by true is made later =
             let both = both_true row.1.status.visible (same_bytes row.0 name) is in (
@@ -99,7 +109,8 @@ module _ (name : List ℕ) where
               these_of_others v.1 rows (others rows (row.0 ∷ taken) are.2 (among_first row.0 taken (same_bytes_tells row.0 name both.1))),
             )
         by false is made later = (
-          λ same. absurd (none_some (number + 1) rows v (others rows (row.0 ∷ taken) are.2 (among_first row.0 taken (same_bytes_tells row.0 name same))) made),
+          λ same. absurd (none_some (number + 1) rows v
+              (others rows (row.0 ∷ taken) are.2 (among_first row.0 taken (same_bytes_tells row.0 name same))) made),
           later made,
         )
 
@@ -109,14 +120,20 @@ pub visible_at : (group : Group) (name : List ℕ) (v : ℕ × Lv) → visible_n
 unfolding visible_named
 visible_at group name v found = visible_at_from name 0 group.lvs v found
 
-pub is_this : (group : Group) (name : List ℕ) (v : ℕ × Lv) → IsPrintable group → visible_named group name ≡ Some v → (row : Row) → Contains group.lvs row → same_bytes row.0 name ≡ true → row.1 ≡ v.1
+pub is_this : (group : Group) (name : List ℕ) (v : ℕ × Lv) → IsPrintable group → visible_named group name ≡ Some v → (row : Row)
+    → Contains group.lvs row → same_bytes row.0 name ≡ true → row.1 ≡ v.1
 unfolding visible_named
-is_this group name v can found row within = All-contains (IsThis name v.1) group.lvs row (All-from_recursion (IsThis name v.1) group.lvs (each_this name 0 group.lvs [] v found can.lv_names)) within
+is_this group name v can found row within =
+    All-contains (IsThis name v.1) group.lvs row
+        (All-from_recursion (IsThis name v.1) group.lvs (each_this name 0 group.lvs [] v found can.lv_names)) within
 
 -- the volume with this number is the one that was found with it
-pub named_is : (group : Group) (name : List ℕ) (number : ℕ) (row : Row) → Some number ≡ option_map (λ (v : ℕ × Lv). v.0) (visible_named group name) → slice_get group.lvs number ≡ Some row → visible_named group name ≡ Some (number, row.1)
+pub named_is : (group : Group) (name : List ℕ) (number : ℕ) (row : Row)
+    → Some number ≡ option_map (λ (v : ℕ × Lv). v.0) (visible_named group name) → slice_get group.lvs number ≡ Some row
+    → visible_named group name ≡ Some (number, row.1)
 named_is group name number row is there = by (visible_named group name) refl is where
-  by : (o : Option (ℕ × Lv)) → visible_named group name ≡ o → Some number ≡ option_map (λ (v : ℕ × Lv). v.0) o → visible_named group name ≡ Some (number, row.1)
+  by : (o : Option (ℕ × Lv)) → visible_named group name ≡ o → Some number ≡ option_map (λ (v : ℕ × Lv). v.0) o
+      → visible_named group name ≡ Some (number, row.1)
   by None found made = absurd cc
   by (Some v) found made =
       let at : IsVisibleAt 0 name group.lvs v = visible_at group name v found in

@@ -1,5 +1,6 @@
 -- The next version of a group, in which volumes have other names, keeps all rules.
-use Rattle.std.proofs.Common.{◌≡◌, ◌≢◌, ◌≤◌, ◌<◌, ℕ, zero, suc, ◌+◌, false, cond, List, [], ◌∷◌, ◌++◌, length, map, Option, Some, None, refl, sym, ap, subst, ◌∙◌, arith}
+use Rattle.std.proofs.Common.{◌≡◌, ◌≢◌, ◌≤◌, ◌<◌, ℕ, zero, suc, ◌+◌, false, cond, List, [], ◌∷◌, ◌++◌, length, map, Option, Some, None,
+    refl, sym, ap, subst, ◌∙◌, arith}
 use Rattle.std.specs.Prelude.{◌*◌, ◌^◌, nat_eq, slice_get, sum_by, option_map, All, AllPairs, Contains}
 use Rattle.std.proofs.lemmas.List.Elements.{All-map, All-weaker}
 use Rattle.std.proofs.lemmas.List.Sums.{sum_by-cons}
@@ -13,8 +14,10 @@ use Rattle.volume_rules.specs.Depths.{load}
 use Rattle.volume_rules.specs.Legs.{IsUsed, IsWayDown, LegRun, LieApart, LiesOn, runs_of, runs_of_segments, runs_of_volumes}
 use Rattle.volume_rules.specs.Extents.{extents_of}
 use Rattle.volume_rules.proofs.LegRuns.{contains_later}
-use Rattle.volume_rules.specs.Rules.{Follow, IsAccepted, IsLv, IsWholeMirror, IsWholeStriped, LvIsSmall, MovedIsAllowed, IsMove, IsMoving, IsPvmove, Keeps, LiesWithin, counts, ids_of, pvmove_number}
-use Rattle.volume_rules.specs.declared.rule.Rule.TheVariants.{Numbers, Ids, Volumes, Segments, Extents, Follows, Stripes, Mirrors, Within, Apart, Depth, Moved, Pvmove, Locked}
+use Rattle.volume_rules.specs.Rules.{Follow, IsAccepted, IsLv, IsWholeMirror, IsWholeStriped, LvIsSmall, MovedIsAllowed, IsMove, IsMoving,
+    IsPvmove, Keeps, LiesWithin, counts, ids_of, pvmove_number}
+use Rattle.volume_rules.specs.declared.rule.Rule.TheVariants.{Numbers, Ids, Volumes, Segments, Extents, Follows, Stripes, Mirrors, Within,
+    Apart, Depth, Moved, Pvmove, Locked}
 use Rattle.group_edits.specs.NextVersion.{with_lvs}
 
 abbrev Row : Type 0
@@ -28,7 +31,8 @@ contains_at (y ∷ xs) (suc n) x is = contains_later y x xs (contains_at xs n x 
 module _ (f : Row → Row) (same : (row : Row) → (f row).1 ≡ row.1) where
   map_same : {X : Type 0} (g : Lv → X) (rows : List Row) → map (λ (row : Row). g row.1) (map f rows) ≡ map (λ (row : Row). g row.1) rows
   map_same g [] = refl
-  map_same g (row ∷ rows) = ap (λ (lv : Lv). g lv ∷ map (λ (r : Row). g r.1) (map f rows)) (same row) ∙ ap (λ xs. g row.1 ∷ xs) (map_same g rows)
+  map_same g (row ∷ rows) =
+      ap (λ (lv : Lv). g lv ∷ map (λ (r : Row). g r.1) (map f rows)) (same row) ∙ ap (λ xs. g row.1 ∷ xs) (map_same g rows)
 
   sum_same : (g : Lv → ℕ) (rows : List Row) → sum_by (λ (row : Row). g row.1) (map f rows) ≡ sum_by (λ (row : Row). g row.1) rows
   sum_same g [] = refl
@@ -76,14 +80,17 @@ module _ (f : Row → Row) (same : (row : Row) → (f row).1 ≡ row.1) where
         ((f row).0, slice_get-map f group.lvs n ∙ ap (option_map f) is.1 ∙ ap (λ (v : Lv). Some ((f row).0, v)) (same row))
 
     -- and the other way round, with its name
-    pub row_back : (n : ℕ) (name : List ℕ) (lv : Lv) → slice_get other.lvs n ≡ Some (name, lv) → (old : List ℕ) × (slice_get group.lvs n ≡ Some (old, lv)) × (name ≡ (f (old, lv)).0)
+    pub row_back : (n : ℕ) (name : List ℕ) (lv : Lv) → slice_get other.lvs n ≡ Some (name, lv)
+        → (old : List ℕ) × (slice_get group.lvs n ≡ Some (old, lv)) × (name ≡ (f (old, lv)).0)
     row_back n name lv is = by_row (slice_get group.lvs n) refl (sym (slice_get-map f group.lvs n) ∙ is) where
-      by_row : (o : Option Row) → slice_get group.lvs n ≡ o → option_map f o ≡ Some (name, lv) → (old : List ℕ) × (slice_get group.lvs n ≡ Some (old, lv)) × (name ≡ (f (old, lv)).0)
+      by_row : (o : Option Row) → slice_get group.lvs n ≡ o → option_map f o ≡ Some (name, lv)
+          → (old : List ℕ) × (slice_get group.lvs n ≡ Some (old, lv)) × (name ≡ (f (old, lv)).0)
       by_row None there made = absurd cc
       by_row (Some row) there made =
           let is_row : f row ≡ (name, lv) = same_Some (f row) (name, lv) made in
           let volume : row.1 ≡ lv = sym (same row) ∙ ap (λ (r : Row). r.1) is_row in
-          (row.0, there ∙ ap (λ (v : Lv). Some (row.0, v)) volume, sym (ap (λ (r : Row). r.0) is_row) ∙ ap (λ (v : Lv). (f (row.0, v)).0) volume)
+          (row.0, there ∙ ap (λ (v : Lv). Some (row.0, v)) volume,
+              sym (ap (λ (r : Row). r.0) is_row) ∙ ap (λ (v : Lv). (f (row.0, v)).0) volume)
 
     lv_back : (n : ℕ) (lv : Lv) → IsLv other n lv → IsLv group n lv
     lv_back n lv is = let row = row_back n is.0 lv is.1 in (row.0, row.1)
@@ -113,7 +120,8 @@ module _ (f : Row → Row) (same : (row : Row) → (f row).1 ≡ row.1) where
     within_kept : Keeps group Within → Keeps other Within
     within_kept within =
         subst (All (λ (run : LegRun). LiesWithin other run.on (run.first + run.count))) (sym other_runs)
-        (All-weaker (λ (run : LegRun). LiesWithin group run.on (run.first + run.count)) (λ (run : LegRun). LiesWithin other run.on (run.first + run.count))
+        (All-weaker (λ (run : LegRun). LiesWithin group run.on (run.first + run.count))
+            (λ (run : LegRun). LiesWithin other run.on (run.first + run.count))
         (λ (run : LegRun) lies. lies_within run.on (run.first + run.count) lies) (runs_of group) within)
 
     apart_kept : Keeps group Apart → Keeps other Apart
@@ -129,7 +137,9 @@ module _ (f : Row → Row) (same : (row : Row) → (f row).1 ≡ row.1) where
     }
 
     ids_same : ids_of other ≡ ids_of group
-    ids_same = ap (λ (ids : List (List ℕ)). group.id ∷ (map (λ (pv : List ℕ × Pv). pv.1.id) group.pvs ++ ids)) (map_same (λ (lv : Lv). lv.id) group.lvs)
+    ids_same =
+        ap (λ (ids : List (List ℕ)). group.id ∷ (map (λ (pv : List ℕ × Pv). pv.1.id) group.pvs ++ ids))
+            (map_same (λ (lv : Lv). lv.id) group.lvs)
 
     ids_kept : Keeps group Ids → Keeps other Ids
     ids_kept differ = subst (AllPairs (λ (a b : List ℕ). a ≢ b)) (sym ids_same) differ
@@ -156,7 +166,8 @@ module _ (f : Row → Row) (same : (row : Row) → (f row).1 ≡ row.1) where
 
     load_same : (way : List ℕ) → load (counts other) way ≡ load (counts group) way
     load_same [] = refl
-    load_same (lv ∷ way) = ap (λ (n : ℕ). n + load (counts other) way) (counts_same lv) ∙ ap (λ (n : ℕ). counts group lv + n) (load_same way)
+    load_same (lv ∷ way) =
+        ap (λ (n : ℕ). n + load (counts other) way) (counts_same lv) ∙ ap (λ (n : ℕ). counts group lv + n) (load_same way)
 
     depth_kept : Keeps group Depth → Keeps other Depth
     depth_kept depth = record {
@@ -189,7 +200,8 @@ module _ (f : Row → Row) (same : (row : Row) → (f row).1 ≡ row.1) where
         (moving.0, way_there (n ∷ moving.0) moving.1, (moving.2.0, moving.2.1, is_pvmove_there moving.2.0 moving.2.2))
 
     -- where a hidden volume keeps its name
-    pub other_accepted : ((row : Row) → Contains group.lvs row → row.1.status.visible ≡ false → (f row).0 ≡ row.0) → group.seqno < 4294967295 → IsAccepted group → IsAccepted other
+    pub other_accepted : ((row : Row) → Contains group.lvs row → row.1.status.visible ≡ false → (f row).0 ≡ row.0)
+        → group.seqno < 4294967295 → IsAccepted group → IsAccepted other
     other_accepted hidden below accepted = keeps where
       pvmove_kept : Keeps group Pvmove → Keeps other Pvmove
       pvmove_kept allowed = record {
@@ -208,11 +220,15 @@ module _ (f : Row → Row) (same : (row : Row) → (f row).1 ≡ row.1) where
       keeps Segments = segments_kept (accepted Segments)
       keeps Extents = accepted Extents
       keeps Follows = all_same (λ lv. Follow 0 lv.segments × (extents_of lv * group.extent_size < 2 ^ 48)) group.lvs (accepted Follows)
-      keeps Stripes = all_same (λ lv. All (λ segment. IsWholeStriped group.extent_size segment.count segment.kind) lv.segments) group.lvs (accepted Stripes)
+      keeps Stripes =
+          all_same (λ lv. All (λ segment. IsWholeStriped group.extent_size segment.count segment.kind) lv.segments) group.lvs
+              (accepted Stripes)
       keeps Mirrors = all_same (λ lv. All (λ segment. IsWholeMirror segment.kind) lv.segments) group.lvs (accepted Mirrors)
       keeps Within = within_kept (accepted Within)
       keeps Apart = apart_kept (accepted Apart)
       keeps Depth = depth_kept (accepted Depth)
-      keeps Moved = all_same (λ lv. All (λ segment. MovedIsAllowed lv.status.pvmove segment.count segment.kind) lv.segments) group.lvs (accepted Moved)
+      keeps Moved =
+          all_same (λ lv. All (λ segment. MovedIsAllowed lv.status.pvmove segment.count segment.kind) lv.segments) group.lvs
+              (accepted Moved)
       keeps Pvmove = pvmove_kept (accepted Pvmove)
       keeps Locked = locked_kept (accepted Locked)

@@ -1,5 +1,6 @@
 -- Ids can be printed.
-use Rattle.std.proofs.Common.{◌≡◌, ℕ, ◌≤◌, Bool, true, false, ◌&&◌, ◌==◌, List, [], ◌∷◌, take, drop, refl, sym, ap, ◌∙◌, arith, if◌then◌else◌}
+use Rattle.std.proofs.Common.{◌≡◌, ℕ, ◌≤◌, Bool, true, false, ◌&&◌, ◌==◌, List, [], ◌∷◌, take, drop, refl, sym, ap, ◌∙◌, arith,
+    if◌then◌else◌}
 use Rattle.std.proofs.lemmas.Bool.{and_parts, ne_eqb}
 use Rattle.std.proofs.lemmas.Bool.Decides.{nat_tests}
 use Rattle.std.proofs.lemmas.List.{take-append-drop}
@@ -10,7 +11,8 @@ use Rattle.std.specs.List.{list_all, join_with_byte}
 use Rattle.conf_text.specs.Bytes.{is_letter, kind, mark}
 use Rattle.conf_text.specs.Grammar.{IsContent, is_allowed}
 use Rattle.conf_text.specs.declared.kind.Kind.{Kind}
-use Rattle.conf_text.specs.declared.kind.Kind.TheVariants.{Digit, Letter, Blank, LineFeed, Hash, Quote, Backslash, OpenBrace, CloseBrace, OpenBracket, CloseBracket, Equals, Comma, Zero, Other}
+use Rattle.conf_text.specs.declared.kind.Kind.TheVariants.{Digit, Letter, Blank, LineFeed, Hash, Quote, Backslash, OpenBrace, CloseBrace,
+    OpenBracket, CloseBracket, Equals, Comma, Zero, Other}
 use Rattle.lvm_id.specs.LvmId.{IsId, hyphen_form, is_id_char, pieces}
 use Rattle.meta_print.proofs.Printable.{IsIdAgain}
 use Rattle.meta_read.proofs.PrintedIds.{id_printed-is}
@@ -56,7 +58,8 @@ id_char_allowed b is_char =
     let from : 33 ≤ b = id_char_from b is_char in
     byte_allowed b (ne_eqb b 10 (λ e. omega (arith, e, from))) (ne_eqb b 0 (λ e. omega (arith, e, from)))
 
-pub all_allowed : (p : ℕ → Bool) → ((b : ℕ) → p b ≡ true → allows b ≡ true) → (bs : List ℕ) → list_all p bs ≡ true → list_all allows bs ≡ true
+pub all_allowed : (p : ℕ → Bool) → ((b : ℕ) → p b ≡ true → allows b ≡ true) → (bs : List ℕ) → list_all p bs ≡ true
+    → list_all allows bs ≡ true
 all_allowed p one [] all = refl
 all_allowed p one (b ∷ bs) all =
     let parts : (p b ≡ true) × (list_all p bs ≡ true) = and_parts (p b) (list_all p bs) all in
@@ -65,10 +68,14 @@ all_allowed p one (b ∷ bs) all =
 -- ---- ids
 
 front_allowed : (n : ℕ) (bs : List ℕ) → list_all allows bs ≡ true → list_all allows (take n bs) ≡ true
-front_allowed n bs all = (and_parts (list_all allows (take n bs)) (list_all allows (drop n bs)) (sym (list_all-append allows (take n bs) (drop n bs)) ∙ ap (list_all allows) (take-append-drop n bs) ∙ all)).0
+front_allowed n bs all =
+    (and_parts (list_all allows (take n bs)) (list_all allows (drop n bs))
+        (sym (list_all-append allows (take n bs) (drop n bs)) ∙ ap (list_all allows) (take-append-drop n bs) ∙ all)).0
 
 back_allowed : (n : ℕ) (bs : List ℕ) → list_all allows bs ≡ true → list_all allows (drop n bs) ≡ true
-back_allowed n bs all = (and_parts (list_all allows (take n bs)) (list_all allows (drop n bs)) (sym (list_all-append allows (take n bs) (drop n bs)) ∙ ap (list_all allows) (take-append-drop n bs) ∙ all)).1
+back_allowed n bs all =
+    (and_parts (list_all allows (take n bs)) (list_all allows (drop n bs))
+        (sym (list_all-append allows (take n bs) (drop n bs)) ∙ ap (list_all allows) (take-append-drop n bs) ∙ all)).1
 
 hyphen_allowed : allows 45 ≡ true
 unfolding kind
@@ -78,7 +85,8 @@ pieces_allowed : (lengths bs : List ℕ) → list_all allows bs ≡ true → lis
 pieces_allowed [] bs all = refl
 pieces_allowed (n ∷ []) bs all = front_allowed n bs all
 pieces_allowed (n ∷ m ∷ lengths) bs all =
-    let rest : list_all allows (join_with_byte 45 (pieces (m ∷ lengths) (drop n bs))) ≡ true = pieces_allowed (m ∷ lengths) (drop n bs) (back_allowed n bs all) in
+    let rest : list_all allows (join_with_byte 45 (pieces (m ∷ lengths) (drop n bs))) ≡ true =
+        pieces_allowed (m ∷ lengths) (drop n bs) (back_allowed n bs all) in
     list_all-append allows (take n bs) (45 ∷ join_with_byte 45 (pieces (m ∷ lengths) (drop n bs)))
     ∙ ap (λ (t : Bool). t && (allows 45 && list_all allows (join_with_byte 45 (pieces (m ∷ lengths) (drop n bs))))) (front_allowed n bs all)
     ∙ ap (λ (t : Bool). t && list_all allows (join_with_byte 45 (pieces (m ∷ lengths) (drop n bs)))) hyphen_allowed
@@ -86,7 +94,9 @@ pieces_allowed (n ∷ m ∷ lengths) bs all =
 
 hyphen_form-content : (id : List ℕ) → IsId id → IsContent (hyphen_form id)
 unfolding hyphen_form
-hyphen_form-content id is = pieces_allowed (6 ∷ 4 ∷ 4 ∷ 4 ∷ 4 ∷ 4 ∷ 6 ∷ []) id (all_allowed is_id_char id_char_allowed id (list_all-from_AllPass is_id_char id is.in_alphabet))
+hyphen_form-content id is =
+    pieces_allowed (6 ∷ 4 ∷ 4 ∷ 4 ∷ 4 ∷ 4 ∷ 6 ∷ []) id
+        (all_allowed is_id_char id_char_allowed id (list_all-from_AllPass is_id_char id is.in_alphabet))
 
 pub id_again : (id : List ℕ) → IsId id → IsIdAgain id
 id_again id is = record { again = id_printed-is id (hyphen_form id) is refl; content = hyphen_form-content id is }

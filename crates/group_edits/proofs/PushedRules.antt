@@ -1,5 +1,6 @@
 -- A group with one more physical volume keeps the rules that it kept.
-use Rattle.std.proofs.Common.{◌≡◌, ◌≢◌, ◌≤◌, ℕ, suc, ◌+◌, List, [], ◌∷◌, ◌++◌, length, map, Some, refl, sym, ap, subst, ◌∙◌, append_assoc, arith}
+use Rattle.std.proofs.Common.{◌≡◌, ◌≢◌, ◌≤◌, ℕ, suc, ◌+◌, List, [], ◌∷◌, ◌++◌, length, map, Some, refl, sym, ap, subst, ◌∙◌, append_assoc,
+    arith}
 use Rattle.std.specs.Prelude.{slice_get, All, AllPairs}
 use Rattle.std.specs.List.{AllByRecursion as Each}
 use Rattle.std.proofs.lemmas.List.{map-append}
@@ -10,9 +11,11 @@ use Rattle.meta_model.specs.declared.pv.Pv.{Pv}
 use Rattle.meta_model.specs.declared.segment.On.{On}
 use Rattle.meta_model.specs.declared.segment.On.TheVariants as on
 use Rattle.volume_rules.specs.Legs.{IsWayDown, LegRun, runs_of}
-use Rattle.volume_rules.specs.Rules.{FitsDevice, IsAccepted, IsMove, IsMoving, Keeps, LiesWithin, PvIsSmall, VolumesAreFew, ids_of, number_of}
+use Rattle.volume_rules.specs.Rules.{FitsDevice, IsAccepted, IsMove, IsMoving, Keeps, LiesWithin, PvIsSmall, VolumesAreFew, ids_of,
+    number_of}
 use Rattle.volume_rules.specs.declared.rule.Rule.{Rule}
-use Rattle.volume_rules.specs.declared.rule.Rule.TheVariants.{Numbers, Ids, Volumes, Segments, Extents, Follows, Stripes, Mirrors, Within, Apart, Depth, Moved, Pvmove, Locked}
+use Rattle.volume_rules.specs.declared.rule.Rule.TheVariants.{Numbers, Ids, Volumes, Segments, Extents, Follows, Stripes, Mirrors, Within,
+    Apart, Depth, Moved, Pvmove, Locked}
 use Rattle.group_edits.proofs.Inserted.{all_pushed, pairs_inserted, slice_get-pushed}
 use Rattle.group_edits.proofs.Pushed.{pushed}
 
@@ -29,7 +32,8 @@ pub record MayJoin (group : Group) (pv : Pv) : Type 0 where
   pub fresh : All (λ id. id ≢ pv.id) (ids_of group)
 
 pub accepted_base : (group : Group) → IsAccepted group → IsBase group
-accepted_base group accepted = record { kept = λ rule other. accepted rule; lvs = (accepted Volumes).lvs; max_lv = (accepted Volumes).max_lv }
+accepted_base group accepted =
+    record { kept = λ rule other. accepted rule; lvs = (accepted Volumes).lvs; max_lv = (accepted Volumes).max_lv }
 
 pub base_accepted : (group : Group) → IsBase group → VolumesAreFew group → IsAccepted group
 base_accepted group base few Numbers = base.kept Numbers (λ e. omega (arith, e))
@@ -60,19 +64,27 @@ back : (new : List ℕ) (xs ys : List (List ℕ)) → All (λ other. other ≢ n
 back new [] ys all = all
 back new (x ∷ xs) ys all = back new xs ys (λ k d within. all (suc k) d (omega arith))
 
-ids_pushed : (id new : List ℕ) (pvs lvs : List (List ℕ)) → AllPairs Differ (id ∷ (pvs ++ lvs)) → All (λ other. other ≢ new) (id ∷ (pvs ++ lvs)) → AllPairs Differ (id ∷ (pvs ++ new ∷ lvs))
+ids_pushed : (id new : List ℕ) (pvs lvs : List (List ℕ)) → AllPairs Differ (id ∷ (pvs ++ lvs))
+    → All (λ other. other ≢ new) (id ∷ (pvs ++ lvs)) → AllPairs Differ (id ∷ (pvs ++ new ∷ lvs))
 ids_pushed id new pvs lvs differ fresh =
-    pairs_inserted Differ (id ∷ pvs) lvs new differ (front new (id ∷ pvs) lvs (recursion_from_All (λ other. other ≢ new) (id ∷ (pvs ++ lvs)) fresh))
+    pairs_inserted Differ (id ∷ pvs) lvs new differ
+        (front new (id ∷ pvs) lvs (recursion_from_All (λ other. other ≢ new) (id ∷ (pvs ++ lvs)) fresh))
     (All-weaker (λ other. other ≢ new) (Differ new) (λ other apart same. apart (sym same)) lvs (back new (id ∷ pvs) lvs fresh))
 
-pub ids_of-pushed : (group : Group) (row : List ℕ × Pv) → ids_of (pushed group row) ≡ group.id ∷ (map (λ (pv : List ℕ × Pv). pv.1.id) group.pvs ++ row.1.id ∷ map (λ (lv : List ℕ × Lv). lv.1.id) group.lvs)
+pub ids_of-pushed : (group : Group) (row : List ℕ × Pv)
+    → ids_of (pushed group row) ≡ group.id ∷ (map (λ (pv : List ℕ × Pv). pv.1.id) group.pvs ++ row.1.id
+    ∷ map (λ (lv : List ℕ × Lv). lv.1.id) group.lvs)
 ids_of-pushed group row =
-    ap (λ (ids : List (List ℕ)). group.id ∷ (ids ++ map (λ (lv : List ℕ × Lv). lv.1.id) group.lvs)) (map-append (λ (pv : List ℕ × Pv). pv.1.id) group.pvs (row ∷ []))
-    ∙ ap (λ (ids : List (List ℕ)). group.id ∷ ids) (append_assoc (map (λ (pv : List ℕ × Pv). pv.1.id) group.pvs) (row.1.id ∷ []) (map (λ (lv : List ℕ × Lv). lv.1.id) group.lvs))
+    ap (λ (ids : List (List ℕ)). group.id ∷ (ids ++ map (λ (lv : List ℕ × Lv). lv.1.id) group.lvs))
+        (map-append (λ (pv : List ℕ × Pv). pv.1.id) group.pvs (row ∷ []))
+    ∙ ap (λ (ids : List (List ℕ)). group.id ∷ ids)
+    (append_assoc (map (λ (pv : List ℕ × Pv). pv.1.id) group.pvs) (row.1.id ∷ []) (map (λ (lv : List ℕ × Lv). lv.1.id) group.lvs))
 
 ids_kept : (group : Group) (row : List ℕ × Pv) → Keeps group Ids → All (λ id. id ≢ row.1.id) (ids_of group) → Keeps (pushed group row) Ids
 ids_kept group row differ fresh =
-    subst (AllPairs Differ) (sym (ids_of-pushed group row)) (ids_pushed group.id row.1.id (map (λ (pv : List ℕ × Pv). pv.1.id) group.pvs) (map (λ (lv : List ℕ × Lv). lv.1.id) group.lvs) differ fresh)
+    subst (AllPairs Differ) (sym (ids_of-pushed group row))
+        (ids_pushed group.id row.1.id (map (λ (pv : List ℕ × Pv). pv.1.id) group.pvs) (map (λ (lv : List ℕ × Lv). lv.1.id) group.lvs) differ
+        fresh)
 
 -- ---- legs
 
@@ -80,7 +92,9 @@ ids_kept group row differ fresh =
 abbrev changed : Group → List ℕ → ℕ → List (List ℕ × Pv) → Group
 changed group name seqno pvs = record group { name = name; seqno = seqno; pvs = pvs }
 
-module _ (group : Group) (new : List ℕ) (seqno : ℕ) (pvs : List (List ℕ × Pv)) (stay : (k : ℕ) (pv : List ℕ × Pv) → slice_get group.pvs k ≡ Some pv → (row : List ℕ × Pv) × (slice_get pvs k ≡ Some row) × (row.1.pe_count ≡ pv.1.pe_count)) where
+module _ (group : Group) (new : List ℕ) (seqno : ℕ) (pvs : List (List ℕ × Pv))
+    (stay : (k : ℕ) (pv : List ℕ × Pv) → slice_get group.pvs k ≡ Some pv
+    → (row : List ℕ × Pv) × (slice_get pvs k ≡ Some row) × (row.1.pe_count ≡ pv.1.pe_count)) where
   abbrev other : Group
   other = changed group new seqno pvs
 
@@ -93,7 +107,8 @@ module _ (group : Group) (new : List ℕ) (seqno : ℕ) (pvs : List (List ℕ ×
   within_kept : Keeps group Within → Keeps other Within
   unfolding runs_of
   within_kept within =
-      All-weaker (λ (run : LegRun). LiesWithin group run.on (run.first + run.count)) (λ (run : LegRun). LiesWithin other run.on (run.first + run.count))
+      All-weaker (λ (run : LegRun). LiesWithin group run.on (run.first + run.count))
+          (λ (run : LegRun). LiesWithin other run.on (run.first + run.count))
       (λ (run : LegRun) lies. lies_within run.on (run.first + run.count) lies) (runs_of group) within
 
   apart_kept : Keeps group Apart → Keeps other Apart
@@ -133,7 +148,8 @@ module _ (group : Group) (new : List ℕ) (seqno : ℕ) (pvs : List (List ℕ ×
   }
 
   pvmove_kept : Keeps group Pvmove → Keeps other Pvmove
-  pvmove_kept allowed = record { one = allowed.one; whole = λ number name lv is has. move_kept number name lv (allowed.whole number name lv is has) }
+  pvmove_kept allowed =
+      record { one = allowed.one; whole = λ number name lv is has. move_kept number name lv (allowed.whole number name lv is has) }
 
   locked_kept : Keeps group Locked → Keeps other Locked
   locked_kept locked number lv is has =
@@ -141,7 +157,8 @@ module _ (group : Group) (new : List ℕ) (seqno : ℕ) (pvs : List (List ℕ ×
       (moving.0, ways_stay (number ∷ moving.0) moving.1, moving.2)
 
   -- the rules but those on numbers, ids, the number of volumes and physical volumes
-  pub legs_kept : Keeps other Numbers → Keeps other Ids → Keeps other Extents → (rule : Rule) → number_of rule ≢ 3 → Keeps group rule → Keeps other rule
+  pub legs_kept : Keeps other Numbers → Keeps other Ids → Keeps other Extents → (rule : Rule) → number_of rule ≢ 3 → Keeps group rule
+      → Keeps other rule
   legs_kept numbers ids extents Numbers apart kept = numbers
   legs_kept numbers ids extents Ids apart kept = ids
   legs_kept numbers ids extents Volumes apart kept = absurd (apart refl)
@@ -174,17 +191,21 @@ base_pushed group row base may = record {
       legs_kept group group.name group.seqno (group.pvs ++ row ∷ []) (λ k pv is. (pv, slice_get-pushed group.pvs (row ∷ []) k pv is, refl))
       (numbers_kept group row may.small (base.kept Numbers (λ e. omega (arith, e))))
       (ids_kept group row (base.kept Ids (λ e. omega (arith, e))) may.fresh)
-      (all_pushed (λ (pv : List ℕ × Pv). FitsDevice group.extent_size pv.1) group.pvs row (base.kept Extents (λ e. omega (arith, e))) may.fits)
+      (all_pushed (λ (pv : List ℕ × Pv). FitsDevice group.extent_size pv.1) group.pvs row (base.kept Extents (λ e. omega (arith, e)))
+          may.fits)
       rule apart (base.kept rule apart);
   lvs = base.lvs;
   max_lv = base.max_lv;
 }
 
-version_numbers : (group : Group) (new : List ℕ) (seqno : ℕ) → 1 ≤ seqno → seqno ≤ 4294967295 → Keeps group Numbers → Keeps (record group { name = new; seqno = seqno }) Numbers
-version_numbers group new seqno some most numbers = record { seqno = (some, most); extent_size = numbers.extent_size; limits = numbers.limits; pvs = numbers.pvs; lvs = numbers.lvs }
+version_numbers : (group : Group) (new : List ℕ) (seqno : ℕ) → 1 ≤ seqno → seqno ≤ 4294967295 → Keeps group Numbers
+    → Keeps (record group { name = new; seqno = seqno }) Numbers
+version_numbers group new seqno some most numbers =
+    record { seqno = (some, most); extent_size = numbers.extent_size; limits = numbers.limits; pvs = numbers.pvs; lvs = numbers.lvs }
 
 -- another version, with another name, keeps them too
-pub base_renamed : (group : Group) (new : List ℕ) (seqno : ℕ) → 1 ≤ seqno → seqno ≤ 4294967295 → IsBase group → IsBase (record group { name = new; seqno = seqno })
+pub base_renamed : (group : Group) (new : List ℕ) (seqno : ℕ) → 1 ≤ seqno → seqno ≤ 4294967295 → IsBase group
+    → IsBase (record group { name = new; seqno = seqno })
 base_renamed group new seqno some most base = record {
   kept = λ rule apart.
       legs_kept group new seqno group.pvs (λ k pv is. (pv, is, refl))

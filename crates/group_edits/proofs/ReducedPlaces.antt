@@ -31,21 +31,24 @@ module _ (group : Group) (removed : ℕ) (unused : has_leg_on_pv group removed �
   abbrev IsOther : ℕ → Type 0
   IsOther pv = pv ≢ removed
 
-  pv_there : (k : ℕ) (pv : List ℕ × Pv) → IsOther k → slice_get group.pvs k ≡ Some pv → slice_get rest.pvs (number_without removed k) ≡ Some pv
+  pv_there : (k : ℕ) (pv : List ℕ × Pv) → IsOther k → slice_get group.pvs k ≡ Some pv
+      → slice_get rest.pvs (number_without removed k) ≡ Some pv
   pv_there k pv other is = get_without group.pvs removed k other ∙ is
 
   met_there : (lv sector : ℕ) (m : Met) → Meets group lv sector m → met rest lv sector ≡ Some (met_by (on_without_pv removed) lv m)
   unfolding met
   met_there lv sector m meets =
       ap (option_and_then (λ (r : List ℕ × Lv). option_map (make rest lv sector) (segment_from group.extent_size sector 0 r.1.segments)))
-      (slice_get-map (renumbered_row (on_without_pv removed)) group.lvs lv ∙ ap (option_map (renumbered_row (on_without_pv removed))) meets.is_volume)
+      (slice_get-map (renumbered_row (on_without_pv removed)) group.lvs lv
+          ∙ ap (option_map (renumbered_row (on_without_pv removed))) meets.is_volume)
       ∙ met_renumbered (on_without_pv removed) rest lv group lv sector m refl meets
 
   on_other : (o : On) → o ≢ on.Pv removed → OnStays IsOther Any o
   on_other (on.Pv pv) other = λ same. other (ap on.Pv same)
   on_other (on.Lv lv) other = tt
 
-  taken : (lv sector : ℕ) (m : Met) (spot : Spot) → Any lv → met group lv sector ≡ Some m → primary_spot group.extent_size m ≡ Some spot → IsTaken rest (number_without removed) unchanged IsOther Any lv sector spot
+  taken : (lv sector : ℕ) (m : Met) (spot : Spot) → Any lv → met group lv sector ≡ Some m → primary_spot group.extent_size m ≡ Some spot
+      → IsTaken rest (number_without removed) unchanged IsOther Any lv sector spot
   taken lv sector m spot stays is is_spot =
       let meets : Meets group lv sector m = meets_is group lv sector m is in
       let j : ℕ = primary_leg m.segment.count m.segment.kind m.at in
@@ -53,9 +56,15 @@ module _ (group : Group) (removed : ℕ) (unused : has_leg_on_pv group removed �
       record {
         m = met_by (on_without_pv removed) lv m;
         meets = met_there lv sector m meets;
-        is_spot = spot_renumbered (on_without_pv removed) group.extent_size lv m spot is_spot ∙ ap (λ (o : On). Some (record { on = o; sector = spot.sector })) (on_new removed spot.on);
-        stays = subst (OnStays IsOther Any) leg.on (on_other leg.it.on (leg_elsewhere removed group unused lv meets.volume m.number m.segment j leg.it meets.is_volume meets.is_segment leg.is_leg));
+        is_spot =
+            spot_renumbered (on_without_pv removed) group.extent_size lv m spot is_spot
+                ∙ ap (λ (o : On). Some (record { on = o; sector = spot.sector })) (on_new removed spot.on);
+        stays =
+            subst (OnStays IsOther Any) leg.on (on_other leg.it.on
+                (leg_elsewhere removed group unused lv meets.volume m.number m.segment j leg.it meets.is_volume meets.is_segment
+                leg.is_leg));
       }
 
-  pub primary_reduced : (lv sector : ℕ) (at : At) → primary group lv sector ≡ Some at → primary rest lv sector ≡ Some (at_by (number_without removed) at)
+  pub primary_reduced : (lv sector : ℕ) (at : At) → primary group lv sector ≡ Some at
+      → primary rest lv sector ≡ Some (at_by (number_without removed) at)
   primary_reduced lv sector at is = primary_by group rest (number_without removed) unchanged IsOther Any pv_there taken lv sector at tt is

@@ -1,5 +1,6 @@
 -- What legs cover once a physical volume on which none of them lies was taken out.
-use Rattle.std.proofs.Common.{◌≡◌, ◌≢◌, ◌≤◌, ◌<◌, ℕ, zero, suc, ◌+◌, ◌-◌, Bool, true, false, ◌||◌, cond, List, [], ◌∷◌, ◌++◌, get_or, map, Some, refl, sym, ap, subst, ◌∙◌, arith}
+use Rattle.std.proofs.Common.{◌≡◌, ◌≢◌, ◌≤◌, ◌<◌, ℕ, zero, suc, ◌+◌, ◌-◌, Bool, true, false, ◌||◌, cond, List, [], ◌∷◌, ◌++◌, get_or, map,
+    Some, refl, sym, ap, subst, ◌∙◌, arith}
 use Rattle.std.specs.Prelude.{nat_lt, slice_get, All}
 use Rattle.std.specs.List.{list_any, remove}
 use Rattle.std.proofs.lemmas.Bool.{eq-eqb, ltb-false, ltb-true, true≢false}
@@ -17,7 +18,8 @@ use Rattle.volume_rules.proofs.LegRuns.{IsRunOf, run_is}
 use Rattle.volume_rules.specs.Legs.{LegRun, runs_of, runs_of_segments, runs_of_volumes}
 use Rattle.group_edits.proofs.Inserted.{none_at, none_by}
 use Rattle.group_edits.proofs.Renumbered.{run_by, segments_by, unchanged}
-use Rattle.group_edits.specs.ReducedGroup.{has_leg_on_pv, is_on_pv, leg_is_on_pv, lies_on_pv, number_without, on_without_pv, segment_is_on_pv}
+use Rattle.group_edits.specs.ReducedGroup.{has_leg_on_pv, is_on_pv, leg_is_on_pv, lies_on_pv, number_without, on_without_pv,
+    segment_is_on_pv}
 use Rattle.group_edits.specs.Renumbered.{renumbered_row}
 
 -- a run on what has another number then
@@ -25,14 +27,16 @@ abbrev pub reduced_run : ℕ → LegRun → LegRun
 reduced_run removed run = run_by (on_without_pv removed) unchanged run
 
 module _ (removed : ℕ) where
-  volumes_runs : (at : ℕ) (lvs : List (List ℕ × Lv)) → runs_of_volumes at (map (renumbered_row (on_without_pv removed)) lvs) ≡ map (reduced_run removed) (runs_of_volumes at lvs)
+  volumes_runs : (at : ℕ) (lvs : List (List ℕ × Lv))
+      → runs_of_volumes at (map (renumbered_row (on_without_pv removed)) lvs) ≡ map (reduced_run removed) (runs_of_volumes at lvs)
   volumes_runs at [] = refl
   volumes_runs at (lv ∷ lvs) =
       (λ i. sym (segments_by (on_without_pv removed) unchanged at 0 lv.1.segments) i ++ volumes_runs (at + 1) lvs i)
       ∙ sym (map-append (reduced_run removed) (runs_of_segments at 0 lv.1.segments) (runs_of_volumes (at + 1) lvs))
 
 -- the runs of a group whose legs are renumbered
-pub runs_reduced : (removed : ℕ) (group other : Group) → other.lvs ≡ map (renumbered_row (on_without_pv removed)) group.lvs → runs_of other ≡ map (reduced_run removed) (runs_of group)
+pub runs_reduced : (removed : ℕ) (group other : Group) → other.lvs ≡ map (renumbered_row (on_without_pv removed)) group.lvs
+    → runs_of other ≡ map (reduced_run removed) (runs_of group)
 unfolding runs_of
 runs_reduced removed group other same = ap (runs_of_volumes 0) same ∙ volumes_runs removed 0 group.lvs
 
@@ -48,11 +52,13 @@ other_on removed is other same = true≢false (sym (own removed) ∙ ap (is_on_p
     own n = eq-eqb n n refl
 
 none_got : {X : Type 0} (p : X → Bool) (xs : List X) (n : ℕ) (x : X) → list_any p xs ≡ false → slice_get xs n ≡ Some x → p x ≡ false
-none_got p xs n x none is = subst (λ y. p y ≡ false) (get_or_from_slice_get xs n x x is) (none_at p xs n x none (slice_get_within xs n x is))
+none_got p xs n x none is =
+    subst (λ y. p y ≡ false) (get_or_from_slice_get xs n x x is) (none_at p xs n x none (slice_get_within xs n x is))
 
 -- each leg lies elsewhere
 pub leg_elsewhere : (removed : ℕ) (group : Group) → has_leg_on_pv group removed ≡ false
-    → (n : ℕ) (row : List ℕ × Lv) (s : ℕ) (segment : Segment) (j : ℕ) (leg : Leg) → slice_get group.lvs n ≡ Some row → slice_get row.1.segments s ≡ Some segment → slice_get (legs_of segment.kind) j ≡ Some leg → leg.on ≢ on.Pv removed
+    → (n : ℕ) (row : List ℕ × Lv) (s : ℕ) (segment : Segment) (j : ℕ) (leg : Leg) → slice_get group.lvs n ≡ Some row
+    → slice_get row.1.segments s ≡ Some segment → slice_get (legs_of segment.kind) j ≡ Some leg → leg.on ≢ on.Pv removed
 leg_elsewhere removed group unused n row s segment j leg there stands is =
     let lv : lies_on_pv removed row.1 ≡ false = none_got (λ (r : List ℕ × Lv). lies_on_pv removed r.1) group.lvs n row unused there in
     let legs : segment_is_on_pv removed segment ≡ false = none_got (segment_is_on_pv removed) row.1.segments s segment lv stands in
@@ -63,11 +69,13 @@ pub runs_elsewhere : (removed : ℕ) (group : Group) → has_leg_on_pv group rem
 runs_elsewhere removed group unused k d within =
     let run : LegRun = get_or (runs_of group) k d in
     let is : IsRunOf group.lvs 0 run = run_is group run (All-contains_itself (runs_of group) k d within) in
-    λ same. leg_elsewhere removed group unused is.nth is.volume run.segment is.segment run.leg is.leg is.is_volume is.is_segment is.is_leg (sym is.on_is ∙ same)
+    λ same. leg_elsewhere removed group unused is.nth is.volume run.segment is.segment run.leg is.leg is.is_volume is.is_segment is.is_leg
+        (sym is.on_is ∙ same)
 
 -- ---- numbers
 
-by_tests : (a b : Bool) (removed n : ℕ) → (a ≡ true → removed < n) → (a ≡ false → n ≤ removed) → (b ≡ true → removed < n) → (b ≡ false → n ≤ removed) → cond a (suc n - 1) (suc n) ≡ suc (cond b (n - 1) n)
+by_tests : (a b : Bool) (removed n : ℕ) → (a ≡ true → removed < n) → (a ≡ false → n ≤ removed) → (b ≡ true → removed < n)
+    → (b ≡ false → n ≤ removed) → cond a (suc n - 1) (suc n) ≡ suc (cond b (n - 1) n)
 by_tests true true removed n above below above' below' = let less = above refl in omega (arith, less)
 by_tests true false removed n above below above' below' = let less = above refl in let most = below' refl in omega (arith, less, most)
 by_tests false true removed n above below above' below' = let most = below refl in let less = above' refl in omega (arith, less, most)
@@ -76,7 +84,8 @@ by_tests false false removed n above below above' below' = refl
 pub number_suc : (removed n : ℕ) → number_without (suc removed) (suc n) ≡ suc (number_without removed n)
 number_suc removed n =
     by_tests (nat_lt (suc removed) (suc n)) (nat_lt removed n) removed n
-    (λ test. let less : suc removed < suc n = ltb-true (suc removed) (suc n) test in omega (arith, less)) (λ test. let most : suc n ≤ suc removed = ltb-false (suc removed) (suc n) test in omega (arith, most))
+    (λ test. let less : suc removed < suc n = ltb-true (suc removed) (suc n) test in omega (arith, less))
+        (λ test. let most : suc n ≤ suc removed = ltb-false (suc removed) (suc n) test in omega (arith, most))
     (ltb-true removed n) (ltb-false removed n)
 
 above_test : (b : Bool) (n : ℕ) → (b ≡ false → suc n ≤ 0) → cond b (suc n - 1) (suc n) ≡ n
@@ -96,7 +105,8 @@ pub number_below : (removed : ℕ) → number_without (suc removed) 0 ≡ 0
 number_below removed = below_test (nat_lt (suc removed) 0) removed (ltb-true (suc removed) 0)
 
 -- a row that isn't the one that is taken out is found by its new number
-pub get_without : {X : Type 0} (xs : List X) (removed n : ℕ) → n ≢ removed → slice_get (remove xs removed) (number_without removed n) ≡ slice_get xs n
+pub get_without : {X : Type 0} (xs : List X) (removed n : ℕ) → n ≢ removed
+    → slice_get (remove xs removed) (number_without removed n) ≡ slice_get xs n
 get_without [] zero n other = refl
 get_without [] (suc removed) n other = refl
 get_without (x ∷ xs) zero zero other = absurd (other refl)

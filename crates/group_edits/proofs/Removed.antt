@@ -1,5 +1,6 @@
 -- A group without a visible volume that isn't moving, and without those that go with it, keeps all rules, and a tree stands for it.
-use Rattle.std.proofs.Common.{◌≡◌, ◌<◌, ℕ, zero, suc, ◌+◌, Bool, true, false, not, ◌||◌, ◌&&◌, List, [], ◌∷◌, ◌++◌, length, get_or, Option, Some, None, refl, sym, ap, subst, ◌∙◌, arith}
+use Rattle.std.proofs.Common.{◌≡◌, ◌<◌, ℕ, zero, suc, ◌+◌, Bool, true, false, not, ◌||◌, ◌&&◌, List, [], ◌∷◌, ◌++◌, length, get_or, Option,
+    Some, None, refl, sym, ap, subst, ◌∙◌, arith}
 use Rattle.std.specs.Prelude.{◌≢◌, ◌==◌, slice_get, Contains, IsSomeAnd}
 use Rattle.std.specs.List.{list_all, list_any, range_with_len}
 use Rattle.std.proofs.lemmas.Bool.{eq-eqb, false≢true, true≢false}
@@ -35,11 +36,13 @@ use Rattle.group_edits.specs.Visible.{IsVisible}
 pub any_found : {X : Type 0} (p : X → Bool) (xs : List X) → list_any p xs ≡ true → (x : X) × Contains xs x × (p x ≡ true)
 any_found p [] is = absurd (false≢true is)
 any_found {X = X} p (x ∷ xs) is = by (p x) refl is (λ later. any_found p xs later) where
-  by : (b : Bool) → p x ≡ b → (b || list_any p xs) ≡ true → (list_any p xs ≡ true → (y : X) × Contains xs y × (p y ≡ true)) → (y : X) × Contains (x ∷ xs) y × (p y ≡ true)
+  by : (b : Bool) → p x ≡ b → (b || list_any p xs) ≡ true → (list_any p xs ≡ true → (y : X) × Contains xs y × (p y ≡ true))
+      → (y : X) × Contains (x ∷ xs) y × (p y ≡ true)
   by true passes made later = (x, contains_first x xs, passes)
   by false passes made later = let found = later made in (found.0, contains_later x found.0 xs found.1, found.2)
 
-any_there : {X : Type 0} (p : X → Bool) (xs : List X) (x : X) (k : ℕ) → k < length xs → get_or xs k x ≡ x → p x ≡ true → list_any p xs ≡ true
+any_there : {X : Type 0} (p : X → Bool) (xs : List X) (x : X) (k : ℕ) → k < length xs → get_or xs k x ≡ x → p x ≡ true
+    → list_any p xs ≡ true
 any_there p [] x k within is passes = absurd (omega (arith, within))
 any_there p (y ∷ xs) x zero within is passes = ap (λ (b : Bool). b || list_any p xs) (ap p is ∙ passes)
 any_there p (y ∷ xs) x (suc k) within is passes = or_true (p y) (list_any p xs) (any_there p xs x k (omega (arith, within)) is passes) where
@@ -47,7 +50,8 @@ any_there p (y ∷ xs) x (suc k) within is passes = or_true (p y) (list_any p xs
   or_true true b is = refl
   or_true false b is = is
 
-all_there : {X : Type 0} (p : X → Bool) (xs : List X) (x : X) (k : ℕ) → k < length xs → get_or xs k x ≡ x → list_all p xs ≡ true → p x ≡ true
+all_there : {X : Type 0} (p : X → Bool) (xs : List X) (x : X) (k : ℕ) → k < length xs → get_or xs k x ≡ x → list_all p xs ≡ true
+    → p x ≡ true
 all_there p [] x k within is all = absurd (omega (arith, within))
 all_there p (y ∷ xs) x zero within is all = sym (ap p is) ∙ (both_true (p y) (list_all p xs) all).0
 all_there p (y ∷ xs) x (suc k) within is all = all_there p xs x k (omega (arith, within)) is (both_true (p y) (list_all p xs) all).1
@@ -60,9 +64,11 @@ all_more p q more (x ∷ xs) all =
 
 in_range : (a n k : ℕ) → k < n → Contains (range_with_len a n) (a + k)
 in_range a zero k below = absurd (omega (arith, below))
-in_range a (suc n) zero below = subst (Contains (a ∷ range_with_len (a + 1) n)) (let e : a ≡ a + 0 = omega arith in e) (contains_first a (range_with_len (a + 1) n))
+in_range a (suc n) zero below =
+    subst (Contains (a ∷ range_with_len (a + 1) n)) (let e : a ≡ a + 0 = omega arith in e) (contains_first a (range_with_len (a + 1) n))
 in_range a (suc n) (suc k) below =
-    subst (Contains (a ∷ range_with_len (a + 1) n)) (let e : a + 1 + k ≡ a + suc k = omega arith in e) (contains_later a (a + 1 + k) (range_with_len (a + 1) n) (in_range (a + 1) n k (omega (arith, below))))
+    subst (Contains (a ∷ range_with_len (a + 1) n)) (let e : a + 1 + k ≡ a + suc k = omega arith in e)
+        (contains_later a (a + 1 + k) (range_with_len (a + 1) n) (in_range (a + 1) n k (omega (arith, below))))
 
 pub same_number : (a b : ℕ) → (a == b) ≡ true → a ≡ b
 same_number a b is = grind (arith, nat_tests)
@@ -74,7 +80,8 @@ last_of a [] = a
 last_of a (x ∷ xs) = last_of x xs
 
 module _ (group : Group) where
-  longer : (a : ℕ) (way : List ℕ) (b m : ℕ) → IsWayDown group (a ∷ way) → last_of a way ≡ b → LiesOn group b m → IsWayDown group (a ∷ (way ++ m ∷ []))
+  longer : (a : ℕ) (way : List ℕ) (b m : ℕ) → IsWayDown group (a ∷ way) → last_of a way ≡ b → LiesOn group b m
+      → IsWayDown group (a ∷ (way ++ m ∷ []))
   longer a [] b m down is lies = (subst (λ (x : ℕ). LiesOn group x m) (sym is) lies, tt)
   longer a (x ∷ way) b m down is lies = (down.0, longer x way b m down.1 is lies)
 
@@ -83,7 +90,9 @@ module _ (group : Group) where
   last_longer a (x ∷ way) m = last_longer x way m
 
   has_leg : (n m : ℕ) → LiesOn group n m → has_leg_on group m n ≡ true
-  has_leg n m lies = let within = names_from group n m lies in any_there (λ (below : ℕ). below == m) (named_by group n) m within.0 within.1 within.2 (eq-eqb m m refl)
+  has_leg n m lies =
+      let within = names_from group n m lies in any_there (λ (below : ℕ). below == m) (named_by group n) m within.0 within.1 within.2
+          (eq-eqb m m refl)
 
   pub leg_lies : (n m : ℕ) → has_leg_on group m n ≡ true → LiesOn group n m
   leg_lies n m is =
@@ -114,47 +123,69 @@ module _ (group : Group) (removed : ℕ) where
   reaches : (steps n : ℕ) → goes_with group removed steps n ≡ true → Reaches n
   reaches zero n is = ([], tt, sym (same_number n removed is))
   reaches (suc steps) n is = by (n == removed) refl is (λ x goes. reaches steps x goes) where
-    by : (b : Bool) → (n == removed) ≡ b → (b || (list_any (has_leg_on group n) (lv_numbers group) && list_all (λ upper. not (has_leg_on group n upper) || goes_with group removed steps upper) (lv_numbers group))) ≡ true
+    by : (b : Bool) → (n == removed) ≡ b → (b
+        || (list_any (has_leg_on group n) (lv_numbers group)
+        && list_all (λ upper. not (has_leg_on group n upper) || goes_with group removed steps upper) (lv_numbers group))) ≡ true
         → ((x : ℕ) → goes_with group removed steps x ≡ true → Reaches x) → Reaches n
     by true same made later = ([], tt, sym (same_number n removed same))
     by false same made later =
-        let both = both_true (list_any (has_leg_on group n) (lv_numbers group)) (list_all (λ upper. not (has_leg_on group n upper) || goes_with group removed steps upper) (lv_numbers group)) made in
+        let both =
+            both_true (list_any (has_leg_on group n) (lv_numbers group))
+                (list_all (λ upper. not (has_leg_on group n upper) || goes_with group removed steps upper) (lv_numbers group)) made in
         let found = any_found (has_leg_on group n) (lv_numbers group) both.0 in
         let goes : goes_with group removed steps found.0 ≡ true =
         the_rest (has_leg_on group n found.0) (goes_with group removed steps found.0) found.2
-        (all_there (λ upper. not (has_leg_on group n upper) || goes_with group removed steps upper) (lv_numbers group) found.0 found.1.0 found.1.1 found.1.2 both.1)
+        (all_there (λ upper. not (has_leg_on group n upper) || goes_with group removed steps upper) (lv_numbers group) found.0 found.1.0
+            found.1.1 found.1.2 both.1)
         in
         let upper : Reaches found.0 = later found.0 goes in
-        (upper.0 ++ n ∷ [], longer group removed upper.0 found.0 n upper.1 upper.2 (leg_lies group found.0 n found.2), last_longer group removed upper.0 n)
+        (upper.0 ++ n ∷ [], longer group removed upper.0 found.0 n upper.1 upper.2 (leg_lies group found.0 n found.2),
+            last_longer group removed upper.0 n)
 
   -- what goes in some steps goes in one more
   goes_more : (steps n : ℕ) → goes_with group removed steps n ≡ true → goes_with group removed (suc steps) n ≡ true
-  goes_more zero n is = ap (λ (b : Bool). b || (list_any (has_leg_on group n) (lv_numbers group) && list_all (λ upper. not (has_leg_on group n upper) || goes_with group removed zero upper) (lv_numbers group))) is
+  goes_more zero n is =
+      ap (λ (b : Bool). b || (list_any (has_leg_on group n) (lv_numbers group)
+          && list_all (λ upper. not (has_leg_on group n upper) || goes_with group removed zero upper) (lv_numbers group))) is
   goes_more (suc steps) n is = by (n == removed) is (λ x goes. goes_more steps x goes) where
-    by : (b : Bool) → (b || (list_any (has_leg_on group n) (lv_numbers group) && list_all (λ upper. not (has_leg_on group n upper) || goes_with group removed steps upper) (lv_numbers group))) ≡ true
+    by : (b : Bool) → (b || (list_any (has_leg_on group n) (lv_numbers group)
+        && list_all (λ upper. not (has_leg_on group n upper) || goes_with group removed steps upper) (lv_numbers group))) ≡ true
         → ((x : ℕ) → goes_with group removed steps x ≡ true → goes_with group removed (suc steps) x ≡ true)
-        → (b || (list_any (has_leg_on group n) (lv_numbers group) && list_all (λ upper. not (has_leg_on group n upper) || goes_with group removed (suc steps) upper) (lv_numbers group))) ≡ true
+        → (b || (list_any (has_leg_on group n) (lv_numbers group)
+        && list_all (λ upper. not (has_leg_on group n upper) || goes_with group removed (suc steps) upper) (lv_numbers group))) ≡ true
     by true made later = refl
     by false made later =
-        let both = both_true (list_any (has_leg_on group n) (lv_numbers group)) (list_all (λ upper. not (has_leg_on group n upper) || goes_with group removed steps upper) (lv_numbers group)) made in
-        ap (λ (b : Bool). b && list_all (λ upper. not (has_leg_on group n upper) || goes_with group removed (suc steps) upper) (lv_numbers group)) both.0
-        ∙ all_more (λ upper. not (has_leg_on group n upper) || goes_with group removed steps upper) (λ upper. not (has_leg_on group n upper) || goes_with group removed (suc steps) upper)
-        (λ x passes. implied (has_leg_on group n x) (goes_with group removed steps x) (goes_with group removed (suc steps) x) (later x) passes) (lv_numbers group) both.1
+        let both =
+            both_true (list_any (has_leg_on group n) (lv_numbers group))
+                (list_all (λ upper. not (has_leg_on group n upper) || goes_with group removed steps upper) (lv_numbers group)) made in
+        ap (λ (b : Bool). b && list_all (λ upper. not (has_leg_on group n upper) || goes_with group removed (suc steps) upper)
+            (lv_numbers group)) both.0
+        ∙ all_more (λ upper. not (has_leg_on group n upper) || goes_with group removed steps upper)
+        (λ upper. not (has_leg_on group n upper) || goes_with group removed (suc steps) upper)
+        (λ x passes. implied (has_leg_on group n x) (goes_with group removed steps x) (goes_with group removed (suc steps) x) (later x)
+            passes) (lv_numbers group) both.1
 
-  module _ (accepted : IsAccepted group) (row : List ℕ × Lv) (there : slice_get group.lvs removed ≡ Some row) (seen : row.1.status.visible ≡ true) where
+  module _ (accepted : IsAccepted group) (row : List ℕ × Lv) (there : slice_get group.lvs removed ≡ Some row)
+      (seen : row.1.status.visible ≡ true) where
     -- what one that stays lies on stays
     goes_up : (n m : ℕ) → LiesOn group n m → goes_with group removed 4 m ≡ true → goes_with group removed 4 n ≡ true
     goes_up n m lies goes = by (m == removed) refl goes where
-      by : (b : Bool) → (m == removed) ≡ b → (b || (list_any (has_leg_on group m) (lv_numbers group) && list_all (λ upper. not (has_leg_on group m upper) || goes_with group removed 3 upper) (lv_numbers group))) ≡ true → goes_with group removed 4 n ≡ true
+      by : (b : Bool) → (m == removed) ≡ b → (b
+          || (list_any (has_leg_on group m) (lv_numbers group)
+          && list_all (λ upper. not (has_leg_on group m upper) || goes_with group removed 3 upper) (lv_numbers group))) ≡ true
+          → goes_with group removed 4 n ≡ true
       by true same made =
           let at : m ≡ removed = same_number m removed same in
           absurd (true≢false (sym seen ∙ (accepted rule.Depth).hidden n removed row.1 (subst (LiesOn group n) at lies) (row.0, there)))
       by false same made =
-          let both = both_true (list_any (has_leg_on group m) (lv_numbers group)) (list_all (λ upper. not (has_leg_on group m upper) || goes_with group removed 3 upper) (lv_numbers group)) made in
+          let both =
+              both_true (list_any (has_leg_on group m) (lv_numbers group))
+                  (list_all (λ upper. not (has_leg_on group m upper) || goes_with group removed 3 upper) (lv_numbers group)) made in
           let within = numbered group n m lies in
           goes_more 3 n
           (the_rest (has_leg_on group m n) (goes_with group removed 3 n) (has_leg group n m lies)
-          (all_there (λ upper. not (has_leg_on group m upper) || goes_with group removed 3 upper) (lv_numbers group) n within.0 within.1 within.2 both.1))
+          (all_there (λ upper. not (has_leg_on group m upper) || goes_with group removed 3 upper) (lv_numbers group) n within.0 within.1
+              within.2 both.1))
 
     pub closed : (n m : ℕ) → stays group removed n ≡ true → LiesOn group n m → stays group removed m ≡ true
     unfolding stays
@@ -171,11 +202,14 @@ module _ (group : Group) (removed : ℕ) where
       by true goes =
           let way : Reaches n = reaches 4 n goes in
           let moving : IsMoving group removed =
-          (way.0 ++ m ∷ [], longer group removed way.0 n m way.1 way.2 lies, (m, contains_later removed m (way.0 ++ m ∷ []) (Contains-push way.0 m), is))
+          (way.0 ++ m ∷ [], longer group removed way.0 n m way.1 way.2 lies,
+              (m, contains_later removed m (way.0 ++ m ∷ []) (Contains-push way.0 m), is))
           in
           absurd (true≢false (sym ((moving_is group removed (accepted rule.Depth)).1 moving) ∙ still))
 
-    legs_stay : (k : ℕ) (lv : List ℕ × Lv) (s : ℕ) (segment : Segment) (j : ℕ) (leg : Leg) → slice_get group.lvs k ≡ Some lv → stays group removed (0 + k) ≡ true → slice_get lv.1.segments s ≡ Some segment → slice_get (legs_of segment.kind) j ≡ Some leg → IsStaying group (stays group removed) leg.on
+    legs_stay : (k : ℕ) (lv : List ℕ × Lv) (s : ℕ) (segment : Segment) (j : ℕ) (leg : Leg) → slice_get group.lvs k ≡ Some lv
+        → stays group removed (0 + k) ≡ true → slice_get lv.1.segments s ≡ Some segment → slice_get (legs_of segment.kind) j ≡ Some leg
+        → IsStaying group (stays group removed) leg.on
     legs_stay k lv s segment j leg is stayed there' at = by leg.on refl where
       by : (o : On) → leg.on ≡ o → IsStaying group (stays group removed) o
       by (on.Pv pv) on_is = tt
@@ -183,26 +217,33 @@ module _ (group : Group) (removed : ℕ) where
           let r = run_of group k lv s segment j leg is there' at in
           let run_on : r.0.on ≡ on.Lv m = r.5 ∙ on_is in
           let inside : LiesWithin group (on.Lv m) (r.0.first + r.0.count) =
-          subst (λ (o : On). LiesWithin group o (r.0.first + r.0.count)) run_on (All-contains (λ (run : LegRun). LiesWithin group run.on (run.first + run.count)) (runs_of group) r.0 (accepted rule.Within) r.1)
+          subst (λ (o : On). LiesWithin group o (r.0.first + r.0.count)) run_on
+              (All-contains (λ (run : LegRun). LiesWithin group run.on (run.first + run.count)) (runs_of group) r.0 (accepted rule.Within)
+              r.1)
           in
-          (closed k m (ap (stays group removed) (let e : k ≡ 0 + k = omega arith in e) ∙ stayed) (r.0, r.1, r.2, run_on), ((inside.1.0, inside.0), inside.1.1))
+          (closed k m (ap (stays group removed) (let e : k ≡ 0 + k = omega arith in e) ∙ stayed) (r.0, r.1, r.2, run_on),
+              ((inside.1.0, inside.0), inside.1.1))
 
-    without_whole : HasTree group → leads_to_pvmove group 4 removed ≡ false → group.seqno < 4294967295 → IsWhole (without_volume group removed)
+    without_whole : HasTree group → leads_to_pvmove group 4 removed ≡ false → group.seqno < 4294967295
+        → IsWhole (without_volume group removed)
     without_whole tree still below = record {
       accepted = staying_accepted group (stays group removed) closed accepted (upper_stays still) below;
       tree = has_tree (without_volume group removed) (staying_printable group (stays group removed) legs_stay below (printable group tree));
     }
 
 -- where the volume is visible
-pub removed_whole : (group : Group) (number : ℕ) → IsVisible group number → leads_to_pvmove group 4 number ≡ false → group.seqno ≢ 4294967295 → IsAccepted group → HasTree group → IsWhole (without_volume group number)
+pub removed_whole : (group : Group) (number : ℕ) → IsVisible group number → leads_to_pvmove group 4 number ≡ false
+    → group.seqno ≢ 4294967295 → IsAccepted group → HasTree group → IsWhole (without_volume group number)
 removed_whole group number visible still other accepted tree = by (slice_get group.lvs number) refl visible where
-  by : (o : Option (List ℕ × Lv)) → slice_get group.lvs number ≡ o → IsSomeAnd o (λ (row : List ℕ × Lv). row.1.status.visible ≡ true) → IsWhole (without_volume group number)
+  by : (o : Option (List ℕ × Lv)) → slice_get group.lvs number ≡ o → IsSomeAnd o (λ (row : List ℕ × Lv). row.1.status.visible ≡ true)
+      → IsWhole (without_volume group number)
   by None there seen = absurd seen
   by (Some row) there seen = without_whole group number accepted row there seen tree still (seqno_below group accepted other)
 
 -- it is one of the group's
 pub visible_stands : (group : Group) (number : ℕ) → IsVisible group number → number < length group.lvs
 visible_stands group number visible = by (slice_get group.lvs number) refl visible where
-  by : (o : Option (List ℕ × Lv)) → slice_get group.lvs number ≡ o → IsSomeAnd o (λ (row : List ℕ × Lv). row.1.status.visible ≡ true) → number < length group.lvs
+  by : (o : Option (List ℕ × Lv)) → slice_get group.lvs number ≡ o → IsSomeAnd o (λ (row : List ℕ × Lv). row.1.status.visible ≡ true)
+      → number < length group.lvs
   by None there seen = absurd seen
   by (Some row) there seen = slice_get_within group.lvs number row there

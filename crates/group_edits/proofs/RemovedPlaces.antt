@@ -28,7 +28,8 @@ on_new stays (on.Lv lv) = refl
 
 -- ---- the group
 
-module _ (group : Group) (stays : ℕ → Bool) (closed : (n m : ℕ) → stays n ≡ true → LiesOn group n m → stays m ≡ true) (accepted : IsAccepted group) where
+module _ (group : Group) (stays : ℕ → Bool) (closed : (n m : ℕ) → stays n ≡ true → LiesOn group n m → stays m ≡ true)
+    (accepted : IsAccepted group) where
   abbrev Stays : ℕ → Type 0
   Stays lv = stays lv ≡ true
 
@@ -40,14 +41,18 @@ module _ (group : Group) (stays : ℕ → Bool) (closed : (n m : ℕ) → stays 
   abbrev met_new : ℕ → Met → Met
   met_new lv m = met_by (on_after stays) (new stays lv) m
 
-  met_there : (lv sector : ℕ) (m : Met) → stays lv ≡ true → Meets group lv sector m → met (with_staying stays group) (new stays lv) sector ≡ Some (met_new lv m)
+  met_there : (lv sector : ℕ) (m : Met) → stays lv ≡ true → Meets group lv sector m
+      → met (with_staying stays group) (new stays lv) sector ≡ Some (met_new lv m)
   unfolding met
   met_there lv sector m stayed meets =
-      let row : IsLv (other group stays) (new stays lv) (renumbered_lv (on_after stays) meets.volume.1) = lv_there group stays lv meets.volume.1 (meets.volume.0, meets.is_volume) stayed in
-      ap (option_and_then (λ (r : List ℕ × Lv). option_map (make (with_staying stays group) (new stays lv) sector) (segment_from group.extent_size sector 0 r.1.segments))) row.1
+      let row : IsLv (other group stays) (new stays lv) (renumbered_lv (on_after stays) meets.volume.1) =
+          lv_there group stays lv meets.volume.1 (meets.volume.0, meets.is_volume) stayed in
+      ap (option_and_then (λ (r : List ℕ × Lv). option_map (make (with_staying stays group) (new stays lv) sector)
+          (segment_from group.extent_size sector 0 r.1.segments))) row.1
       ∙ met_renumbered (on_after stays) (with_staying stays group) (new stays lv) group lv sector m refl meets
 
-  taken : (lv sector : ℕ) (m : Met) (spot : Spot) → stays lv ≡ true → met group lv sector ≡ Some m → primary_spot group.extent_size m ≡ Some spot → IsTaken (with_staying stays group) unchanged (new stays) Any Stays lv sector spot
+  taken : (lv sector : ℕ) (m : Met) (spot : Spot) → stays lv ≡ true → met group lv sector ≡ Some m
+      → primary_spot group.extent_size m ≡ Some spot → IsTaken (with_staying stays group) unchanged (new stays) Any Stays lv sector spot
   taken lv sector m spot stayed is is_spot =
       let meets : Meets group lv sector m = meets_is group lv sector m is in
       let j : ℕ = primary_leg m.segment.count m.segment.kind m.at in
@@ -55,16 +60,24 @@ module _ (group : Group) (stays : ℕ → Bool) (closed : (n m : ℕ) → stays 
       record {
         m = met_new lv m;
         meets = met_there lv sector m stayed meets;
-        is_spot = spot_renumbered (on_after stays) group.extent_size (new stays lv) m spot is_spot ∙ ap (λ (o : On). Some (record { on = o; sector = spot.sector })) (on_new stays spot.on);
-        stays = subst (OnStays Any Stays) leg.on (leads_where lv (spot_in group.extent_size (offset_in m.segment.kind m.at) leg.it) stayed (leads_on group lv sector m j leg.it accepted meets leg.is_leg));
+        is_spot =
+            spot_renumbered (on_after stays) group.extent_size (new stays lv) m spot is_spot
+                ∙ ap (λ (o : On). Some (record { on = o; sector = spot.sector })) (on_new stays spot.on);
+        stays =
+            subst (OnStays Any Stays) leg.on (leads_where lv (spot_in group.extent_size (offset_in m.segment.kind m.at) leg.it) stayed
+                (leads_on group lv sector m j leg.it accepted meets leg.is_leg));
       }
 
   -- where what the volumes that stay lie on stays
-  pub primary_staying : (lv sector : ℕ) (at : At) → stays lv ≡ true → primary group lv sector ≡ Some at → primary (with_staying stays group) (new stays lv) sector ≡ Some at
-  primary_staying lv sector at stayed is = primary_by group (with_staying stays group) unchanged (new stays) Any Stays (λ k pv stands there. there) taken lv sector at stayed is
+  pub primary_staying : (lv sector : ℕ) (at : At) → stays lv ≡ true → primary group lv sector ≡ Some at
+      → primary (with_staying stays group) (new stays lv) sector ≡ Some at
+  primary_staying lv sector at stayed is =
+      primary_by group (with_staying stays group) unchanged (new stays) Any Stays (λ k pv stands there. there) taken lv sector at stayed is
 
 -- where a visible volume is removed
-pub primary_without : (group : Group) (removed : ℕ) (row : List ℕ × Lv) → IsAccepted group → slice_get group.lvs removed ≡ Some row → row.1.status.visible ≡ true
-    → (lv sector : ℕ) (at : At) → stays group removed lv ≡ true → primary group lv sector ≡ Some at → primary (without_volume group removed) (new (stays group removed) lv) sector ≡ Some at
+pub primary_without : (group : Group) (removed : ℕ) (row : List ℕ × Lv) → IsAccepted group → slice_get group.lvs removed ≡ Some row
+    → row.1.status.visible ≡ true
+    → (lv sector : ℕ) (at : At) → stays group removed lv ≡ true → primary group lv sector ≡ Some at
+    → primary (without_volume group removed) (new (stays group removed) lv) sector ≡ Some at
 primary_without group removed row accepted there seen lv sector at stayed is =
     primary_staying group (stays group removed) (closed group removed accepted row there seen) accepted lv sector at stayed is

@@ -23,7 +23,8 @@ module _ (group : Group) (name : List ℕ) where
   met_named lv sector m is = is
 
   pub primary_named : (lv sector : ℕ) (at : At) → primary group lv sector ≡ Some at → primary (renamed_group group name) lv sector ≡ Some at
-  primary_named lv sector at is = primary_where_met group (renamed_group group name) (λ k pv stays there. there) refl met_named lv sector at is
+  primary_named lv sector at is =
+      primary_where_met group (renamed_group group name) (λ k pv stays there. there) refl met_named lv sector at is
 
 -- ---- a volume
 
@@ -42,14 +43,19 @@ module _ (old new : List ℕ) (group : Group) where
   abbrev met_in : ℕ → ℕ → Lv → Option Met
   met_in lv sector volume = option_map (make group lv sector) (segment_from group.extent_size sector 0 volume.segments)
 
-  met_row : (lv sector : ℕ) (m : Met) (o : Option (List ℕ × Lv)) → option_and_then (λ (row : List ℕ × Lv). met_in lv sector row.1) o ≡ Some m → option_and_then (λ (row : List ℕ × Lv). met_in lv sector row.1) (option_map named o) ≡ Some m
+  met_row : (lv sector : ℕ) (m : Met) (o : Option (List ℕ × Lv))
+      → option_and_then (λ (row : List ℕ × Lv). met_in lv sector row.1) o ≡ Some m
+      → option_and_then (λ (row : List ℕ × Lv). met_in lv sector row.1) (option_map named o) ≡ Some m
   met_row lv sector m None is = absurd cc
   met_row lv sector m (Some row) is = ap (met_in lv sector) (named_same old new row) ∙ is
 
   met_renamed : (lv sector : ℕ) (m : Met) → met group lv sector ≡ Some m → met (renamed_volume old new group) lv sector ≡ Some m
   unfolding met
   met_renamed lv sector m is =
-      ap (option_and_then (λ (row : List ℕ × Lv). met_in lv sector row.1)) (slice_get-map named group.lvs lv) ∙ met_row lv sector m (slice_get group.lvs lv) is
+      ap (option_and_then (λ (row : List ℕ × Lv). met_in lv sector row.1)) (slice_get-map named group.lvs lv)
+          ∙ met_row lv sector m (slice_get group.lvs lv) is
 
-  pub primary_renamed : (lv sector : ℕ) (at : At) → primary group lv sector ≡ Some at → primary (renamed_volume old new group) lv sector ≡ Some at
-  primary_renamed lv sector at is = primary_where_met group (renamed_volume old new group) (λ k pv stays there. there) refl met_renamed lv sector at is
+  pub primary_renamed : (lv sector : ℕ) (at : At) → primary group lv sector ≡ Some at
+      → primary (renamed_volume old new group) lv sector ≡ Some at
+  primary_renamed lv sector at is =
+      primary_where_met group (renamed_volume old new group) (λ k pv stays there. there) refl met_renamed lv sector at is

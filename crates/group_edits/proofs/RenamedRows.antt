@@ -11,15 +11,19 @@ module _ (old new : List ℕ) where
   abbrev named : List ℕ × Lv → List ℕ × Lv
   named row = changed_if old (λ (r : List ℕ × Lv). (new, r.1)) row
 
-  row_is : (own name : List ℕ) (lv copy : Lv) → name ≡ (if same_bytes own old then new else own) → copy ≡ lv → (name, copy) ≡ named (own, lv)
-  row_is own name lv copy is same = ap (λ (n : List ℕ). (n, copy)) is ∙ ap (λ (v : Lv). (cond (same_bytes own old) new own, v)) same ∙ by (same_bytes own old) where
+  row_is : (own name : List ℕ) (lv copy : Lv) → name ≡ (if same_bytes own old then new else own) → copy ≡ lv
+      → (name, copy) ≡ named (own, lv)
+  row_is own name lv copy is same =
+      ap (λ (n : List ℕ). (n, copy)) is ∙ ap (λ (v : Lv). (cond (same_bytes own old) new own, v)) same ∙ by (same_bytes own old) where
     by : (b : Bool) → ◌≡◌ {A = List ℕ × Lv} (cond b new own, lv) (cond b (new, lv) (own, lv))
     by true = refl
     by false = refl
 
   -- one row more
-  pub next_renamed : (lvs all later : List (List ℕ × Lv)) (n : ℕ) (own name : List ℕ) (lv copy : Lv) → all ≡ map named (take n lvs) → slice_get lvs n ≡ Some (own, lv)
-      → name ≡ (if same_bytes own old then new else own) → copy ≡ lv → later ≡ all ++ (name, copy) ∷ [] → later ≡ map named (take (n + 1) lvs)
+  pub next_renamed : (lvs all later : List (List ℕ × Lv)) (n : ℕ) (own name : List ℕ) (lv copy : Lv) → all ≡ map named (take n lvs)
+      → slice_get lvs n ≡ Some (own, lv)
+      → name ≡ (if same_bytes own old then new else own) → copy ≡ lv → later ≡ all ++ (name, copy) ∷ []
+      → later ≡ map named (take (n + 1) lvs)
   next_renamed lvs all later n own name lv copy so_far there is same pushed =
       pushed
       ∙ ap (λ (rows : List (List ℕ × Lv)). rows ++ (name, copy) ∷ []) so_far

@@ -1,5 +1,6 @@
 -- What volumes keep whose legs lie on volumes by their new numbers, and what these legs cover.
-use Rattle.std.proofs.Common.{◌≡◌, ◌≤◌, ◌<◌, ℕ, ◌+◌, ◌*◌, ◌/◌, ◌^◌, Bool, List, [], ◌∷◌, ◌++◌, length, map, Some, None, refl, sym, ap, subst, ◌∙◌}
+use Rattle.std.proofs.Common.{◌≡◌, ◌≤◌, ◌<◌, ℕ, ◌+◌, ◌*◌, ◌/◌, ◌^◌, Bool, List, [], ◌∷◌, ◌++◌, length, map, Some, None, refl, sym, ap,
+    subst, ◌∙◌}
 use Rattle.std.specs.Prelude.{◌%◌, All}
 use Rattle.std.proofs.lemmas.List.{length-map, map-append}
 use Rattle.std.proofs.lemmas.List.Elements.{All-map, All-weaker}
@@ -13,7 +14,8 @@ use Rattle.meta_model.specs.declared.segment.SegKind.TheVariants.{Striped, Mirro
 use Rattle.meta_model.specs.declared.segment.Segment.{Segment}
 use Rattle.volume_rules.specs.Extents.{extents_of, leg_share}
 use Rattle.volume_rules.specs.Legs.{LegRun, runs_of_legs, runs_of_segments}
-use Rattle.volume_rules.specs.Rules.{Follow, IsPowerOfTwo, IsSmall, IsWholeMirror, IsWholeStriped, KindIsSmall, LvIsSmall, MovedIsAllowed, SegmentIsSmall}
+use Rattle.volume_rules.specs.Rules.{Follow, IsPowerOfTwo, IsSmall, IsWholeMirror, IsWholeStriped, KindIsSmall, LvIsSmall, MovedIsAllowed,
+    SegmentIsSmall}
 use Rattle.group_edits.specs.Renumbered.{renumbered_kind, renumbered_leg, renumbered_legs, renumbered_lv, renumbered_segment}
 
 -- a number that stays the same
@@ -57,7 +59,8 @@ module _ (number : On → On) where
 
   -- ---- rules
 
-  small_legs : (legs : List Leg) → All (λ (leg : Leg). IsSmall leg.first) legs → All (λ (leg : Leg). IsSmall leg.first) (renumbered_legs number legs)
+  small_legs : (legs : List Leg) → All (λ (leg : Leg). IsSmall leg.first) legs
+      → All (λ (leg : Leg). IsSmall leg.first) (renumbered_legs number legs)
   small_legs legs all = All-map (λ (leg : Leg). IsSmall leg.first) (renumbered_leg number) legs all
 
   small_kind : (kind : SegKind) → KindIsSmall kind → KindIsSmall (renumbered_kind number kind)
@@ -66,11 +69,15 @@ module _ (number : On → On) where
   small_kind (Mirror region (Some moved) legs) is = (is.0, is.1, small_legs legs is.2)
 
   -- what each segment keeps, each keeps whose legs are renumbered
-  pub each_segment : (P Q : Segment → Type 0) → ((segment : Segment) → P segment → Q (renumbered_segment number segment)) → (lv : Lv) → All P lv.segments → All Q (renumbered_lv number lv).segments
-  each_segment P Q step lv all = All-map Q (renumbered_segment number) lv.segments (All-weaker P (λ (segment : Segment). Q (renumbered_segment number segment)) step lv.segments all)
+  pub each_segment : (P Q : Segment → Type 0) → ((segment : Segment) → P segment → Q (renumbered_segment number segment)) → (lv : Lv)
+      → All P lv.segments → All Q (renumbered_lv number lv).segments
+  each_segment P Q step lv all =
+      All-map Q (renumbered_segment number) lv.segments
+          (All-weaker P (λ (segment : Segment). Q (renumbered_segment number segment)) step lv.segments all)
 
   pub small_lv : (lv : Lv) → LvIsSmall lv → LvIsSmall (renumbered_lv number lv)
-  small_lv lv is = (is.0, each_segment SegmentIsSmall SegmentIsSmall (λ segment small. (small.0, small.1, small_kind segment.kind small.2)) lv is.1)
+  small_lv lv is =
+      (is.0, each_segment SegmentIsSmall SegmentIsSmall (λ segment small. (small.0, small.1, small_kind segment.kind small.2)) lv is.1)
 
   follow : (at : ℕ) (segments : List Segment) → Follow at segments → Follow at (map (renumbered_segment number) segments)
   follow at [] is = tt
@@ -79,31 +86,39 @@ module _ (number : On → On) where
   pub follows : (extent_size : ℕ) (lv : Lv) → FollowTo extent_size lv → FollowTo extent_size (renumbered_lv number lv)
   follows extent_size lv is = (follow 0 lv.segments is.0, subst (λ (n : ℕ). n * extent_size < 2 ^ 48) (sym (extents_same lv)) is.1)
 
-  striped : (extent_size count : ℕ) (kind : SegKind) → IsWholeStriped extent_size count kind → IsWholeStriped extent_size count (renumbered_kind number kind)
+  striped : (extent_size count : ℕ) (kind : SegKind) → IsWholeStriped extent_size count kind
+      → IsWholeStriped extent_size count (renumbered_kind number kind)
   striped extent_size count (Striped stripe legs) is =
-      subst (λ (n : ℕ). (1 ≤ n) × (n ≤ 8) × (count % n ≡ 0) × (1 < n → IsPowerOfTwo stripe × (8 ≤ stripe) × (extent_size % stripe ≡ 0))) (sym (legs_count legs)) is
+      subst (λ (n : ℕ). (1 ≤ n) × (n ≤ 8) × (count % n ≡ 0) × (1 < n → IsPowerOfTwo stripe × (8 ≤ stripe) × (extent_size % stripe ≡ 0)))
+          (sym (legs_count legs)) is
   striped extent_size count (Mirror region moved legs) is = tt
 
   pub are_striped : (extent_size : ℕ) (lv : Lv) → AreStriped extent_size lv → AreStriped extent_size (renumbered_lv number lv)
   are_striped extent_size lv all =
-      each_segment (λ (segment : Segment). IsWholeStriped extent_size segment.count segment.kind) (λ (segment : Segment). IsWholeStriped extent_size segment.count segment.kind)
+      each_segment (λ (segment : Segment). IsWholeStriped extent_size segment.count segment.kind)
+          (λ (segment : Segment). IsWholeStriped extent_size segment.count segment.kind)
       (λ segment is. striped extent_size segment.count segment.kind is) lv all
 
   mirror : (kind : SegKind) → IsWholeMirror kind → IsWholeMirror (renumbered_kind number kind)
   mirror (Striped stripe legs) is = tt
-  mirror (Mirror region moved legs) is = subst (λ (n : ℕ). (2 ≤ n) × (n ≤ 8) × IsPowerOfTwo region × (8 ≤ region)) (sym (legs_count legs)) is
+  mirror (Mirror region moved legs) is =
+      subst (λ (n : ℕ). (2 ≤ n) × (n ≤ 8) × IsPowerOfTwo region × (8 ≤ region)) (sym (legs_count legs)) is
 
   pub are_mirrors : (lv : Lv) → AreMirrors lv → AreMirrors (renumbered_lv number lv)
-  are_mirrors lv all = each_segment (λ (segment : Segment). IsWholeMirror segment.kind) (λ (segment : Segment). IsWholeMirror segment.kind) (λ segment is. mirror segment.kind is) lv all
+  are_mirrors lv all =
+      each_segment (λ (segment : Segment). IsWholeMirror segment.kind) (λ (segment : Segment). IsWholeMirror segment.kind)
+          (λ segment is. mirror segment.kind is) lv all
 
-  moved_kind : (pvmove : Bool) (count : ℕ) (kind : SegKind) → MovedIsAllowed pvmove count kind → MovedIsAllowed pvmove count (renumbered_kind number kind)
+  moved_kind : (pvmove : Bool) (count : ℕ) (kind : SegKind) → MovedIsAllowed pvmove count kind
+      → MovedIsAllowed pvmove count (renumbered_kind number kind)
   moved_kind pvmove count (Striped stripe legs) is = tt
   moved_kind pvmove count (Mirror region None legs) is = tt
   moved_kind pvmove count (Mirror region (Some moved) legs) is = is
 
   pub are_moved : (lv : Lv) → AreMoved lv → AreMoved (renumbered_lv number lv)
   are_moved lv all =
-      each_segment (λ (segment : Segment). MovedIsAllowed lv.status.pvmove segment.count segment.kind) (λ (segment : Segment). MovedIsAllowed lv.status.pvmove segment.count segment.kind)
+      each_segment (λ (segment : Segment). MovedIsAllowed lv.status.pvmove segment.count segment.kind)
+          (λ (segment : Segment). MovedIsAllowed lv.status.pvmove segment.count segment.kind)
       (λ segment is. moved_kind lv.status.pvmove segment.count segment.kind is) lv all
 
   -- ---- what legs cover
@@ -113,15 +128,24 @@ module _ (number : On → On) where
     abbrev pub run_by : LegRun → LegRun
     run_by run = record run { lv = new run.lv; on = number run.on }
 
-    legs_by : (n s count j : ℕ) (legs : List Leg) → map run_by (runs_of_legs n s count j legs) ≡ runs_of_legs (new n) s count j (renumbered_legs number legs)
+    legs_by : (n s count j : ℕ) (legs : List Leg)
+        → map run_by (runs_of_legs n s count j legs) ≡ runs_of_legs (new n) s count j (renumbered_legs number legs)
     legs_by n s count j [] = refl
-    legs_by n s count j (leg ∷ legs) = ap (λ (runs : List LegRun). record { lv = new n; segment = s; leg = j; on = number leg.on; first = leg.first; count = count } ∷ runs) (legs_by n s count (j + 1) legs)
+    legs_by n s count j (leg ∷ legs) =
+        ap (λ (runs : List LegRun). record { lv = new n; segment = s; leg = j; on = number leg.on; first = leg.first; count = count }
+            ∷ runs) (legs_by n s count (j + 1) legs)
 
-    pub segments_by : (n k : ℕ) (segments : List Segment) → map run_by (runs_of_segments n k segments) ≡ runs_of_segments (new n) k (map (renumbered_segment number) segments)
+    pub segments_by : (n k : ℕ) (segments : List Segment)
+        → map run_by (runs_of_segments n k segments) ≡ runs_of_segments (new n) k (map (renumbered_segment number) segments)
     segments_by n k [] = refl
     segments_by n k (segment ∷ segments) =
-        map-append run_by (runs_of_legs n k (leg_share segment.count segment.kind) 0 (legs_of segment.kind)) (runs_of_segments n (k + 1) segments)
-        ∙ ap (λ (runs : List LegRun). runs ++ map run_by (runs_of_segments n (k + 1) segments)) (legs_by n k (leg_share segment.count segment.kind) 0 (legs_of segment.kind))
-        ∙ ap (λ (legs : List Leg). runs_of_legs (new n) k (leg_share segment.count segment.kind) 0 legs ++ map run_by (runs_of_segments n (k + 1) segments)) (sym (legs_same segment.kind))
-        ∙ ap (λ (share : ℕ). runs_of_legs (new n) k share 0 (legs_of (renumbered_kind number segment.kind)) ++ map run_by (runs_of_segments n (k + 1) segments)) (sym (share_same segment.count segment.kind))
-        ∙ ap (λ (runs : List LegRun). runs_of_legs (new n) k (leg_share segment.count (renumbered_kind number segment.kind)) 0 (legs_of (renumbered_kind number segment.kind)) ++ runs) (segments_by n (k + 1) segments)
+        map-append run_by (runs_of_legs n k (leg_share segment.count segment.kind) 0 (legs_of segment.kind))
+            (runs_of_segments n (k + 1) segments)
+        ∙ ap (λ (runs : List LegRun). runs ++ map run_by (runs_of_segments n (k + 1) segments))
+        (legs_by n k (leg_share segment.count segment.kind) 0 (legs_of segment.kind))
+        ∙ ap (λ (legs : List Leg). runs_of_legs (new n) k (leg_share segment.count segment.kind) 0 legs
+        ++ map run_by (runs_of_segments n (k + 1) segments)) (sym (legs_same segment.kind))
+        ∙ ap (λ (share : ℕ). runs_of_legs (new n) k share 0 (legs_of (renumbered_kind number segment.kind))
+        ++ map run_by (runs_of_segments n (k + 1) segments)) (sym (share_same segment.count segment.kind))
+        ∙ ap (λ (runs : List LegRun). runs_of_legs (new n) k (leg_share segment.count (renumbered_kind number segment.kind)) 0
+        (legs_of (renumbered_kind number segment.kind)) ++ runs) (segments_by n (k + 1) segments)

@@ -1,5 +1,6 @@
 -- What is met in volumes whose legs lie on volumes by their new numbers.
-use Rattle.std.proofs.Common.{◌≡◌, ℕ, zero, suc, ◌+◌, ◌-◌, ◌*◌, Bool, true, false, cond, List, [], ◌∷◌, length, map, Option, Some, refl, ap, ◌∙◌, arith}
+use Rattle.std.proofs.Common.{◌≡◌, ℕ, zero, suc, ◌+◌, ◌-◌, ◌*◌, Bool, true, false, cond, List, [], ◌∷◌, length, map, Option, Some, refl, ap,
+    ◌∙◌, arith}
 use Rattle.std.specs.Prelude.{option_map, slice_get}
 use Rattle.meta_model.specs.Runs.{legs_of}
 use Rattle.meta_model.specs.declared.group.Group.{Group}
@@ -8,23 +9,29 @@ use Rattle.meta_model.specs.declared.segment.On.{On}
 use Rattle.meta_model.specs.declared.segment.SegKind.{SegKind}
 use Rattle.meta_model.specs.declared.segment.SegKind.TheVariants.{Mirror, Striped}
 use Rattle.meta_model.specs.declared.segment.Segment.{Segment}
-use Rattle.volume_view.specs.InSegments.{Met, Spot, has_sector, leg_spot, offset_in, primary_leg, primary_spot, segment_from, spot_in, stripe_leg, stripe_offset}
+use Rattle.volume_view.specs.InSegments.{Met, Spot, has_sector, leg_spot, offset_in, primary_leg, primary_spot, segment_from, spot_in,
+    stripe_leg, stripe_offset}
 use Rattle.volume_view.proofs.MetSegments.{Meets, make}
 use Rattle.group_edits.proofs.KeptPlaces.{spot_by}
 use Rattle.group_edits.proofs.Renumbered.{legs_count}
 use Rattle.group_edits.specs.Renumbered.{renumbered_kind, renumbered_legs, renumbered_lv, renumbered_segment}
 
 module _ (number : On → On) where
-  spots : (extent offset : ℕ) (legs : List Leg) (k : ℕ) → option_map (spot_in extent offset) (slice_get (renumbered_legs number legs) k) ≡ option_map (spot_by number) (option_map (spot_in extent offset) (slice_get legs k))
+  spots : (extent offset : ℕ) (legs : List Leg) (k : ℕ)
+      → option_map (spot_in extent offset) (slice_get (renumbered_legs number legs) k)
+      ≡ option_map (spot_by number) (option_map (spot_in extent offset) (slice_get legs k))
   spots extent offset [] k = refl
   spots extent offset (leg ∷ legs) zero = refl
   spots extent offset (leg ∷ legs) (suc k) = spots extent offset legs k
 
   -- the leg that is read leads to the same spot
-  spot_new : (extent count at : ℕ) (kind : SegKind) → option_map (spot_in extent (offset_in (renumbered_kind number kind) at)) (slice_get (legs_of (renumbered_kind number kind)) (primary_leg count (renumbered_kind number kind) at))
+  spot_new : (extent count at : ℕ) (kind : SegKind)
+      → option_map (spot_in extent (offset_in (renumbered_kind number kind) at))
+      (slice_get (legs_of (renumbered_kind number kind)) (primary_leg count (renumbered_kind number kind) at))
       ≡ option_map (spot_by number) (option_map (spot_in extent (offset_in kind at)) (slice_get (legs_of kind) (primary_leg count kind at)))
   spot_new extent count at (Striped stripe legs) =
-      ap (λ (n : ℕ). option_map (spot_in extent (stripe_offset stripe n at)) (slice_get (renumbered_legs number legs) (stripe_leg stripe n at))) (legs_count number legs)
+      ap (λ (n : ℕ). option_map (spot_in extent (stripe_offset stripe n at))
+          (slice_get (renumbered_legs number legs) (stripe_leg stripe n at))) (legs_count number legs)
       ∙ spots extent (stripe_offset stripe (length legs) at) legs (stripe_leg stripe (length legs) at)
   spot_new extent count at (Mirror region moved legs) = spots extent at legs (primary_leg count (Mirror region moved legs) at)
 
@@ -32,16 +39,20 @@ module _ (number : On → On) where
   abbrev found_new : ℕ × Segment → ℕ × Segment
   found_new found = (found.0, renumbered_segment number found.1)
 
-  segment_new : (extent sector n : ℕ) (segments : List Segment) → segment_from extent sector n (map (renumbered_segment number) segments) ≡ option_map found_new (segment_from extent sector n segments)
+  segment_new : (extent sector n : ℕ) (segments : List Segment)
+      → segment_from extent sector n (map (renumbered_segment number) segments)
+      ≡ option_map found_new (segment_from extent sector n segments)
   segment_new extent sector n [] = refl
-  segment_new extent sector n (segment ∷ segments) = by (has_sector extent sector segment) (segment_new extent sector (n + 1) segments) where
+  segment_new extent sector n (segment ∷ segments) =
+      by (has_sector extent sector segment) (segment_new extent sector (n + 1) segments) where
     rest : Option (ℕ × Segment)
     rest = segment_from extent sector (n + 1) segments
 
     after : Option (ℕ × Segment)
     after = segment_from extent sector (n + 1) (map (renumbered_segment number) segments)
 
-    by : (b : Bool) → after ≡ option_map found_new rest → cond b (Some (n, renumbered_segment number segment)) after ≡ option_map found_new (cond b (Some (n, segment)) rest)
+    by : (b : Bool) → after ≡ option_map found_new rest
+        → cond b (Some (n, renumbered_segment number segment)) after ≡ option_map found_new (cond b (Some (n, segment)) rest)
     by true later = refl
     by false later = later
 
@@ -50,15 +61,19 @@ module _ (number : On → On) where
   met_by lv m = record { lv = lv; number = m.number; segment = renumbered_segment number m.segment; at = m.at }
 
   -- the segment by the new numbers has the sector
-  pub met_renumbered : (other : Group) (new : ℕ) (group : Group) (lv sector : ℕ) (m : Met) → other.extent_size ≡ group.extent_size → (meets : Meets group lv sector m)
-      → option_map (make other new sector) (segment_from other.extent_size sector 0 (renumbered_lv number meets.volume.1).segments) ≡ Some (met_by new m)
+  pub met_renumbered : (other : Group) (new : ℕ) (group : Group) (lv sector : ℕ) (m : Met) → other.extent_size ≡ group.extent_size
+      → (meets : Meets group lv sector m)
+      → option_map (make other new sector) (segment_from other.extent_size sector 0 (renumbered_lv number meets.volume.1).segments)
+      ≡ Some (met_by new m)
   met_renumbered other new group lv sector m size meets =
       let start : m.segment.start * other.extent_size ≡ m.segment.start * group.extent_size = ap (λ (e : ℕ). m.segment.start * e) size in
       let into : sector - m.segment.start * other.extent_size ≡ m.at = omega (arith, meets.at, start) in
       ap (λ (e : ℕ). option_map (make other new sector) (segment_from e sector 0 (renumbered_lv number meets.volume.1).segments)) size
-      ∙ ap (option_map (make other new sector)) (segment_new group.extent_size sector 0 meets.volume.1.segments ∙ ap (option_map found_new) meets.is_found)
+      ∙ ap (option_map (make other new sector))
+      (segment_new group.extent_size sector 0 meets.volume.1.segments ∙ ap (option_map found_new) meets.is_found)
       ∙ ap (λ (at : ℕ). Some (record { lv = new; number = m.number; segment = renumbered_segment number m.segment; at = at })) into
 
-  pub spot_renumbered : (extent new : ℕ) (m : Met) (spot : Spot) → primary_spot extent m ≡ Some spot → primary_spot extent (met_by new m) ≡ Some (spot_by number spot)
+  pub spot_renumbered : (extent new : ℕ) (m : Met) (spot : Spot) → primary_spot extent m ≡ Some spot
+      → primary_spot extent (met_by new m) ≡ Some (spot_by number spot)
   unfolding leg_spot
   spot_renumbered extent new m spot is = spot_new extent m.segment.count m.at m.segment.kind ∙ ap (option_map (spot_by number)) is

@@ -15,13 +15,16 @@ use Rattle.meta_model.specs.declared.segment.Segment.{Segment}
 use Rattle.meta_print.specs.Layout.{name_of}
 use Rattle.meta_print.proofs.Printable.{IsKind, IsLeg, IsLegs, IsLv, IsSegment, names_of}
 use Rattle.group_edits.proofs.Renumbered.{legs_count, segments_count}
-use Rattle.group_edits.specs.Renumbered.{renumbered_kind, renumbered_leg, renumbered_legs, renumbered_lv, renumbered_row, renumbered_segment}
+use Rattle.group_edits.specs.Renumbered.{renumbered_kind, renumbered_leg, renumbered_legs, renumbered_lv, renumbered_row,
+    renumbered_segment}
 
 -- in the other group it is found by its name, by the new number, and the name is the same
 abbrev pub IsFoundAs : Group → Group → (On → On) → On → Type 0
-IsFoundAs group other number is = (on_named (names_of other) (name_of other (number is)) ≡ Some (number is)) × (name_of other (number is) ≡ name_of group is)
+IsFoundAs group other number is =
+    (on_named (names_of other) (name_of other (number is)) ≡ Some (number is)) × (name_of other (number is) ≡ name_of group is)
 
-module _ (group other : Group) (number : On → On) (Good : On → Type 0) (again : (is : On) → Good is → on_named (names_of group) (name_of group is) ≡ Some is → IsFoundAs group other number is) where
+module _ (group other : Group) (number : On → On) (Good : On → Type 0)
+    (again : (is : On) → Good is → on_named (names_of group) (name_of group is) ≡ Some is → IsFoundAs group other number is) where
   -- each leg of these lies on what is found again
   abbrev AreGood : List Leg → Type 0
   AreGood legs = (j : ℕ) (leg : Leg) → slice_get legs j ≡ Some leg → Good leg.on
@@ -31,7 +34,9 @@ module _ (group other : Group) (number : On → On) (Good : On → Type 0) (agai
   AllGood segments = (s : ℕ) (segment : Segment) → slice_get segments s ≡ Some segment → AreGood (legs_of segment.kind)
 
   leg_kept : (leg : Leg) → Good leg.on → IsLeg group leg → IsLeg other (renumbered_leg number leg)
-  leg_kept leg good is = let found = again leg.on good is.found in record { found = found.0; content = subst IsContent (sym found.1) is.content; first_fits = is.first_fits }
+  leg_kept leg good is =
+      let found = again leg.on good is.found in record { found = found.0; content = subst IsContent (sym found.1) is.content;
+          first_fits = is.first_fits }
 
   each_leg : (legs : List Leg) → AreGood legs → Each (IsLeg group) legs → Each (IsLeg other) (renumbered_legs number legs)
   each_leg [] good are = tt
@@ -47,10 +52,12 @@ module _ (group other : Group) (number : On → On) (Good : On → Type 0) (agai
   kind_kept (Striped stripe legs) good is = (is.0, legs_kept legs good is.1)
   kind_kept (Mirror region moved legs) good is = (is.0, is.1, legs_kept legs good is.2)
 
-  each_segment : (segments : List Segment) → AllGood segments → Each (IsSegment group) segments → Each (IsSegment other) (map (renumbered_segment number) segments)
+  each_segment : (segments : List Segment) → AllGood segments → Each (IsSegment group) segments
+      → Each (IsSegment other) (map (renumbered_segment number) segments)
   each_segment [] good are = tt
   each_segment (segment ∷ segments) good are = (
-    record { start_fits = are.0.start_fits; count_fits = are.0.count_fits; kind_is = kind_kept segment.kind (good zero segment refl) are.0.kind_is },
+    record { start_fits = are.0.start_fits; count_fits = are.0.count_fits;
+        kind_is = kind_kept segment.kind (good zero segment refl) are.0.kind_is },
     each_segment segments (λ s seg is. good (suc s) seg is) are.1,
   )
 
@@ -64,6 +71,7 @@ module _ (group other : Group) (number : On → On) (Good : On → Type 0) (agai
   }
 
   pub each_lv : (rows : List (List ℕ × Lv)) → ((k : ℕ) (row : List ℕ × Lv) → slice_get rows k ≡ Some row → AllGood row.1.segments)
-      → Each (λ (row : List ℕ × Lv). IsLv group row.1) rows → Each (λ (row : List ℕ × Lv). IsLv other row.1) (map (renumbered_row number) rows)
+      → Each (λ (row : List ℕ × Lv). IsLv group row.1) rows
+      → Each (λ (row : List ℕ × Lv). IsLv other row.1) (map (renumbered_row number) rows)
   each_lv [] good are = tt
   each_lv (row ∷ rows) good are = (lv_kept row.1 (good zero row refl) are.0, each_lv rows (λ k r there. good (suc k) r there) are.1)

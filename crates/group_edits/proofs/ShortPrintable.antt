@@ -24,17 +24,21 @@ module _ (group : Group) (name : List ℕ) (left : ℕ) where
   lv_names-same = names_same name left group.lvs
 
   again : (is : On) → on_named (names_of group) (name_of group is) ≡ Some is → IsFoundAgain group other is
-  again (on.Pv n) found = (ap (λ (lvs : List (List ℕ)). on_named (record { pvs = pv_names group; lvs = lvs }) (get_or (pv_names group) n [])) lv_names-same ∙ found, refl)
+  again (on.Pv n) found =
+      (ap (λ (lvs : List (List ℕ)). on_named (record { pvs = pv_names group; lvs = lvs }) (get_or (pv_names group) n [])) lv_names-same
+          ∙ found, refl)
   again (on.Lv n) found =
       let same : get_or (lv_names other) n [] ≡ get_or (lv_names group) n [] = ap (λ (l : List (List ℕ)). get_or l n []) lv_names-same in (
         ap (on_named (names_of other)) same
-            ∙ ap (λ (lvs : List (List ℕ)). on_named (record { pvs = pv_names group; lvs = lvs }) (get_or (lv_names group) n [])) lv_names-same
+            ∙ ap (λ (lvs : List (List ℕ)). on_named (record { pvs = pv_names group; lvs = lvs }) (get_or (lv_names group) n []))
+            lv_names-same
             ∙ found,
         same,
       )
 
   cut_segment : (segment : Segment) (count : ℕ) → IsSegment other segment → count ≤ segment.count → IsSegment other (cut segment count)
-  cut_segment segment count is less = record { start_fits = is.start_fits; count_fits = (let fits = is.count_fits in omega (arith, fits, less)); kind_is = is.kind_is }
+  cut_segment segment count is less =
+      record { start_fits = is.start_fits; count_fits = (let fits = is.count_fits in omega (arith, fits, less)); kind_is = is.kind_is }
 
   short_lv : (lv : Lv) → IsLv other lv → IsLv other (shortened left lv)
   short_lv lv is = record {
@@ -45,7 +49,8 @@ module _ (group : Group) (name : List ℕ) (left : ℕ) where
     each = each_front (IsSegment other) cut_segment lv.segments left is.each;
   }
 
-  each_row : (rows : List (List ℕ × Lv)) → Each (λ (lv : List ℕ × Lv). IsLv other lv.1) rows → Each (λ (lv : List ℕ × Lv). IsLv other lv.1) (map (changed_if name (λ (r : List ℕ × Lv). (r.0, shortened left r.1))) rows)
+  each_row : (rows : List (List ℕ × Lv)) → Each (λ (lv : List ℕ × Lv). IsLv other lv.1) rows
+      → Each (λ (lv : List ℕ × Lv). IsLv other lv.1) (map (changed_if name (λ (r : List ℕ × Lv). (r.0, shortened left r.1))) rows)
   each_row [] are = tt
   each_row (row ∷ rows) are = (by (same_bytes row.0 name), each_row rows are.1) where
     by : (b : Bool) → IsLv other (cond b (row.0, shortened left row.1) row).1

@@ -1,5 +1,6 @@
 -- The rows of a group in which a volume has its first extents alone, one after another, and its segments.
-use Rattle.std.proofs.Common.{◌≡◌, ◌≢◌, ◌≤◌, ◌<◌, ℕ, zero, suc, ◌+◌, ◌-◌, Bool, true, false, cond, List, [], ◌∷◌, ◌++◌, drop, get_or, length, map, take, Some, refl, sym, ap, ◌∙◌, arith}
+use Rattle.std.proofs.Common.{◌≡◌, ◌≢◌, ◌≤◌, ◌<◌, ℕ, zero, suc, ◌+◌, ◌-◌, Bool, true, false, cond, List, [], ◌∷◌, ◌++◌, drop, get_or,
+    length, map, take, Some, refl, sym, ap, ◌∙◌, arith}
 use Rattle.std.specs.Prelude.{if◌then◌else◌, min, nat_le, slice_get}
 use Rattle.std.proofs.lemmas.List.{append_assoc, map-append}
 use Rattle.meta_model.proofs.TableLemmas.{take-next}
@@ -17,11 +18,13 @@ front_none : (segments : List Segment) → front_of segments 0 ≡ []
 front_none [] = refl
 front_none (segment ∷ segments) = refl
 
-front_step : (segment : Segment) (segments : List Segment) (left : ℕ) → left ≢ 0 → front_of (segment ∷ segments) left ≡ cut segment (min segment.count left) ∷ front_of segments (left - min segment.count left)
+front_step : (segment : Segment) (segments : List Segment) (left : ℕ) → left ≢ 0
+    → front_of (segment ∷ segments) left ≡ cut segment (min segment.count left) ∷ front_of segments (left - min segment.count left)
 front_step segment segments zero some = absurd (some refl)
 front_step segment segments (suc n) some = by (nat_le (suc n) segment.count) refl where
   by : (b : Bool) → nat_le (suc n) segment.count ≡ b
-      → cond b (cut segment (suc n) ∷ []) (segment ∷ front_of segments (suc n - segment.count)) ≡ cut segment (min segment.count (suc n)) ∷ front_of segments (suc n - min segment.count (suc n))
+      → cond b (cut segment (suc n) ∷ []) (segment ∷ front_of segments (suc n - segment.count))
+      ≡ cut segment (min segment.count (suc n)) ∷ front_of segments (suc n - min segment.count (suc n))
   by true is =
       let less : suc n ≤ segment.count = le_by (suc n) segment.count is in
       let all : min segment.count (suc n) ≡ suc n = omega (arith, less) in
@@ -35,8 +38,11 @@ front_step segment segments (suc n) some = by (nat_le (suc n) segment.count) ref
       sym (ap (λ (k : ℕ). cut segment k ∷ front_of segments (suc n - k)) all)
 
 -- one segment more
-pub next_front : (segments front later : List Segment) (count i left taken : ℕ) (segment copy : Segment) → front_of segments count ≡ front ++ front_of (drop i segments) left → i < length segments → segment ≡ get_or segments i segment → left ≢ 0
-    → copy ≡ cut segment (min segment.count left) → later ≡ front ++ copy ∷ [] → taken ≡ min segment.count left → front_of segments count ≡ later ++ front_of (drop (i + 1) segments) (left - taken)
+pub next_front : (segments front later : List Segment) (count i left taken : ℕ) (segment copy : Segment)
+    → front_of segments count ≡ front ++ front_of (drop i segments) left → i < length segments → segment ≡ get_or segments i segment
+    → left ≢ 0
+    → copy ≡ cut segment (min segment.count left) → later ≡ front ++ copy ∷ [] → taken ≡ min segment.count left
+    → front_of segments count ≡ later ++ front_of (drop (i + 1) segments) (left - taken)
 next_front segments front later count i left taken segment copy so_far within at some is pushed same =
     let rest : List Segment = front_of (drop (i + 1) segments) (left - min segment.count left) in
     so_far
@@ -53,15 +59,18 @@ module _ (name : List ℕ) (left : ℕ) where
   abbrev short : List ℕ × Lv → List ℕ × Lv
   short row = changed_if name (λ (r : List ℕ × Lv). (r.0, shortened left r.1)) row
 
-  row_is : (own copied : List ℕ) (lv copy : Lv) → copied ≡ own → copy ≡ (if same_bytes own name then shortened left lv else lv) → (copied, copy) ≡ short (own, lv)
+  row_is : (own copied : List ℕ) (lv copy : Lv) → copied ≡ own → copy ≡ (if same_bytes own name then shortened left lv else lv)
+      → (copied, copy) ≡ short (own, lv)
   row_is own copied lv copy same is = ap (λ (n : List ℕ). (n, copy)) same ∙ ap (λ (v : Lv). (own, v)) is ∙ by (same_bytes own name) where
     by : (b : Bool) → ◌≡◌ {A = List ℕ × Lv} (own, cond b (shortened left lv) lv) (cond b (own, shortened left lv) (own, lv))
     by true = refl
     by false = refl
 
   -- one row more
-  pub next_short : (lvs all later : List (List ℕ × Lv)) (n : ℕ) (own copied : List ℕ) (lv copy : Lv) → all ≡ map short (take n lvs) → slice_get lvs n ≡ Some (own, lv)
-      → copied ≡ own → copy ≡ (if same_bytes own name then shortened left lv else lv) → later ≡ all ++ (copied, copy) ∷ [] → later ≡ map short (take (n + 1) lvs)
+  pub next_short : (lvs all later : List (List ℕ × Lv)) (n : ℕ) (own copied : List ℕ) (lv copy : Lv) → all ≡ map short (take n lvs)
+      → slice_get lvs n ≡ Some (own, lv)
+      → copied ≡ own → copy ≡ (if same_bytes own name then shortened left lv else lv) → later ≡ all ++ (copied, copy) ∷ []
+      → later ≡ map short (take (n + 1) lvs)
   next_short lvs all later n own copied lv copy so_far there same is pushed =
       pushed
       ∙ ap (λ (rows : List (List ℕ × Lv)). rows ++ (copied, copy) ∷ []) so_far

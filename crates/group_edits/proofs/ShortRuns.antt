@@ -1,5 +1,6 @@
 -- What the legs cover of a group in which a volume has its first extents alone: runs become shorter, or go.
-use Rattle.std.proofs.Common.{◌≡◌, ◌≤◌, ◌⊎◌, ℕ, zero, suc, ◌+◌, ◌-◌, ◌/◌, Bool, true, false, cond, List, [], ◌∷◌, ◌++◌, length, inl, inr, refl, sym, ◌∙◌, arith}
+use Rattle.std.proofs.Common.{◌≡◌, ◌≤◌, ◌⊎◌, ℕ, zero, suc, ◌+◌, ◌-◌, ◌/◌, Bool, true, false, cond, List, [], ◌∷◌, ◌++◌, length, inl, inr,
+    refl, sym, ◌∙◌, arith}
 use Rattle.std.specs.Prelude.{nat_le, All, AllPairs, Contains}
 use Rattle.std.specs.List.{AllByRecursion as Each}
 use Rattle.std.proofs.lemmas.List.Elements.{All-contains, All-contains_itself, All-from_recursion, recursion_from_All}
@@ -72,7 +73,8 @@ shorter_apart (x ∷ xs) [] are pairs = absurd are
 shorter_apart (x ∷ xs) (y ∷ ys) (inl here) pairs =
     AllPairs-cons LieApart x xs
     (All-from_recursion (LieApart x) xs
-    (each_shorter (LieApart y) (LieApart x) (λ a b is apart on extent in_x in_a. apart on extent (in_longer x y on extent here.0 in_x) (in_longer a b on extent is in_a)) xs ys here.1
+    (each_shorter (LieApart y) (LieApart x) (λ a b is apart on extent in_x in_a. apart on extent (in_longer x y on extent here.0 in_x)
+        (in_longer a b on extent is in_a)) xs ys here.1
     (recursion_from_All (LieApart y) ys (pairs_first y ys pairs))))
     (shorter_apart xs ys here.1 (pairs_later y ys pairs))
 shorter_apart (x ∷ xs) (y ∷ ys) (inr later) pairs = shorter_apart (x ∷ xs) ys later (pairs_later y ys pairs)
@@ -82,14 +84,16 @@ pub longer_one : (xs ys : List LegRun) → AreNoLonger xs ys → (x : LegRun) �
 longer_one xs ys are x within =
     All-contains (λ a. (y : LegRun) × Contains ys y × IsNoLonger a y) xs x
     (All-from_recursion (λ a. (y : LegRun) × Contains ys y × IsNoLonger a y) xs
-    (each_shorter (Contains ys) (λ a. (y : LegRun) × Contains ys y × IsNoLonger a y) (λ a b is there. (b, there, is)) xs ys are (recursion_from_All (Contains ys) ys (All-contains_itself ys))))
+    (each_shorter (Contains ys) (λ a. (y : LegRun) × Contains ys y × IsNoLonger a y) (λ a b is there. (b, there, is)) xs ys are
+        (recursion_from_All (Contains ys) ys (All-contains_itself ys))))
     within
 
 -- ---- the legs of a volume
 
 legs_shorter : (lv k a b n : ℕ) (legs : List Leg) → a ≤ b → AreNoLonger (runs_of_legs lv k a n legs) (runs_of_legs lv k b n legs)
 legs_shorter lv k a b n [] less = tt
-legs_shorter lv k a b n (leg ∷ legs) less = inl (record { lv = refl; on = refl; first = refl; count = less }, legs_shorter lv k a b (n + 1) legs less)
+legs_shorter lv k a b n (leg ∷ legs) less =
+    inl (record { lv = refl; on = refl; first = refl; count = less }, legs_shorter lv k a b (n + 1) legs less)
 
 share_less : (count most : ℕ) (kind : SegKind) → 1 ≤ length (legs_of kind) → count ≤ most → leg_share count kind ≤ leg_share most kind
 share_less count most (Striped stripe legs) some less =
@@ -97,17 +101,23 @@ share_less count most (Striped stripe legs) some less =
     le-div (count / length legs) most (length legs) (omega (arith, some)) (omega (arith, parts, less))
 share_less count most (Mirror region moved legs) some less = less
 
-pub segments_shorter : (lv k : ℕ) (segments : List Segment) (left : ℕ) → Each (λ (s : Segment). 1 ≤ length (legs_of s.kind)) segments → AreNoLonger (runs_of_segments lv k (front_of segments left)) (runs_of_segments lv k segments)
+pub segments_shorter : (lv k : ℕ) (segments : List Segment) (left : ℕ) → Each (λ (s : Segment). 1 ≤ length (legs_of s.kind)) segments
+    → AreNoLonger (runs_of_segments lv k (front_of segments left)) (runs_of_segments lv k segments)
 segments_shorter lv k [] left some = tt
 segments_shorter lv k (segment ∷ segments) zero some = tt
 segments_shorter lv k (segment ∷ segments) (suc count) some =
     by (nat_le (suc count) segment.count) refl (segments_shorter lv (k + 1) segments (suc count - segment.count) some.1) where
-      by : (b : Bool) → nat_le (suc count) segment.count ≡ b → AreNoLonger (runs_of_segments lv (k + 1) (front_of segments (suc count - segment.count))) (runs_of_segments lv (k + 1) segments)
-          → AreNoLonger (runs_of_segments lv k (cond b (cut segment (suc count) ∷ []) (segment ∷ front_of segments (suc count - segment.count)))) (runs_of_segments lv k (segment ∷ segments))
+      by : (b : Bool) → nat_le (suc count) segment.count ≡ b
+          → AreNoLonger (runs_of_segments lv (k + 1) (front_of segments (suc count - segment.count))) (runs_of_segments lv (k + 1) segments)
+          → AreNoLonger (runs_of_segments lv k (cond b (cut segment (suc count) ∷ [])
+          (segment ∷ front_of segments (suc count - segment.count)))) (runs_of_segments lv k (segment ∷ segments))
       by true is later =
-          both (runs_of_legs lv k (leg_share (suc count) segment.kind) 0 (legs_of segment.kind)) (runs_of_legs lv k (leg_share segment.count segment.kind) 0 (legs_of segment.kind)) [] (runs_of_segments lv (k + 1) segments)
-          (legs_shorter lv k (leg_share (suc count) segment.kind) (leg_share segment.count segment.kind) 0 (legs_of segment.kind) (share_less (suc count) segment.count segment.kind some.0 (le_by (suc count) segment.count is)))
+          both (runs_of_legs lv k (leg_share (suc count) segment.kind) 0 (legs_of segment.kind))
+              (runs_of_legs lv k (leg_share segment.count segment.kind) 0 (legs_of segment.kind)) [] (runs_of_segments lv (k + 1) segments)
+          (legs_shorter lv k (leg_share (suc count) segment.kind) (leg_share segment.count segment.kind) 0 (legs_of segment.kind)
+              (share_less (suc count) segment.count segment.kind some.0 (le_by (suc count) segment.count is)))
           tt
       by false is later =
           let own : List LegRun = runs_of_legs lv k (leg_share segment.count segment.kind) 0 (legs_of segment.kind) in
-          both own own (runs_of_segments lv (k + 1) (front_of segments (suc count - segment.count))) (runs_of_segments lv (k + 1) segments) (each_same own) later
+          both own own (runs_of_segments lv (k + 1) (front_of segments (suc count - segment.count))) (runs_of_segments lv (k + 1) segments)
+              (each_same own) later

@@ -1,5 +1,6 @@
 -- The volumes that stay, by their new numbers, and what their legs cover.
-use Rattle.std.proofs.Common.{◌≡◌, ℕ, zero, suc, ◌+◌, Bool, true, false, cond, List, [], ◌∷◌, ◌++◌, length, map, refl, sym, ap, ◌∙◌, length-append, arith}
+use Rattle.std.proofs.Common.{◌≡◌, ℕ, zero, suc, ◌+◌, Bool, true, false, cond, List, [], ◌∷◌, ◌++◌, length, map, refl, sym, ap, ◌∙◌,
+    length-append, arith}
 use Rattle.std.specs.Prelude.{filter}
 use Rattle.std.specs.List.{range_with_len}
 use Rattle.std.proofs.lemmas.List.{map-append}
@@ -16,7 +17,9 @@ use Rattle.group_edits.specs.Renumbered.{renumbered_row, renumbered_segment}
 
 range_next : (a n : ℕ) → range_with_len a (suc n) ≡ range_with_len a n ++ (a + n) ∷ []
 range_next a zero = ap (λ (x : ℕ). x ∷ []) (let e : a ≡ a + 0 = omega arith in e)
-range_next a (suc n) = ap (λ (xs : List ℕ). a ∷ xs) (range_next (a + 1) n) ∙ ap (λ (x : ℕ). a ∷ (range_with_len (a + 1) n ++ x ∷ [])) (let e : a + 1 + n ≡ a + suc n = omega arith in e)
+range_next a (suc n) =
+    ap (λ (xs : List ℕ). a ∷ xs) (range_next (a + 1) n)
+        ∙ ap (λ (x : ℕ). a ∷ (range_with_len (a + 1) n ++ x ∷ [])) (let e : a + 1 + n ≡ a + suc n = omega arith in e)
 
 module _ (stays : ℕ → Bool) where
   abbrev pub new : ℕ → ℕ
@@ -42,11 +45,17 @@ module _ (stays : ℕ → Bool) where
   abbrev pub rows_after : ℕ → List (List ℕ × Lv) → List (List ℕ × Lv)
   rows_after n rows = map (renumbered_row (on_after stays)) (that_stay stays n rows)
 
-  pub rows_staying : (n : ℕ) (row : List ℕ × Lv) (rows : List (List ℕ × Lv)) → stays n ≡ true → rows_after n (row ∷ rows) ≡ renumbered_row (on_after stays) row ∷ rows_after (n + 1) rows
-  rows_staying n row rows is = ap (λ (b : Bool). map (renumbered_row (on_after stays)) (cond b (row ∷ that_stay stays (n + 1) rows) (that_stay stays (n + 1) rows))) is
+  pub rows_staying : (n : ℕ) (row : List ℕ × Lv) (rows : List (List ℕ × Lv)) → stays n ≡ true
+      → rows_after n (row ∷ rows) ≡ renumbered_row (on_after stays) row ∷ rows_after (n + 1) rows
+  rows_staying n row rows is =
+      ap (λ (b : Bool). map (renumbered_row (on_after stays)) (cond b (row ∷ that_stay stays (n + 1) rows) (that_stay stays (n + 1) rows)))
+          is
 
-  pub rows_going : (n : ℕ) (row : List ℕ × Lv) (rows : List (List ℕ × Lv)) → stays n ≡ false → rows_after n (row ∷ rows) ≡ rows_after (n + 1) rows
-  rows_going n row rows is = ap (λ (b : Bool). map (renumbered_row (on_after stays)) (cond b (row ∷ that_stay stays (n + 1) rows) (that_stay stays (n + 1) rows))) is
+  pub rows_going : (n : ℕ) (row : List ℕ × Lv) (rows : List (List ℕ × Lv)) → stays n ≡ false
+      → rows_after n (row ∷ rows) ≡ rows_after (n + 1) rows
+  rows_going n row rows is =
+      ap (λ (b : Bool). map (renumbered_row (on_after stays)) (cond b (row ∷ that_stay stays (n + 1) rows) (that_stay stays (n + 1) rows)))
+          is
 
   -- ---- what legs cover
 
@@ -58,26 +67,31 @@ module _ (stays : ℕ → Bool) where
   abbrev pub run_stays : LegRun → Bool
   run_stays run = stays run.lv
 
-  legs_staying : (n s count j : ℕ) (legs : List Leg) → stays n ≡ true → filter run_stays (runs_of_legs n s count j legs) ≡ runs_of_legs n s count j legs
+  legs_staying : (n s count j : ℕ) (legs : List Leg) → stays n ≡ true
+      → filter run_stays (runs_of_legs n s count j legs) ≡ runs_of_legs n s count j legs
   legs_staying n s count j [] is = refl
   legs_staying n s count j (leg ∷ legs) is =
       let run : LegRun = record { lv = n; segment = s; leg = j; on = leg.on; first = leg.first; count = count } in
-      ap (λ (b : Bool). cond b (run ∷ filter run_stays (runs_of_legs n s count (j + 1) legs)) (filter run_stays (runs_of_legs n s count (j + 1) legs))) is
+      ap (λ (b : Bool). cond b (run ∷ filter run_stays (runs_of_legs n s count (j + 1) legs))
+          (filter run_stays (runs_of_legs n s count (j + 1) legs))) is
       ∙ ap (λ (runs : List LegRun). run ∷ runs) (legs_staying n s count (j + 1) legs is)
 
   legs_going : (n s count j : ℕ) (legs : List Leg) → stays n ≡ false → filter run_stays (runs_of_legs n s count j legs) ≡ []
   legs_going n s count j [] is = refl
   legs_going n s count j (leg ∷ legs) is =
       let run : LegRun = record { lv = n; segment = s; leg = j; on = leg.on; first = leg.first; count = count } in
-      ap (λ (b : Bool). cond b (run ∷ filter run_stays (runs_of_legs n s count (j + 1) legs)) (filter run_stays (runs_of_legs n s count (j + 1) legs))) is
+      ap (λ (b : Bool). cond b (run ∷ filter run_stays (runs_of_legs n s count (j + 1) legs))
+          (filter run_stays (runs_of_legs n s count (j + 1) legs))) is
       ∙ legs_going n s count (j + 1) legs is
 
-  segments_staying : (n k : ℕ) (segments : List Segment) → stays n ≡ true → filter run_stays (runs_of_segments n k segments) ≡ runs_of_segments n k segments
+  segments_staying : (n k : ℕ) (segments : List Segment) → stays n ≡ true
+      → filter run_stays (runs_of_segments n k segments) ≡ runs_of_segments n k segments
   segments_staying n k [] is = refl
   segments_staying n k (segment ∷ segments) is =
       let first : List LegRun = runs_of_legs n k (leg_share segment.count segment.kind) 0 (legs_of segment.kind) in
       filter-append run_stays first (runs_of_segments n (k + 1) segments)
-      ∙ ap (λ (runs : List LegRun). runs ++ filter run_stays (runs_of_segments n (k + 1) segments)) (legs_staying n k (leg_share segment.count segment.kind) 0 (legs_of segment.kind) is)
+      ∙ ap (λ (runs : List LegRun). runs ++ filter run_stays (runs_of_segments n (k + 1) segments))
+      (legs_staying n k (leg_share segment.count segment.kind) 0 (legs_of segment.kind) is)
       ∙ ap (λ (runs : List LegRun). first ++ runs) (segments_staying n (k + 1) segments is)
 
   segments_going : (n k : ℕ) (segments : List Segment) → stays n ≡ false → filter run_stays (runs_of_segments n k segments) ≡ []
@@ -85,11 +99,13 @@ module _ (stays : ℕ → Bool) where
   segments_going n k (segment ∷ segments) is =
       let first : List LegRun = runs_of_legs n k (leg_share segment.count segment.kind) 0 (legs_of segment.kind) in
       filter-append run_stays first (runs_of_segments n (k + 1) segments)
-      ∙ ap (λ (runs : List LegRun). runs ++ filter run_stays (runs_of_segments n (k + 1) segments)) (legs_going n k (leg_share segment.count segment.kind) 0 (legs_of segment.kind) is)
+      ∙ ap (λ (runs : List LegRun). runs ++ filter run_stays (runs_of_segments n (k + 1) segments))
+      (legs_going n k (leg_share segment.count segment.kind) 0 (legs_of segment.kind) is)
       ∙ segments_going n (k + 1) segments is
 
   -- the runs of the legs of the volumes that stay, by the new numbers
-  pub runs_after : (n : ℕ) (rows : List (List ℕ × Lv)) → runs_of_volumes (new n) (rows_after n rows) ≡ map run_after (filter run_stays (runs_of_volumes n rows))
+  pub runs_after : (n : ℕ) (rows : List (List ℕ × Lv))
+      → runs_of_volumes (new n) (rows_after n rows) ≡ map run_after (filter run_stays (runs_of_volumes n rows))
   runs_after n [] = refl
   runs_after n (row ∷ rows) = by (stays n) refl (runs_after (n + 1) rows) where
     first : List LegRun
@@ -105,9 +121,11 @@ module _ (stays : ℕ → Bool) where
         → runs_of_volumes (new n) (rows_after n (row ∷ rows)) ≡ map run_after (filter run_stays (first ++ rest))
     by true is later =
         ap (runs_of_volumes (new n)) (rows_staying n row rows is)
-        ∙ ap (λ (m : ℕ). runs_of_segments (new n) 0 (map (renumbered_segment (on_after stays)) row.1.segments) ++ runs_of_volumes m (rows_after (n + 1) rows)) (sym (next_staying n is) ∙ ap new more)
+        ∙ ap (λ (m : ℕ). runs_of_segments (new n) 0 (map (renumbered_segment (on_after stays)) row.1.segments)
+        ++ runs_of_volumes m (rows_after (n + 1) rows)) (sym (next_staying n is) ∙ ap new more)
         ∙ ap (λ (runs : List LegRun). runs_of_segments (new n) 0 (map (renumbered_segment (on_after stays)) row.1.segments) ++ runs) later
-        ∙ ap (λ (runs : List LegRun). runs ++ map run_after (filter run_stays rest)) (sym (segments_by (on_after stays) new n 0 row.1.segments))
+        ∙ ap (λ (runs : List LegRun). runs ++ map run_after (filter run_stays rest))
+        (sym (segments_by (on_after stays) new n 0 row.1.segments))
         ∙ sym (map-append run_after first (filter run_stays rest))
         ∙ ap (λ (runs : List LegRun). map run_after (runs ++ filter run_stays rest)) (sym (segments_staying n 0 row.1.segments is))
         ∙ ap (map run_after) (sym (filter-append run_stays first rest))

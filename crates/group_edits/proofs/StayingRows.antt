@@ -1,5 +1,6 @@
 -- Which row stands where among the volumes that stay.
-use Rattle.std.proofs.Common.{◌≡◌, ◌≤◌, ◌<◌, ℕ, zero, suc, ◌+◌, ◌-◌, Bool, true, false, List, [], ◌∷◌, Some, inl, inr, refl, sym, ap, ◌∙◌, arith}
+use Rattle.std.proofs.Common.{◌≡◌, ◌≤◌, ◌<◌, ℕ, zero, suc, ◌+◌, ◌-◌, Bool, true, false, List, [], ◌∷◌, Some, inl, inr, refl, sym, ap, ◌∙◌,
+    arith}
 use Rattle.std.specs.Prelude.{slice_get}
 use Rattle.std.proofs.lemmas.Bool.{cases_order}
 use Rattle.std.proofs.lemmas.Option.{same_Some}
@@ -11,13 +12,15 @@ use Rattle.group_edits.specs.Renumbered.{renumbered_row}
 module _ (stays : ℕ → Bool) where
   -- the volume with this number among these, the first of which has the number n, stands behind those before it that stay
   pub row_there : (n k : ℕ) (rows : List (List ℕ × Lv)) (row : List ℕ × Lv) → slice_get rows k ≡ Some row → stays (n + k) ≡ true
-      → (m : ℕ) × (slice_get (rows_after stays n rows) m ≡ Some (renumbered_row (on_after stays) row)) × (new stays (n + k) ≡ new stays n + m)
+      → (m : ℕ) × (slice_get (rows_after stays n rows) m ≡ Some (renumbered_row (on_after stays) row))
+      × (new stays (n + k) ≡ new stays n + m)
   row_there n k [] row there is = cc
   row_there n zero (x ∷ rows) row there is =
       let at : n ≡ n + 0 = omega arith in
       let same : stays n ≡ true = ap stays at ∙ is in (
         0,
-        ap (λ (l : List (List ℕ × Lv)). slice_get l 0) (rows_staying stays n x rows same) ∙ ap (λ (r : List ℕ × Lv). Some (renumbered_row (on_after stays) r)) (same_Some x row there),
+        ap (λ (l : List (List ℕ × Lv)). slice_get l 0) (rows_staying stays n x rows same)
+            ∙ ap (λ (r : List ℕ × Lv). Some (renumbered_row (on_after stays) r)) (same_Some x row there),
         ap (new stays) (sym at) ∙ (let e : new stays n ≡ new stays n + 0 = omega arith in e),
       )
   row_there n (suc k) (x ∷ rows) row there is =
@@ -30,8 +33,10 @@ module _ (stays : ℕ → Bool) where
       more : suc n ≡ n + 1
       more = omega arith
 
-      by : (b : Bool) → stays n ≡ b → (m : ℕ) × (slice_get (rows_after stays (n + 1) rows) m ≡ Some (renumbered_row (on_after stays) row)) × (new stays (n + 1 + k) ≡ new stays (n + 1) + m)
-          → (m : ℕ) × (slice_get (rows_after stays n (x ∷ rows)) m ≡ Some (renumbered_row (on_after stays) row)) × (new stays (n + suc k) ≡ new stays n + m)
+      by : (b : Bool) → stays n ≡ b → (m : ℕ) × (slice_get (rows_after stays (n + 1) rows) m ≡ Some (renumbered_row (on_after stays) row))
+          × (new stays (n + 1 + k) ≡ new stays (n + 1) + m)
+          → (m : ℕ) × (slice_get (rows_after stays n (x ∷ rows)) m ≡ Some (renumbered_row (on_after stays) row))
+          × (new stays (n + suc k) ≡ new stays n + m)
       by true first later =
           let step : new stays (n + 1) ≡ new stays n + 1 = sym (ap (new stays) more) ∙ next_staying stays n first in (
             suc later.0,
@@ -55,23 +60,28 @@ module _ (stays : ℕ → Bool) where
     pub number : new stays (n + k) ≡ new stays n + m
 
   -- each row that stays was one before
-  pub row_from : (n m : ℕ) (rows : List (List ℕ × Lv)) (row : List ℕ × Lv) → slice_get (rows_after stays n rows) m ≡ Some row → IsFrom n m rows row
+  pub row_from : (n m : ℕ) (rows : List (List ℕ × Lv)) (row : List ℕ × Lv) → slice_get (rows_after stays n rows) m ≡ Some row
+      → IsFrom n m rows row
   row_from n m [] row there = cc
   row_from n m (x ∷ rows) row there = by (stays n) refl m there (λ p at. row_from (n + 1) p rows row at) where
     more : suc n ≡ n + 1
     more = omega arith
 
-    by : (b : Bool) → stays n ≡ b → (p : ℕ) → slice_get (rows_after stays n (x ∷ rows)) p ≡ Some row → ((q : ℕ) → slice_get (rows_after stays (n + 1) rows) q ≡ Some row → IsFrom (n + 1) q rows row) → IsFrom n p (x ∷ rows) row
+    by : (b : Bool) → stays n ≡ b → (p : ℕ) → slice_get (rows_after stays n (x ∷ rows)) p ≡ Some row
+        → ((q : ℕ) → slice_get (rows_after stays (n + 1) rows) q ≡ Some row → IsFrom (n + 1) q rows row) → IsFrom n p (x ∷ rows) row
     by true first zero at later = record {
       k = 0;
       was = x;
       there = refl;
       stayed = ap stays (let e : n + 0 ≡ n = omega arith in e) ∙ first;
-      row_is = sym (same_Some (renumbered_row (on_after stays) x) row (sym (ap (λ (l : List (List ℕ × Lv)). slice_get l 0) (rows_staying stays n x rows first)) ∙ at));
+      row_is =
+          sym (same_Some (renumbered_row (on_after stays) x) row
+              (sym (ap (λ (l : List (List ℕ × Lv)). slice_get l 0) (rows_staying stays n x rows first)) ∙ at));
       number = ap (new stays) (let e : n + 0 ≡ n = omega arith in e) ∙ (let e : new stays n ≡ new stays n + 0 = omega arith in e);
     }
     by true first (suc p) at later =
-        let was : IsFrom (n + 1) p rows row = later p (sym (ap (λ (l : List (List ℕ × Lv)). slice_get l (suc p)) (rows_staying stays n x rows first)) ∙ at) in
+        let was : IsFrom (n + 1) p rows row =
+            later p (sym (ap (λ (l : List (List ℕ × Lv)). slice_get l (suc p)) (rows_staying stays n x rows first)) ∙ at) in
         let step : new stays (n + 1) ≡ new stays n + 1 = sym (ap (new stays) more) ∙ next_staying stays n first in
         let place : n + suc was.k ≡ n + 1 + was.k = omega arith in
         record {
@@ -83,7 +93,8 @@ module _ (stays : ℕ → Bool) where
           number = ap (new stays) place ∙ was.number ∙ (let e : new stays (n + 1) + p ≡ new stays n + suc p = omega (arith, step) in e);
         }
     by false first p at later =
-        let was : IsFrom (n + 1) p rows row = later p (sym (ap (λ (l : List (List ℕ × Lv)). slice_get l p) (rows_going stays n x rows first)) ∙ at) in
+        let was : IsFrom (n + 1) p rows row =
+            later p (sym (ap (λ (l : List (List ℕ × Lv)). slice_get l p) (rows_going stays n x rows first)) ∙ at) in
         let step : new stays (n + 1) ≡ new stays n = sym (ap (new stays) more) ∙ next_going stays n first in
         let place : n + suc was.k ≡ n + 1 + was.k = omega arith in
         record {
@@ -105,8 +116,12 @@ module _ (stays : ℕ → Bool) where
     place = omega arith
 
     by : (b : Bool) → stays (a + d) ≡ b → new stays a ≤ new stays (a + d) → new stays a ≤ new stays (a + suc d)
-    by true is so_far = let e : new stays (a + suc d) ≡ new stays (a + d) + 1 = sym (ap (new stays) place) ∙ next_staying stays (a + d) is in omega (arith, e, so_far)
-    by false is so_far = let e : new stays (a + suc d) ≡ new stays (a + d) = sym (ap (new stays) place) ∙ next_going stays (a + d) is in omega (arith, e, so_far)
+    by true is so_far =
+        let e : new stays (a + suc d) ≡ new stays (a + d) + 1 = sym (ap (new stays) place)
+            ∙ next_staying stays (a + d) is in omega (arith, e, so_far)
+    by false is so_far =
+        let e : new stays (a + suc d) ≡ new stays (a + d) = sym (ap (new stays) place)
+            ∙ next_going stays (a + d) is in omega (arith, e, so_far)
 
   pub new_below : (a b : ℕ) → stays a ≡ true → a < b → new stays a < new stays b
   new_below a b is less =

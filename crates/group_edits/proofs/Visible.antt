@@ -9,7 +9,8 @@ use Rattle.group_edits.proofs.OneNamed.{IsVisibleAt, visible_at}
 use Rattle.group_edits.specs.Visible.{IsVisible, visible_from, visible_named}
 
 module _ (name : List ℕ) (rows : List (List ℕ × Lv)) (n : ℕ) (row : List ℕ × Lv) (there : slice_get rows n ≡ Some row) where
-  next : visible_from n name (drop n rows) ≡ cond (row.1.status.visible && same_bytes row.0 name) (Some (n, row.1)) (visible_from (n + 1) name (drop (n + 1) rows))
+  next : visible_from n name (drop n rows)
+      ≡ cond (row.1.status.visible && same_bytes row.0 name) (Some (n, row.1)) (visible_from (n + 1) name (drop (n + 1) rows))
   next = ap (visible_from n name) (next_got rows n row there)
 
   -- it is this one
@@ -20,18 +21,22 @@ module _ (name : List ℕ) (rows : List (List ℕ × Lv)) (n : ℕ) (row : List 
 
   -- it isn't, since it is hidden
   pub past_hidden : row.1.status.visible ≡ false → visible_from n name (drop n rows) ≡ visible_from (n + 1) name (drop (n + 1) rows)
-  past_hidden hidden = next ∙ ap (λ (b : Bool). cond (b && same_bytes row.0 name) (Some (n, row.1)) (visible_from (n + 1) name (drop (n + 1) rows))) hidden
+  past_hidden hidden =
+      next ∙ ap (λ (b : Bool). cond (b && same_bytes row.0 name) (Some (n, row.1)) (visible_from (n + 1) name (drop (n + 1) rows))) hidden
 
   -- or has another name
   pub past_other : same_bytes row.0 name ≡ false → visible_from n name (drop n rows) ≡ visible_from (n + 1) name (drop (n + 1) rows)
   past_other other = next ∙ by row.1.status.visible where
-    by : (seen : Bool) → cond (seen && same_bytes row.0 name) (Some (n, row.1)) (visible_from (n + 1) name (drop (n + 1) rows)) ≡ visible_from (n + 1) name (drop (n + 1) rows)
+    by : (seen : Bool) → cond (seen && same_bytes row.0 name) (Some (n, row.1)) (visible_from (n + 1) name (drop (n + 1) rows))
+        ≡ visible_from (n + 1) name (drop (n + 1) rows)
     by true = ap (λ (b : Bool). cond b (Some (n, row.1)) (visible_from (n + 1) name (drop (n + 1) rows))) other
     by false = refl
 
 -- the volume that stands there
-pub is_seen : (group : Group) (n : ℕ) (row : List ℕ × Lv) → slice_get group.lvs n ≡ Some row → row.1.status.visible ≡ true → IsVisible group n
-is_seen group n row there seen = subst (λ (o : Option (List ℕ × Lv)). IsSomeAnd o (λ (r : List ℕ × Lv). r.1.status.visible ≡ true)) (sym there) seen
+pub is_seen : (group : Group) (n : ℕ) (row : List ℕ × Lv) → slice_get group.lvs n ≡ Some row → row.1.status.visible ≡ true
+    → IsVisible group n
+is_seen group n row there seen =
+    subst (λ (o : Option (List ℕ × Lv)). IsSomeAnd o (λ (r : List ℕ × Lv). r.1.status.visible ≡ true)) (sym there) seen
 
 -- ---- the volume of a name
 

@@ -14,14 +14,19 @@ use Rattle.group_edits.specs.Removing.{goes_with, has_leg_on, lv_numbers, stays}
 pub removed_goes : (group : Group) (removed : ℕ) → stays group removed removed ≡ false
 unfolding stays
 removed_goes group removed =
-    ap (λ (b : Bool). not (b || (list_any (has_leg_on group removed) (lv_numbers group) && list_all (λ upper. not (has_leg_on group removed upper) || goes_with group removed 3 upper) (lv_numbers group)))) (eq-eqb removed removed refl)
+    ap (λ (b : Bool). not (b || (list_any (has_leg_on group removed) (lv_numbers group)
+        && list_all (λ upper. not (has_leg_on group removed upper) || goes_with group removed 3 upper) (lv_numbers group))))
+        (eq-eqb removed removed refl)
 
 -- another one that is visible stays, since no leg lies on it
-pub visible_stays : (group : Group) (removed n : ℕ) (row : List ℕ × Lv) → IsAccepted group → slice_get group.lvs n ≡ Some row → row.1.status.visible ≡ true → n ≢ removed → stays group removed n ≡ true
+pub visible_stays : (group : Group) (removed n : ℕ) (row : List ℕ × Lv) → IsAccepted group → slice_get group.lvs n ≡ Some row
+    → row.1.status.visible ≡ true → n ≢ removed → stays group removed n ≡ true
 unfolding stays
-visible_stays group removed n row accepted there seen other = by (n == removed) (list_any (has_leg_on group n) (lv_numbers group)) refl refl where
+visible_stays group removed n row accepted there seen other =
+    by (n == removed) (list_any (has_leg_on group n) (lv_numbers group)) refl refl where
   by : (same held : Bool) → (n == removed) ≡ same → list_any (has_leg_on group n) (lv_numbers group) ≡ held
-      → not (same || (held && list_all (λ upper. not (has_leg_on group n upper) || goes_with group removed 3 upper) (lv_numbers group))) ≡ true
+      → not (same || (held && list_all (λ upper. not (has_leg_on group n upper) || goes_with group removed 3 upper) (lv_numbers group)))
+      ≡ true
   by true held same is = absurd (other (same_number n removed same))
   by false false same is = refl
   by false true same is =

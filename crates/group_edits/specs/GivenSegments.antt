@@ -36,12 +36,14 @@ extents_by share (Mirror region moved legs) = share
 
 -- the segment of a part, from this extent on
 abbrev pub segment_of : SegKind → ℕ → Part → Segment
-segment_of kind start part = record { start = start; count = extents_by part.extents (kind_on (legs_in part) kind); kind = kind_on (legs_in part) kind }
+segment_of kind start part =
+    record { start = start; count = extents_by part.extents (kind_on (legs_in part) kind); kind = kind_on (legs_in part) kind }
 
 -- the segments of these parts, one for each, from this extent on
 abbrev pub segments_of : SegKind → ℕ → List Part → List Segment
 segments_of kind start [] = []
-segments_of kind start (part ∷ parts) = segment_of kind start part ∷ segments_of kind (start + extents_by part.extents (kind_on (legs_in part) kind)) parts
+segments_of kind start (part ∷ parts) =
+    segment_of kind start part ∷ segments_of kind (start + extents_by part.extents (kind_on (legs_in part) kind)) parts
 
 -- how many extents segments have
 abbrev pub extents_in : List Segment → ℕ

@@ -47,4 +47,5 @@ on_without_pv removed (on.Lv lv) = on.Lv lv
 
 -- the next version of the group, without the physical volume with this number
 abbrev pub reduced_group : Group → ℕ → Group
-reduced_group group number = record (with_lvs group (map (renumbered_row (on_without_pv number)) group.lvs)) { pvs = remove group.pvs number }
+reduced_group group number =
+    record (with_lvs group (map (renumbered_row (on_without_pv number)) group.lvs)) { pvs = remove group.pvs number }

@@ -22,7 +22,8 @@ abbrev pub goes_with : Group → ℕ → ℕ → ℕ → Bool
 goes_with group removed zero lv = lv == removed
 goes_with group removed (suc steps) lv =
     lv == removed
-    || (list_any (has_leg_on group lv) (lv_numbers group) && list_all (λ upper. not (has_leg_on group lv upper) || goes_with group removed steps upper) (lv_numbers group))
+    || (list_any (has_leg_on group lv) (lv_numbers group)
+    && list_all (λ upper. not (has_leg_on group lv upper) || goes_with group removed steps upper) (lv_numbers group))
 
 -- the volume stays where that one is removed; ways down have at most four volumes below it
 unfoldable pub stays : Group → ℕ → ℕ → Bool
@@ -31,7 +32,8 @@ stays group removed lv = not (goes_with group removed 4 lv)
 -- the items that stay, the first of them having this number
 abbrev pub that_stay : {A : Type 0} → (ℕ → Bool) → ℕ → List A → List A
 that_stay stays number [] = []
-that_stay stays number (item ∷ items) = if stays number then item ∷ that_stay stays (number + 1) items else that_stay stays (number + 1) items
+that_stay stays number (item ∷ items) =
+    if stays number then item ∷ that_stay stays (number + 1) items else that_stay stays (number + 1) items
 
 -- the new number of a volume: how many before it stay
 abbrev pub number_after : (ℕ → Bool) → ℕ → ℕ

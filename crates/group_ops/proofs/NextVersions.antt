@@ -1,5 +1,6 @@
 -- The lines that commit the next version of the group in force to its own disks, and write no label.
-use Rattle.std.proofs.Common.{◌≡◌, ◌≤◌, ◌<◌, ℕ, ◌+◌, ◌^◌, Bool, true, false, List, [], ◌∷◌, ◌++◌, length, Option, Some, None, refl, sym, ap, subst, arith}
+use Rattle.std.proofs.Common.{◌≡◌, ◌≤◌, ◌<◌, ℕ, ◌+◌, ◌^◌, Bool, true, false, List, [], ◌∷◌, ◌++◌, length, Option, Some, None, refl, sym, ap,
+    subst, arith}
 use Rattle.std.specs.Prelude.{is_some, option_and_then, option_map, unwrap_or, IsSomeAnd}
 use Rattle.std.specs.Option.{option_map_or}
 use Rattle.std.specs.FinSet as set
@@ -90,12 +91,15 @@ zeroes _ = false
 -- ---- no label, and no zeros
 
 -- what holds where nothing changes, and of each version that is committed, holds of the change of each other such command
-module _ (state : GroupState) (Holds : Change → Type 0) (none : Holds (no_change state)) (made : (next : Group) → Holds (version_change state next)) where
-  version_holds : (next : Group → Group) (o : Option Group) → Holds (option_map_or (λ (g : Group). version_change state (next g)) o (no_change state))
+module _ (state : GroupState) (Holds : Change → Type 0) (none : Holds (no_change state))
+    (made : (next : Group) → Holds (version_change state next)) where
+  version_holds : (next : Group → Group) (o : Option Group)
+      → Holds (option_map_or (λ (g : Group). version_change state (next g)) o (no_change state))
   version_holds next None = none
   version_holds next (Some group) = made (next group)
 
-  volume_holds : (next : ℕ × Lv → Group) (o : Option (ℕ × Lv)) → Holds (option_map_or (λ (v : ℕ × Lv). version_change state (next v)) o (no_change state))
+  volume_holds : (next : ℕ × Lv → Group) (o : Option (ℕ × Lv))
+      → Holds (option_map_or (λ (v : ℕ × Lv). version_change state (next v)) o (no_change state))
   volume_holds next None = none
   volume_holds next (Some v) = made (next v)
 
@@ -103,11 +107,13 @@ module _ (state : GroupState) (Holds : Change → Type 0) (none : Holds (no_chan
   remove_holds name None = none
   remove_holds name (Some group) = volume_holds (λ v. without_volume group v.0) (visible_named group name)
 
-  reduce_holds : (name : List ℕ) (amount : Amount) (o : Option Group) → Holds (option_map_or (reduce_change state name amount) o (no_change state))
+  reduce_holds : (name : List ℕ) (amount : Amount) (o : Option Group)
+      → Holds (option_map_or (reduce_change state name amount) o (no_change state))
   reduce_holds name amount None = none
   reduce_holds name amount (Some group) = volume_holds (λ v. reduced_group name amount group v.1) (visible_named group name)
 
-  pub next_holds : (number : ℕ) (id : Option (List ℕ)) (command : Command) (now : ℕ) (given : List Part) → is_next command ≡ true → zeroes command ≡ false → Holds (change_of state (record { number = number; id = id; command = command }) now given)
+  pub next_holds : (number : ℕ) (id : Option (List ℕ)) (command : Command) (now : ℕ) (given : List Part) → is_next command ≡ true
+      → zeroes command ≡ false → Holds (change_of state (record { number = number; id = id; command = command }) now given)
   next_holds number id (Vgrename vg new) now given is other = version_holds (λ g. renamed_group g new) state.group
   next_holds number id (Lvextend path growth pvs) now given is other = version_holds (longer_volume path.lv given) state.group
   next_holds number id (Lvreduce path amount) now given is other = reduce_holds path.lv amount state.group
@@ -116,27 +122,37 @@ module _ (state : GroupState) (Holds : Change → Type 0) (none : Holds (no_chan
   next_holds number id (Lvcreate new) now given is other = absurd (true≢false other)
   next_holds number id command now given is other = absurd cc
 
-created_labels : (state : GroupState) (id : List ℕ) (new : NewVolume) (now : ℕ) (given : List Part) (o : Option Group) → (option_map_or (λ (g : Group). create_change state id new now g given) o (no_change state)).labels ≡ []
+created_labels : (state : GroupState) (id : List ℕ) (new : NewVolume) (now : ℕ) (given : List Part) (o : Option Group)
+    → (option_map_or (λ (g : Group). create_change state id new now g given) o (no_change state)).labels ≡ []
 created_labels state id new now given None = refl
 created_labels state id new now given (Some group) = refl
 
-pub next_labels : (state : GroupState) (number : ℕ) (id : Option (List ℕ)) (command : Command) (now : ℕ) (given : List Part) → is_next command ≡ true → (change_of state (record { number = number; id = id; command = command }) now given).labels ≡ []
+pub next_labels : (state : GroupState) (number : ℕ) (id : Option (List ℕ)) (command : Command) (now : ℕ) (given : List Part)
+    → is_next command ≡ true → (change_of state (record { number = number; id = id; command = command }) now given).labels ≡ []
 next_labels state number id (Lvcreate new) now given is = created_labels state (unwrap_or id []) new now given state.group
-next_labels state number id (Vgrename vg new) now given is = next_holds state (λ change. change.labels ≡ []) refl (λ next. refl) number id (Vgrename vg new) now given is refl
-next_labels state number id (Lvextend path growth pvs) now given is = next_holds state (λ change. change.labels ≡ []) refl (λ next. refl) number id (Lvextend path growth pvs) now given is refl
-next_labels state number id (Lvreduce path amount) now given is = next_holds state (λ change. change.labels ≡ []) refl (λ next. refl) number id (Lvreduce path amount) now given is refl
-next_labels state number id (Lvremove path) now given is = next_holds state (λ change. change.labels ≡ []) refl (λ next. refl) number id (Lvremove path) now given is refl
-next_labels state number id (Lvrename vg old new) now given is = next_holds state (λ change. change.labels ≡ []) refl (λ next. refl) number id (Lvrename vg old new) now given is refl
+next_labels state number id (Vgrename vg new) now given is =
+    next_holds state (λ change. change.labels ≡ []) refl (λ next. refl) number id (Vgrename vg new) now given is refl
+next_labels state number id (Lvextend path growth pvs) now given is =
+    next_holds state (λ change. change.labels ≡ []) refl (λ next. refl) number id (Lvextend path growth pvs) now given is refl
+next_labels state number id (Lvreduce path amount) now given is =
+    next_holds state (λ change. change.labels ≡ []) refl (λ next. refl) number id (Lvreduce path amount) now given is refl
+next_labels state number id (Lvremove path) now given is =
+    next_holds state (λ change. change.labels ≡ []) refl (λ next. refl) number id (Lvremove path) now given is refl
+next_labels state number id (Lvrename vg old new) now given is =
+    next_holds state (λ change. change.labels ≡ []) refl (λ next. refl) number id (Lvrename vg old new) now given is refl
 next_labels state number id command now given is = absurd cc
 
 -- the sectors of no other command are to hold zeros
-pub no_zero : (state : GroupState) (number : ℕ) (id : Option (List ℕ)) (command : Command) (now : ℕ) (given : List Part) → is_next command ≡ true → zeroes command ≡ false
+pub no_zero : (state : GroupState) (number : ℕ) (id : Option (List ℕ)) (command : Command) (now : ℕ) (given : List Part)
+    → is_next command ≡ true → zeroes command ≡ false
     → (change_of state (record { number = number; id = id; command = command }) now given).zero ≡ []
-no_zero state number id command now given is other = next_holds state (λ change. change.zero ≡ []) refl (λ next. refl) number id command now given is other
+no_zero state number id command now given is other =
+    next_holds state (λ change. change.zero ≡ []) refl (λ next. refl) number id command now given is other
 
 -- ---- what the rows say
 
-rename_next : (state : GroupState) (vg new : List ℕ) (now : ℕ) → group_name_refusal new ≡ None → (o : Option Group) → state.group ≡ o → first_refusal (option_map_or (rename_rows state vg new now) o (Some (UnknownGroup vg) ∷ [])) ≡ None
+rename_next : (state : GroupState) (vg new : List ℕ) (now : ℕ) → group_name_refusal new ≡ None → (o : Option Group) → state.group ≡ o
+    → first_refusal (option_map_or (rename_rows state vg new now) o (Some (UnknownGroup vg) ∷ [])) ≡ None
     → CommitsNext state (option_map_or (λ (g : Group). version_change state (renamed_group g new)) o (no_change state)) now
 rename_next state vg new now named None there none = absurd cc
 rename_next state vg new now named (Some group) there none =
@@ -156,38 +172,48 @@ rename_next state vg new now named (Some group) there none =
     }
 
 -- a visible volume has the name, and its rows pass
-named_on : (group : Group) (name : List ℕ) (rows : ℕ × Lv → List (Option OpRefusal)) (o : Option (ℕ × Lv)) → visible_named group name ≡ o → first_refusal (option_map_or rows o (Some (UnknownVolume name) ∷ [])) ≡ None
+named_on : (group : Group) (name : List ℕ) (rows : ℕ × Lv → List (Option OpRefusal)) (o : Option (ℕ × Lv)) → visible_named group name ≡ o
+    → first_refusal (option_map_or rows o (Some (UnknownVolume name) ∷ [])) ≡ None
     → (v : ℕ × Lv) × (visible_named group name ≡ Some v) × (first_refusal (rows v) ≡ None)
 named_on group name rows None is none = absurd cc
 named_on group name rows (Some v) is none = (v, is, none)
 
-remove_next : (state : GroupState) (path : Path) (now : ℕ) (o : Option Group) → state.group ≡ o → first_refusal (option_map_or (remove_in_rows state path now) o (Some (UnknownGroup path.vg) ∷ [])) ≡ None
+remove_next : (state : GroupState) (path : Path) (now : ℕ) (o : Option Group) → state.group ≡ o
+    → first_refusal (option_map_or (remove_in_rows state path now) o (Some (UnknownGroup path.vg) ∷ [])) ≡ None
     → CommitsNext state (option_map_or (remove_change state path.lv) o (no_change state)) now
 remove_next state path now None there none = absurd cc
 remove_next state path now (Some group) there none =
     let parts = none_holds (remove_in_rows state path now group) none in
-    let seen = named_on group path.lv (remove_lv_rows state path.lv now group) (visible_named group path.lv) refl (front_passes (named_rows group path.vg) (rows_on group path.lv (remove_lv_rows state path.lv now group)) none) in
+    let seen =
+        named_on group path.lv (remove_lv_rows state path.lv now group) (visible_named group path.lv) refl
+            (front_passes (named_rows group path.vg) (rows_on group path.lv (remove_lv_rows state path.lv now group)) none) in
     let rows = none_holds (remove_lv_rows state path.lv now group seen.0) seen.2 in
     record {
       old = group;
       there = there;
       next = without_volume group seen.0.0;
       zero = [];
-      change_is = ap (λ (o : Option (ℕ × Lv)). option_map_or (λ (v : ℕ × Lv). version_change state (without_volume group v.0)) o (no_change state)) seen.1;
+      change_is =
+          ap (λ (o : Option (ℕ × Lv)). option_map_or (λ (v : ℕ × Lv). version_change state (without_volume group v.0)) o (no_change state))
+              seen.1;
       same_id = refl;
       next_seqno = refl;
       same_pvs = refl;
       has_area = rows.1.0;
       fits = rows.1.1.1.0;
-      whole = λ state_is accepted tree time. removed_whole group seen.0.0 (named_is_visible group path.lv seen.0 seen.1) (not_locked group path.lv seen.0.0 rows.0) (seqno_left group rows.1.1.0) accepted tree;
+      whole =
+          λ state_is accepted tree time. removed_whole group seen.0.0 (named_is_visible group path.lv seen.0 seen.1)
+              (not_locked group path.lv seen.0.0 rows.0) (seqno_left group rows.1.1.0) accepted tree;
     }
 
-reduce_next : (state : GroupState) (path : Path) (amount : Amount) (now : ℕ) → IsAmount amount → (o : Option Group) → state.group ≡ o → first_refusal (option_map_or (reduce_in_rows state path amount now) o (Some (UnknownGroup path.vg) ∷ [])) ≡ None
+reduce_next : (state : GroupState) (path : Path) (amount : Amount) (now : ℕ) → IsAmount amount → (o : Option Group) → state.group ≡ o
+    → first_refusal (option_map_or (reduce_in_rows state path amount now) o (Some (UnknownGroup path.vg) ∷ [])) ≡ None
     → CommitsNext state (option_map_or (reduce_change state path.lv amount) o (no_change state)) now
 reduce_next state path amount now planned None there none = absurd cc
 reduce_next state path amount now planned (Some group) there none =
     let seen =
-    named_on group path.lv (reduce_lv_rows state path.lv amount now group) (visible_named group path.lv) refl (front_passes (named_rows group path.vg) (rows_on group path.lv (reduce_lv_rows state path.lv amount now group)) none)
+    named_on group path.lv (reduce_lv_rows state path.lv amount now group) (visible_named group path.lv) refl
+        (front_passes (named_rows group path.vg) (rows_on group path.lv (reduce_lv_rows state path.lv amount now group)) none)
     in
     let rows = none_holds (reduce_lv_rows state path.lv amount now group seen.0) seen.2 in
     let said : ℕ = extents_for group.extent_size amount in
@@ -196,7 +222,9 @@ reduce_next state path amount now planned (Some group) there none =
       there = there;
       next = reduced_group path.lv amount group seen.0.1;
       zero = [];
-      change_is = ap (λ (o : Option (ℕ × Lv)). option_map_or (λ (v : ℕ × Lv). version_change state (reduced_group path.lv amount group v.1)) o (no_change state)) seen.1;
+      change_is =
+          ap (λ (o : Option (ℕ × Lv)). option_map_or (λ (v : ℕ × Lv). version_change state (reduced_group path.lv amount group v.1)) o
+              (no_change state)) seen.1;
       same_id = refl;
       next_seqno = refl;
       same_pvs = refl;
@@ -211,7 +239,8 @@ reduce_next state path amount now planned (Some group) there none =
           (seqno_left group rows.1.1.1.1.0) accepted tree;
     }
 
-create_next : (state : GroupState) (id : List ℕ) (new : NewVolume) (now : ℕ) (given : List Part) → Creates state id new now given → CommitsNext state (lvcreate_change state id new now given) now
+create_next : (state : GroupState) (id : List ℕ) (new : NewVolume) (now : ℕ) (given : List Part) → Creates state id new now given
+    → CommitsNext state (lvcreate_change state id new now given) now
 create_next state id new now given made = record {
   old = made.old;
   there = made.there;
@@ -226,19 +255,26 @@ create_next state id new now given made = record {
   whole = made.whole;
 }
 
-extend_next : (state : GroupState) (path : Path) (growth : Growth) (pvs : List (List ℕ)) (now : ℕ) (given : List Part) → IsGrowth growth → (o : Option Group) → state.group ≡ o → Takes (option_and_then (extend_asks state path growth pvs) o) given
-    → first_refusal (option_map_or (λ (g : Group). extend_in_rows state path growth pvs now g given) o (Some (UnknownGroup path.vg) ∷ [])) ≡ None
+extend_next : (state : GroupState) (path : Path) (growth : Growth) (pvs : List (List ℕ)) (now : ℕ) (given : List Part) → IsGrowth growth
+    → (o : Option Group) → state.group ≡ o → Takes (option_and_then (extend_asks state path growth pvs) o) given
+    → first_refusal (option_map_or (λ (g : Group). extend_in_rows state path growth pvs now g given) o (Some (UnknownGroup path.vg) ∷ []))
+    ≡ None
     → CommitsNext state (option_map_or (λ (g : Group). version_change state (longer_volume path.lv given g)) o (no_change state)) now
 extend_next state path growth pvs now given planned None there takes none = absurd cc
 extend_next state path growth pvs now given planned (Some group) there takes none =
-    let back : ℕ × Lv → List (Option OpRefusal) = λ volume. extend_lv_rows state path.lv growth pvs group volume ++ lengthen_rows state path.lv now group given in
-    let seen = named_on group path.lv back (visible_named group path.lv) refl (front_passes (named_rows group path.vg) (rows_on group path.lv back) none) in
+    let back : ℕ × Lv → List (Option OpRefusal) =
+        λ volume. extend_lv_rows state path.lv growth pvs group volume ++ lengthen_rows state path.lv now group given in
+    let seen =
+        named_on group path.lv back (visible_named group path.lv) refl
+            (front_passes (named_rows group path.vg) (rows_on group path.lv back) none) in
     let asked : Takes (Some (volume_asks (named_rows group path.vg) state path.lv growth pvs group seen.0)) given =
-    subst (λ (o : Option (ℕ × Lv)). Takes (option_map (volume_asks (named_rows group path.vg) state path.lv growth pvs group) o) given) seen.1 takes
+    subst (λ (o : Option (ℕ × Lv)). Takes (option_map (volume_asks (named_rows group path.vg) state path.lv growth pvs group) o) given)
+        seen.1 takes
     in
     let taken =
     asked
-    (none_both (named_rows group path.vg) (extend_lv_rows state path.lv growth pvs group seen.0) (back_passes (named_rows group path.vg) (rows_on group path.lv back) none)
+    (none_both (named_rows group path.vg) (extend_lv_rows state path.lv growth pvs group seen.0)
+        (back_passes (named_rows group path.vg) (rows_on group path.lv back) none)
     (back_passes (extend_lv_rows state path.lv growth pvs group seen.0) (lengthen_rows state path.lv now group given) seen.2))
     in
     let rows = none_holds (extend_lv_rows state path.lv growth pvs group seen.0 ++ lengthen_rows state path.lv now group given) seen.2 in
@@ -256,15 +292,19 @@ extend_next state path growth pvs now given planned (Some group) there takes non
       whole = λ state_is accepted tree time.
           longer_whole group path.lv given
           (subst (λ (o : Option (ℕ × Lv)). IsSomeAnd o (λ (v : ℕ × Lv). MayGrow group v.1 given)) (sym seen.1)
-          (grows_by group accepted path.lv seen.0.0 seen.0.1 seen.1 state state_is there tree growth pvs given rows.1.1.1.0 taken.0 (few_segments group (length given) rows.1.1.1.1.1.1.1.1.0)))
+          (grows_by group accepted path.lv seen.0.0 seen.0.1 seen.1 state state_is there tree growth pvs given rows.1.1.1.0 taken.0
+              (few_segments group (length given) rows.1.1.1.1.1.1.1.1.0)))
           (seqno_left group rows.1.1.1.1.1.1.0) accepted tree;
     }
 
-rename_lv_next : (state : GroupState) (vg old new : List ℕ) (now : ℕ) → volume_name_refusal new ≡ None → (o : Option Group) → state.group ≡ o → first_refusal (option_map_or (rename_in_rows state vg old new now) o (Some (UnknownGroup vg) ∷ [])) ≡ None
+rename_lv_next : (state : GroupState) (vg old new : List ℕ) (now : ℕ) → volume_name_refusal new ≡ None → (o : Option Group)
+    → state.group ≡ o → first_refusal (option_map_or (rename_in_rows state vg old new now) o (Some (UnknownGroup vg) ∷ [])) ≡ None
     → CommitsNext state (option_map_or (λ (g : Group). version_change state (renamed_volume old new g)) o (no_change state)) now
 rename_lv_next state vg old new now valid None there none = absurd cc
 rename_lv_next state vg old new now valid (Some group) there none =
-    let seen = named_on group old (rename_lv_rows state old new now group) (visible_named group old) refl (front_passes (named_rows group vg) (rows_on group old (rename_lv_rows state old new now group)) none) in
+    let seen =
+        named_on group old (rename_lv_rows state old new now group) (visible_named group old) refl
+            (front_passes (named_rows group vg) (rows_on group old (rename_lv_rows state old new now group)) none) in
     let rows = none_holds (rename_lv_rows state old new now group seen.0) seen.2 in
     record {
       old = group;
@@ -277,7 +317,9 @@ rename_lv_next state vg old new now valid (Some group) there none =
       same_pvs = refl;
       has_area = rows.1.1.0;
       fits = rows.1.1.1.1.0;
-      whole = λ state_is accepted tree time. volume_whole group old new (ap is_some seen.1) (name_free group new rows.0) valid (seqno_left group rows.1.1.1.0) accepted tree;
+      whole =
+          λ state_is accepted tree time. volume_whole group old new (ap is_some seen.1) (name_free group new rows.0) valid
+              (seqno_left group rows.1.1.1.0) accepted tree;
     }
 
 -- an id that was drawn
@@ -286,14 +328,22 @@ drawn_is None is = absurd is
 drawn_is (Some own) is = is
 
 -- such a line that no row refuses
-pub commits_next : (state : GroupState) (number : ℕ) (id : Option (List ℕ)) (command : Command) (now : ℕ) (given : List Part) → IsPlanned id command → is_next command ≡ true
-    → Takes (asks_of state (record { number = number; id = id; command = command })) given → refusal_of state (record { number = number; id = id; command = command }) now given ≡ None → CommitsNext state (change_of state (record { number = number; id = id; command = command }) now given) now
+pub commits_next : (state : GroupState) (number : ℕ) (id : Option (List ℕ)) (command : Command) (now : ℕ) (given : List Part)
+    → IsPlanned id command → is_next command ≡ true
+    → Takes (asks_of state (record { number = number; id = id; command = command })) given
+    → refusal_of state (record { number = number; id = id; command = command }) now given ≡ None
+    → CommitsNext state (change_of state (record { number = number; id = id; command = command }) now given) now
 commits_next state number id (Vgrename vg new) now given planned is takes none = rename_next state vg new now planned state.group refl none
-commits_next state number id (Lvcreate new) now given planned is takes none = create_next state (unwrap_or id []) new now given (creates state (unwrap_or id []) new now given (drawn_is id planned.0) planned.1 state.group refl takes none)
-commits_next state number id (Lvextend path growth pvs) now given planned is takes none = extend_next state path growth pvs now given planned state.group refl takes none
-commits_next state number id (Lvreduce path amount) now given planned is takes none = reduce_next state path amount now planned state.group refl none
+commits_next state number id (Lvcreate new) now given planned is takes none =
+    create_next state (unwrap_or id []) new now given
+        (creates state (unwrap_or id []) new now given (drawn_is id planned.0) planned.1 state.group refl takes none)
+commits_next state number id (Lvextend path growth pvs) now given planned is takes none =
+    extend_next state path growth pvs now given planned state.group refl takes none
+commits_next state number id (Lvreduce path amount) now given planned is takes none =
+    reduce_next state path amount now planned state.group refl none
 commits_next state number id (Lvremove path) now given planned is takes none = remove_next state path now state.group refl none
-commits_next state number id (Lvrename vg old new) now given planned is takes none = rename_lv_next state vg old new now planned state.group refl none
+commits_next state number id (Lvrename vg old new) now given planned is takes none =
+    rename_lv_next state vg old new now planned state.group refl none
 commits_next state number id command now given planned is takes none = absurd cc
 
 -- ---- as a group to which no physical volume is added
@@ -306,6 +356,9 @@ pub extended_none : (state : GroupState) (next : Group) → extended next (added
 unfolding extended
 extended_none state next = refl
 
-pub version_is : (state : GroupState) (zero : List Span) (next : Group) → record (change_with next state.disk_of (added_of state [])) { zero = zero } ≡ zeroing_change state zero next
+pub version_is : (state : GroupState) (zero : List Span) (next : Group)
+    → record (change_with next state.disk_of (added_of state [])) { zero = zero } ≡ zeroing_change state zero next
 unfolding extended
-version_is state zero next = λ i. record { group = Some next; zero = zero; labels = []; taken = set.empty; cleared = set.empty; disk_of = append_nil state.disk_of i }
+version_is state zero next =
+    λ i. record { group = Some next; zero = zero; labels = []; taken = set.empty; cleared = set.empty;
+        disk_of = append_nil state.disk_of i }

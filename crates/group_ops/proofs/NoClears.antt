@@ -5,7 +5,8 @@ use Rattle.std.specs.FinSet as set
 use Rattle.std.specs.Option.{option_map_or}
 use Rattle.std.proofs.lemmas.Bool.{true≢false}
 use Rattle.command_table.specs.declared.command.Command.{Command}
-use Rattle.command_table.specs.declared.command.Command.TheVariants.{Lvcreate, Lvextend, Lvreduce, Lvremove, Lvrename, Pvcreate, Vgcfgrestore, Vgcreate, Vgextend, Vgreduce, Vgremove, Vgrename}
+use Rattle.command_table.specs.declared.command.Command.TheVariants.{Lvcreate, Lvextend, Lvreduce, Lvremove, Lvrename, Pvcreate,
+    Vgcfgrestore, Vgcreate, Vgextend, Vgreduce, Vgremove, Vgrename}
 use Rattle.command_table.specs.declared.command.NewVolume.{NewVolume}
 use Rattle.meta_model.specs.declared.group.Group.{Group}
 use Rattle.extent_alloc.specs.declared.part.Part.{Part}
@@ -32,23 +33,30 @@ extend_clears : (state : GroupState) (pvs : List (List ℕ)) (o : Option Group) 
 extend_clears state pvs None = refl
 extend_clears state pvs (Some group) = refl
 
-create_clears : (state : GroupState) (id : List ℕ) (new : NewVolume) (now : ℕ) (given : List Part) (o : Option Group) → ClearsNone (option_map_or (λ (g : Group). create_change state id new now g given) o (no_change state))
+create_clears : (state : GroupState) (id : List ℕ) (new : NewVolume) (now : ℕ) (given : List Part) (o : Option Group)
+    → ClearsNone (option_map_or (λ (g : Group). create_change state id new now g given) o (no_change state))
 create_clears state id new now given None = refl
 create_clears state id new now given (Some group) = refl
 
 -- each command that can be planned, but vgreduce and vgremove
-pub none_cleared : (state : GroupState) (number : ℕ) (id : Option (List ℕ)) (command : Command) (now : ℕ) (given : List Part) → IsPlanned id command → clears command ≡ false
+pub none_cleared : (state : GroupState) (number : ℕ) (id : Option (List ℕ)) (command : Command) (now : ℕ) (given : List Part)
+    → IsPlanned id command → clears command ≡ false
     → ClearsNone (change_of state (record { number = number; id = id; command = command }) now given)
 none_cleared state number id (Pvcreate pv copies) now given planned other = refl
 none_cleared state number id (Vgcreate vg extent_size pvs) now given planned other = refl
 none_cleared state number id (Vgextend vg pvs) now given planned other = extend_clears state pvs state.group
 none_cleared state number id (Vgreduce vg pv) now given planned other = absurd (true≢false other)
 none_cleared state number id (Vgremove vg) now given planned other = absurd (true≢false other)
-none_cleared state number id (Vgrename vg new) now given planned other = next_holds state ClearsNone refl (λ next. refl) number id (Vgrename vg new) now given refl refl
+none_cleared state number id (Vgrename vg new) now given planned other =
+    next_holds state ClearsNone refl (λ next. refl) number id (Vgrename vg new) now given refl refl
 none_cleared state number id (Lvcreate new) now given planned other = create_clears state (unwrap_or id []) new now given state.group
-none_cleared state number id (Lvextend path growth pvs) now given planned other = next_holds state ClearsNone refl (λ next. refl) number id (Lvextend path growth pvs) now given refl refl
-none_cleared state number id (Lvreduce path amount) now given planned other = next_holds state ClearsNone refl (λ next. refl) number id (Lvreduce path amount) now given refl refl
-none_cleared state number id (Lvremove path) now given planned other = next_holds state ClearsNone refl (λ next. refl) number id (Lvremove path) now given refl refl
-none_cleared state number id (Lvrename vg old new) now given planned other = next_holds state ClearsNone refl (λ next. refl) number id (Lvrename vg old new) now given refl refl
+none_cleared state number id (Lvextend path growth pvs) now given planned other =
+    next_holds state ClearsNone refl (λ next. refl) number id (Lvextend path growth pvs) now given refl refl
+none_cleared state number id (Lvreduce path amount) now given planned other =
+    next_holds state ClearsNone refl (λ next. refl) number id (Lvreduce path amount) now given refl refl
+none_cleared state number id (Lvremove path) now given planned other =
+    next_holds state ClearsNone refl (λ next. refl) number id (Lvremove path) now given refl refl
+none_cleared state number id (Lvrename vg old new) now given planned other =
+    next_holds state ClearsNone refl (λ next. refl) number id (Lvrename vg old new) now given refl refl
 none_cleared state number id (Vgcfgrestore vg text) now given planned other = restore_holds state ClearsNone refl (λ disks next. refl)
 none_cleared state number id command now given planned other = absurd planned

@@ -4,7 +4,8 @@ use Rattle.std.specs.Prelude.{IfOk}
 use Rattle.std.specs.Option.{option_map_or}
 use Rattle.std.proofs.lemmas.Bool.{true≢false}
 use Rattle.command_table.specs.declared.command.Command.{Command}
-use Rattle.command_table.specs.declared.command.Command.TheVariants.{Lvcreate, Lvextend, Lvreduce, Lvremove, Lvrename, Pvcreate, Vgcfgrestore, Vgcreate, Vgextend, Vgrename, Vgreduce, Vgremove}
+use Rattle.command_table.specs.declared.command.Command.TheVariants.{Lvcreate, Lvextend, Lvreduce, Lvremove, Lvrename, Pvcreate,
+    Vgcfgrestore, Vgcreate, Vgextend, Vgrename, Vgreduce, Vgremove}
 use Rattle.command_table.specs.declared.amount.Growth.{Growth}
 use Rattle.command_table.specs.declared.command.Path.{Path}
 use Rattle.line_answers.specs.declared.op_refusal.OpRefusal.{OpRefusal}
@@ -33,11 +34,13 @@ pub extend_none : (state : GroupState) (pvs : List (List ℕ)) (o : Option Group
 extend_none state pvs None = refl
 extend_none state pvs (Some group) = refl
 
-leaving_none : (state : GroupState) (group : Group) (o : Option ℕ) → (option_map_or (leaving_change state group) o (no_change state)).zero ≡ []
+leaving_none : (state : GroupState) (group : Group) (o : Option ℕ)
+    → (option_map_or (leaving_change state group) o (no_change state)).zero ≡ []
 leaving_none state group None = refl
 leaving_none state group (Some number) = refl
 
-pub leave_none : (state : GroupState) (name : List ℕ) (o : Option Group) → (option_map_or (reduce_change state name) o (no_change state)).zero ≡ []
+pub leave_none : (state : GroupState) (name : List ℕ) (o : Option Group)
+    → (option_map_or (reduce_change state name) o (no_change state)).zero ≡ []
 leave_none state name None = refl
 leave_none state name (Some group) = leaving_none state group (pv_named state name)
 
@@ -45,7 +48,9 @@ pub restore_none : (state : GroupState) → (vgcfgrestore_change state).zero ≡
 restore_none state = restore_holds state (λ change. change.zero ≡ []) refl (λ disks next. refl)
 
 -- each command that can be planned, but lvcreate
-pub none_zeroed : (state : GroupState) (number : ℕ) (id : Option (List ℕ)) (command : Command) (now : ℕ) (given : List Part) → IsPlanned id command → zeroes command ≡ false → (change_of state (record { number = number; id = id; command = command }) now given).zero ≡ []
+pub none_zeroed : (state : GroupState) (number : ℕ) (id : Option (List ℕ)) (command : Command) (now : ℕ) (given : List Part)
+    → IsPlanned id command → zeroes command ≡ false
+    → (change_of state (record { number = number; id = id; command = command }) now given).zero ≡ []
 none_zeroed state number id (Pvcreate pv copies) now given planned other = refl
 none_zeroed state number id (Vgcreate vg extent_size pvs) now given planned other = refl
 none_zeroed state number id (Vgextend vg pvs) now given planned other = extend_none state pvs state.group
@@ -54,16 +59,20 @@ none_zeroed state number id (Vgremove vg) now given planned other = refl
 none_zeroed state number id (Vgrename vg new) now given planned other = no_zero state number id (Vgrename vg new) now given refl refl
 none_zeroed state number id (Vgcfgrestore vg text) now given planned other = restore_none state
 none_zeroed state number id (Lvcreate new) now given planned other = absurd (true≢false other)
-none_zeroed state number id (Lvextend path growth pvs) now given planned other = no_zero state number id (Lvextend path growth pvs) now given refl refl
-none_zeroed state number id (Lvreduce path amount) now given planned other = no_zero state number id (Lvreduce path amount) now given refl refl
+none_zeroed state number id (Lvextend path growth pvs) now given planned other =
+    no_zero state number id (Lvextend path growth pvs) now given refl refl
+none_zeroed state number id (Lvreduce path amount) now given planned other =
+    no_zero state number id (Lvreduce path amount) now given refl refl
 none_zeroed state number id (Lvremove path) now given planned other = no_zero state number id (Lvremove path) now given refl refl
-none_zeroed state number id (Lvrename vg old new) now given planned other = no_zero state number id (Lvrename vg old new) now given refl refl
+none_zeroed state number id (Lvrename vg old new) now given planned other =
+    no_zero state number id (Lvrename vg old new) now given refl refl
 none_zeroed state number id command now given planned other = absurd planned
 
 -- ---- plans
 
 -- and of one that zeroes nothing
-plans_none : (disks : List Disk) (rows : List (Option OpRefusal)) (wanted : Change) (result : Result Change PlanRefusal) → Plans rows wanted result → wanted.zero ≡ [] → IfOk result (λ change. AreWithin disks change.zero)
+plans_none : (disks : List Disk) (rows : List (Option OpRefusal)) (wanted : Change) (result : Result Change PlanRefusal)
+    → Plans rows wanted result → wanted.zero ≡ [] → IfOk result (λ change. AreWithin disks change.zero)
 plans_none disks rows wanted result plans none = plans_within disks rows wanted result plans (subst (AreWithin disks) (sym none) tt)
 
 -- the line of a command that draws no id
@@ -71,17 +80,25 @@ abbrev undrawn : Command → Line
 undrawn command = record { number = 0; id = None; command = command }
 
 -- so of a command that takes no extents, and of one that takes some
-pub without_zeros : (state : GroupState) (command : Command) (now : ℕ) (result : Result Change PlanRefusal) → (change_of state (undrawn command) now []).zero ≡ [] → Plans (rows_of state (undrawn command) now []) (change_of state (undrawn command) now []) result
+pub without_zeros : (state : GroupState) (command : Command) (now : ℕ) (result : Result Change PlanRefusal)
+    → (change_of state (undrawn command) now []).zero ≡ []
+    → Plans (rows_of state (undrawn command) now []) (change_of state (undrawn command) now []) result
     → IfOk result (λ change. AreWithin state.disks change.zero)
-without_zeros state command now result none plans = plans_none state.disks (rows_of state (undrawn command) now []) (change_of state (undrawn command) now []) result plans none
+without_zeros state command now result none plans =
+    plans_none state.disks (rows_of state (undrawn command) now []) (change_of state (undrawn command) now []) result plans none
 
-module _ (disks : List Disk) (rows : List Part → List (Option OpRefusal)) (wanted : List Part → Change) (none : (given : List Part) → (wanted given).zero ≡ []) where
-  plans_none_with : (asking : Option Asking) (result : Result Change PlanRefusal) → PlansWith asking rows wanted result → IfOk result (λ change. AreWithin disks change.zero)
+module _ (disks : List Disk) (rows : List Part → List (Option OpRefusal)) (wanted : List Part → Change)
+    (none : (given : List Part) → (wanted given).zero ≡ []) where
+  plans_none_with : (asking : Option Asking) (result : Result Change PlanRefusal) → PlansWith asking rows wanted result
+      → IfOk result (λ change. AreWithin disks change.zero)
   plans_none_with None result plans = plans_none disks (rows []) (wanted []) result plans (none [])
   plans_none_with (Some asking) (Ok change) plans = plans_none disks (rows plans.0) (wanted plans.0) (Ok change) plans.2 (none plans.0)
   plans_none_with (Some asking) (Err refusal) plans = tt
 
-pub extends_without_zeros : (state : GroupState) (path : Path) (growth : Growth) (pvs : List (List ℕ)) (now : ℕ) (result : Result Change PlanRefusal) → PlansWith (lvextend_asks state path growth pvs) (lvextend_rows state path growth pvs now) (lvextend_change state path.lv) result
+pub extends_without_zeros : (state : GroupState) (path : Path) (growth : Growth) (pvs : List (List ℕ)) (now : ℕ)
+    (result : Result Change PlanRefusal) → PlansWith (lvextend_asks state path growth pvs) (lvextend_rows state path growth pvs now)
+    (lvextend_change state path.lv) result
     → IfOk result (λ change. AreWithin state.disks change.zero)
 extends_without_zeros state path growth pvs now result plans =
-    plans_none_with state.disks (lvextend_rows state path growth pvs now) (lvextend_change state path.lv) (λ given. no_zero state 0 None (Lvextend path growth pvs) now given refl refl) (lvextend_asks state path growth pvs) result plans
+    plans_none_with state.disks (lvextend_rows state path growth pvs now) (lvextend_change state path.lv)
+        (λ given. no_zero state 0 None (Lvextend path growth pvs) now given refl refl) (lvextend_asks state path growth pvs) result plans

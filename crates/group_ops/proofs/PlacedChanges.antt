@@ -5,7 +5,9 @@ use Rattle.std.specs.Option.{option_map_or}
 use Rattle.std.specs.List.{AllByRecursion as Each}
 use Rattle.command_table.specs.declared.amount.Amount.{Amount}
 use Rattle.command_table.specs.declared.command.Command.{Command}
-use Rattle.command_table.specs.declared.command.Command.TheVariants.{Pvcreate, Pvmove, Pvck, Pvs, Vgcreate, Vgextend, Vgreduce, Vgremove, Vgrename, Vgcfgbackup, Vgcfgrestore, Vgck, Vgs, Lvcreate, Lvextend, Lvreduce, Lvremove, Lvrename, Lvs, Read, Fill, Write, List as ListVolumes, Wait, Resync}
+use Rattle.command_table.specs.declared.command.Command.TheVariants.{Pvcreate, Pvmove, Pvck, Pvs, Vgcreate, Vgextend, Vgreduce, Vgremove,
+    Vgrename, Vgcfgbackup, Vgcfgrestore, Vgck, Vgs, Lvcreate, Lvextend, Lvreduce, Lvremove, Lvrename, Lvs, Read, Fill, Write,
+    List as ListVolumes, Wait, Resync}
 use Rattle.command_table.specs.declared.command.NewVolume.{NewVolume}
 use Rattle.meta_model.specs.declared.group.Group.{Group}
 use Rattle.meta_model.specs.declared.lv.Lv.{Lv}
@@ -46,12 +48,15 @@ empty_placed : (id name : List ℕ) (extent_size : ℕ) (readings : List Reading
 empty_placed id name extent_size [] = tt
 empty_placed id name extent_size (reading ∷ more) = (empty_on id name extent_size reading.pv, empty_placed id name extent_size more)
 
-extend_placed : (state : GroupState) → IsState state → (group : Option Group) (names : List (List ℕ)) → ArePlaced state.disks group → ArePlaced state.disks (extend_by state group names).group
+extend_placed : (state : GroupState) → IsState state → (group : Option Group) (names : List (List ℕ)) → ArePlaced state.disks group
+    → ArePlaced state.disks (extend_by state group names).group
 extend_placed state is None names placed = tt
 extend_placed state is (Some group) names placed = added_placed state is (next_version group) names placed
 
 -- a change that leaves the physical volumes as they are
-version_placed : (state : GroupState) (next : Group → Group) → ((g : Group) → ArePlaced state.disks (Some g) → ArePlaced state.disks (Some (next g))) → (group : Option Group) → ArePlaced state.disks group
+version_placed : (state : GroupState) (next : Group → Group)
+    → ((g : Group) → ArePlaced state.disks (Some g) → ArePlaced state.disks (Some (next g))) → (group : Option Group)
+    → ArePlaced state.disks group
     → ArePlaced state.disks (option_map_or (λ (g : Group). version_change state (next g)) group (no_change state)).group
 version_placed state next keeps None placed = tt
 version_placed state next keeps (Some group) placed = keeps group placed
@@ -61,20 +66,25 @@ without_placed : (state : GroupState) (group : Group) (volume : Option (ℕ × L
 without_placed state group None placed = tt
 without_placed state group (Some volume) placed = placed
 
-remove_placed : (state : GroupState) (name : List ℕ) (group : Option Group) → ArePlaced state.disks group → ArePlaced state.disks (option_map_or (remove_change state name) group (no_change state)).group
+remove_placed : (state : GroupState) (name : List ℕ) (group : Option Group) → ArePlaced state.disks group
+    → ArePlaced state.disks (option_map_or (remove_change state name) group (no_change state)).group
 remove_placed state name None placed = tt
 remove_placed state name (Some group) placed = without_placed state group (visible_named group name) placed
 
-shortened_placed : (state : GroupState) (name : List ℕ) (amount : Amount) (group : Group) (volume : Option (ℕ × Lv)) → ArePlaced state.disks (Some group)
-    → ArePlaced state.disks (option_map_or (λ (v : ℕ × Lv). version_change state (reduced_group name amount group v.1)) volume (no_change state)).group
+shortened_placed : (state : GroupState) (name : List ℕ) (amount : Amount) (group : Group) (volume : Option (ℕ × Lv))
+    → ArePlaced state.disks (Some group)
+    → ArePlaced state.disks (option_map_or (λ (v : ℕ × Lv). version_change state (reduced_group name amount group v.1)) volume
+    (no_change state)).group
 shortened_placed state name amount group None placed = tt
 shortened_placed state name amount group (Some volume) placed = placed
 
-reduce_placed : (state : GroupState) (name : List ℕ) (amount : Amount) (group : Option Group) → ArePlaced state.disks group → ArePlaced state.disks (option_map_or (reduce_change state name amount) group (no_change state)).group
+reduce_placed : (state : GroupState) (name : List ℕ) (amount : Amount) (group : Option Group) → ArePlaced state.disks group
+    → ArePlaced state.disks (option_map_or (reduce_change state name amount) group (no_change state)).group
 reduce_placed state name amount None placed = tt
 reduce_placed state name amount (Some group) placed = shortened_placed state name amount group (visible_named group name) placed
 
-create_placed : (state : GroupState) (id : List ℕ) (new : NewVolume) (now : ℕ) (given : List Part) (group : Option Group) → ArePlaced state.disks group
+create_placed : (state : GroupState) (id : List ℕ) (new : NewVolume) (now : ℕ) (given : List Part) (group : Option Group)
+    → ArePlaced state.disks group
     → ArePlaced state.disks (option_map_or (λ (g : Group). create_change state id new now g given) group (no_change state)).group
 create_placed state id new now given None placed = tt
 create_placed state id new now given (Some group) placed = placed
@@ -82,19 +92,23 @@ create_placed state id new now given (Some group) placed = placed
 -- a text gives a group that lies well, where nothing refuses it
 restore_placed : (state : GroupState) (vg : List ℕ) (now : ℕ) (backup : Option Backup) (group : Option Group)
     → first_refusal (option_map_or (λ (b : Backup). rows_where_found group vg (restore_rows state vg b now)) backup []) ≡ None
-    → ArePlaced state.disks (option_map_or (λ (b : Backup). option_map_or (backup_change state b) group (no_change state)) backup (no_change state)).group
+    → ArePlaced state.disks (option_map_or (λ (b : Backup). option_map_or (backup_change state b) group (no_change state)) backup
+    (no_change state)).group
 restore_placed state vg now None group none = tt
 restore_placed state vg now (Some backup) None none = tt
 restore_placed state vg now (Some (Unread kind)) (Some found) none = tt
 restore_placed state vg now (Some (Broken said rule)) (Some found) none = tt
-restore_placed state vg now (Some (Sound said)) (Some found) none = let rows = none_holds (restore_rows state vg (Sound said) now found) none in restored_placed found said state.disks rows.1.1.1.1.1.1.1.0
+restore_placed state vg now (Some (Sound said)) (Some found) none =
+    let rows = none_holds (restore_rows state vg (Sound said) now found) none in restored_placed found said state.disks rows.1.1.1.1.1.1.1.0
 
-leaving_placed : (state : GroupState) (group : Group) (number : Option ℕ) → ArePlaced state.disks (Some group) → ArePlaced state.disks (option_map_or (leaving_change state group) number (no_change state)).group
+leaving_placed : (state : GroupState) (group : Group) (number : Option ℕ) → ArePlaced state.disks (Some group)
+    → ArePlaced state.disks (option_map_or (leaving_change state group) number (no_change state)).group
 leaving_placed state group None placed = tt
 leaving_placed state group (Some number) placed = reduced_placed group number (shapes state.disks) placed
 
 -- a change that one of them leaves
-leave_placed : (state : GroupState) (name : List ℕ) (group : Option Group) → ArePlaced state.disks group → ArePlaced state.disks (option_map_or (leave_change state name) group (no_change state)).group
+leave_placed : (state : GroupState) (name : List ℕ) (group : Option Group) → ArePlaced state.disks group
+    → ArePlaced state.disks (option_map_or (leave_change state name) group (no_change state)).group
 leave_placed state name None placed = tt
 leave_placed state name (Some group) placed = leaving_placed state group (pv_named state name) placed
 
@@ -104,23 +118,27 @@ change_by : (state : GroupState) → IsState state → (number : ℕ) (id : Opti
 change_by state is number id (Pvcreate pv copies) now given none placed = tt
 change_by state is number id (Vgcreate vg extent_size pvs) now given none placed =
     added_placed state is (empty_group (unwrap_or id []) vg extent_size) pvs
-    (none_misplaced (empty_group (unwrap_or id []) vg extent_size) 0 (shapes state.disks) (empty_placed (unwrap_or id []) vg extent_size (shapes state.disks)))
+    (none_misplaced (empty_group (unwrap_or id []) vg extent_size) 0 (shapes state.disks)
+        (empty_placed (unwrap_or id []) vg extent_size (shapes state.disks)))
 change_by state is number id (Vgextend vg pvs) now given none placed = extend_placed state is state.group pvs placed
 change_by state is number id (Pvmove a) now given none placed = tt
 change_by state is number id (Pvck a) now given none placed = tt
 change_by state is number id Pvs now given none placed = tt
 change_by state is number id (Vgreduce vg pv) now given none placed = leave_placed state pv state.group placed
 change_by state is number id (Vgremove a) now given none placed = tt
-change_by state is number id (Vgrename vg new) now given none placed = version_placed state (λ g. renamed_group g new) (λ g placed. placed) state.group placed
+change_by state is number id (Vgrename vg new) now given none placed =
+    version_placed state (λ g. renamed_group g new) (λ g placed. placed) state.group placed
 change_by state is number id (Vgcfgbackup a) now given none placed = tt
 change_by state is number id (Vgcfgrestore vg text) now given none placed = restore_placed state vg now state.backup state.group none
 change_by state is number id Vgck now given none placed = tt
 change_by state is number id Vgs now given none placed = tt
 change_by state is number id (Lvcreate new) now given none placed = create_placed state (unwrap_or id []) new now given state.group placed
-change_by state is number id (Lvextend path growth pvs) now given none placed = version_placed state (longer_volume path.lv given) (λ g placed. placed) state.group placed
+change_by state is number id (Lvextend path growth pvs) now given none placed =
+    version_placed state (longer_volume path.lv given) (λ g placed. placed) state.group placed
 change_by state is number id (Lvreduce path amount) now given none placed = reduce_placed state path.lv amount state.group placed
 change_by state is number id (Lvremove path) now given none placed = remove_placed state path.lv state.group placed
-change_by state is number id (Lvrename vg old new) now given none placed = version_placed state (renamed_volume old new) (λ g placed. placed) state.group placed
+change_by state is number id (Lvrename vg old new) now given none placed =
+    version_placed state (renamed_volume old new) (λ g placed. placed) state.group placed
 change_by state is number id Lvs now given none placed = tt
 change_by state is number id (Read a b c) now given none placed = tt
 change_by state is number id (Fill a b c d) now given none placed = tt

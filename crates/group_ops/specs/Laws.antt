@@ -17,12 +17,14 @@ use Rattle.group_ops.specs.Planning.{change_of, refusal_of}
 
 -- what was found, with names for the disks, and what the text of the line gives, if it has one to restore a group from
 abbrev pub state_in : Found → List (List ℕ) → Option Backup → GroupState
-state_in found names backup = record { group = found.group; disks = found.disks; names = names; areas = found.areas; disk_of = found.disk_of; backup = backup }
+state_in found names backup =
+    record { group = found.group; disks = found.disks; names = names; areas = found.areas; disk_of = found.disk_of; backup = backup }
 
 -- where it is whole, and each disk has a name, lines may be judged against it
 abbrev pub WholeIsState : Type 0
 WholeIsState =
-    (found : Found) (names : List (List ℕ)) (backup : Option Backup) → HasShape found → IsWhole found → length names ≡ length found.disks → All (λ name. is_disk_name name ≡ true) names → IsState (state_in found names backup)
+    (found : Found) (names : List (List ℕ)) (backup : Option Backup) → HasShape found → IsWhole found → length names ≡ length found.disks
+        → All (λ name. is_disk_name name ≡ true) names → IsState (state_in found names backup)
 
 -- the extents of each physical volume of the group, where there is one, lie in its disk, and meet neither sectors 0 to 7 nor
 -- a metadata area
@@ -33,4 +35,5 @@ ArePlaced disks group = IfSome group (λ g. first_misplaced g (shapes disks) ≡
 -- refuses it
 abbrev pub ChangeIsPlaced : Type 0
 ChangeIsPlaced =
-    (state : GroupState) (line : Line) (now : ℕ) (given : List Part) → IsState state → refusal_of state line now given ≡ None → ArePlaced state.disks state.group → ArePlaced state.disks (change_of state line now given).group
+    (state : GroupState) (line : Line) (now : ℕ) (given : List Part) → IsState state → refusal_of state line now given ≡ None
+        → ArePlaced state.disks state.group → ArePlaced state.disks (change_of state line now given).group

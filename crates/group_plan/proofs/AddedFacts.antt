@@ -1,5 +1,6 @@
 -- What is known of the physical volumes that a line adds.
-use Rattle.std.proofs.Common.{◌≡◌, ◌<◌, ℕ, ◌+◌, ◌*◌, Bool, true, false, cond, List, [], ◌∷◌, length, Option, Some, None, refl, sym, ap, subst, arith}
+use Rattle.std.proofs.Common.{◌≡◌, ◌<◌, ℕ, ◌+◌, ◌*◌, Bool, true, false, cond, List, [], ◌∷◌, length, Option, Some, None, refl, sym, ap,
+    subst, arith}
 use Rattle.std.specs.Prelude.{All, option_map, slice_get}
 use Rattle.std.specs.Option.{option_and_then}
 use Rattle.std.specs.Str.{bytes_eq}
@@ -37,7 +38,8 @@ pub record IsFoundOn (state : GroupState) (added : AddedPv) : Type 0 where
 
 -- ---- options
 
-and_then_some : {X Y : Type 0} (f : X → Option Y) (o : Option X) (y : Y) → option_and_then f o ≡ Some y → (x : X) × (o ≡ Some x) × (f x ≡ Some y)
+and_then_some : {X Y : Type 0} (f : X → Option Y) (o : Option X) (y : Y) → option_and_then f o ≡ Some y
+    → (x : X) × (o ≡ Some x) × (f x ≡ Some y)
 and_then_some f None y is = absurd cc
 and_then_some f (Some x) y is = (x, refl, is)
 
@@ -53,30 +55,37 @@ record IsWell (sectors : ℕ) (contents : Option PvFound) (header : PvHeader) : 
   id : IsId header.id
   lie : CanLie header.data_areas header.areas (sectors * 512)
 
-well_by : (pv sectors : ℕ) (found : PvFound) (label : ℕ) (header : PvHeader) → ContentsCanStand pv sectors (Some found) → pv_in found ≡ Some (label, header) → IsWell sectors (Some found) header
+well_by : (pv sectors : ℕ) (found : PvFound) (label : ℕ) (header : PvHeader) → ContentsCanStand pv sectors (Some found)
+    → pv_in found ≡ Some (label, header) → IsWell sectors (Some found) header
 well_by pv sectors (NoLabel refusal) label header stands is = absurd cc
 well_by pv sectors (NoHeader other refusal) label header stands is = absurd cc
 well_by pv sectors (Whole other own areas) label header stands is =
     let same : own ≡ header = ap (λ (pair : ℕ × PvHeader). pair.1) (same_Some (other, own) (label, header) is) in
-    subst (IsWell sectors (Some (Whole other own areas))) same (record { is = refl; id = stands.1.1.fields.id_valid; lie = stands.1.1.areas })
+    subst (IsWell sectors (Some (Whole other own areas))) same
+        (record { is = refl; id = stands.1.1.fields.id_valid; lie = stands.1.1.areas })
 
-well : (pv sectors : ℕ) (contents : Option PvFound) (label : ℕ) (header : PvHeader) → ContentsCanStand pv sectors contents → option_and_then pv_in contents ≡ Some (label, header) → IsWell sectors contents header
+well : (pv sectors : ℕ) (contents : Option PvFound) (label : ℕ) (header : PvHeader) → ContentsCanStand pv sectors contents
+    → option_and_then pv_in contents ≡ Some (label, header) → IsWell sectors contents header
 well pv sectors None label header stands is = absurd cc
 well pv sectors (Some found) label header stands is = well_by pv sectors found label header stands is
 
 -- ---- its name
 
-named_by : (first : List ℕ) (names : List (List ℕ)) (name : List ℕ) (number : ℕ) (b : Bool) (o : Option ℕ) → bytes_eq first name ≡ b → is_disk_name first ≡ true → ((n : ℕ) → o ≡ Some n → is_disk_name name ≡ true)
+named_by : (first : List ℕ) (names : List (List ℕ)) (name : List ℕ) (number : ℕ) (b : Bool) (o : Option ℕ) → bytes_eq first name ≡ b
+    → is_disk_name first ≡ true → ((n : ℕ) → o ≡ Some n → is_disk_name name ≡ true)
     → cond b (Some 0) (option_map (λ (n : ℕ). n + 1) o) ≡ Some number → is_disk_name name ≡ true
-named_by first names name number true o same here later is = subst (λ (l : List ℕ). is_disk_name l ≡ true) (same_text first name (sym same)) here
+named_by first names name number true o same here later is =
+    subst (λ (l : List ℕ). is_disk_name l ≡ true) (same_text first name (sym same)) here
 named_by first names name number false None same here later is = absurd cc
 named_by first names name number false (Some n) same here later is = later n refl
 
-named_disk : (names : List (List ℕ)) (name : List ℕ) (number : ℕ) → number_named names name ≡ Some number → All (λ n. is_disk_name n ≡ true) names → is_disk_name name ≡ true
+named_disk : (names : List (List ℕ)) (name : List ℕ) (number : ℕ) → number_named names name ≡ Some number
+    → All (λ n. is_disk_name n ≡ true) names → is_disk_name name ≡ true
 unfolding number_named
 named_disk [] name number is all = absurd cc
 named_disk (first ∷ names) name number is all =
-    named_by first names name number (bytes_eq first name) (number_named names name) refl (All-head (λ n. is_disk_name n ≡ true) first names all)
+    named_by first names name number (bytes_eq first name) (number_named names name) refl
+        (All-head (λ n. is_disk_name n ≡ true) first names all)
     (λ n found. named_disk names name n found (All-tail (λ n. is_disk_name n ≡ true) first names all)) is
 
 -- ---- one of them
@@ -84,7 +93,8 @@ named_disk (first ∷ names) name number is all =
 abbrev added_with : List ℕ → ℕ → ℕ → ℕ × PvHeader → AddedPv
 added_with name number sectors pv = record { disk = number; name = name; sectors = sectors; label = pv.0; header = pv.1 }
 
-found_with : (state : GroupState) → IsState state → (name : List ℕ) (number : ℕ) (disk : Disk) (label : ℕ) (header : PvHeader) → is_disk_name name ≡ true → slice_get state.disks number ≡ Some disk
+found_with : (state : GroupState) → IsState state → (name : List ℕ) (number : ℕ) (disk : Disk) (label : ℕ) (header : PvHeader)
+    → is_disk_name name ≡ true → slice_get state.disks number ≡ Some disk
     → option_and_then pv_in disk.contents ≡ Some (label, header) → IsFoundOn state (added_with name number disk.sectors (label, header))
 found_with state is name number disk label header named there stands =
     let whole : IsDisk number disk = is.disks number disk there in
@@ -104,17 +114,21 @@ found_with state is name number disk label header named there stands =
       content = disk_name-content name named;
     }
 
-found_on : (state : GroupState) → IsState state → (name : List ℕ) (added : AddedPv) → added_named state name ≡ Some added → IsFoundOn state added
+found_on : (state : GroupState) → IsState state → (name : List ℕ) (added : AddedPv) → added_named state name ≡ Some added
+    → IsFoundOn state added
 unfolding added_named
 found_on state is name added found =
     let numbered = and_then_some (added_at state name) (number_named state.names name) added found in
     let disked = and_then_some (added_on name numbered.0) (slice_get state.disks numbered.0) added numbered.2 in
     let headed = map_some (added_with name numbered.0 disked.0.sectors) (option_and_then pv_in disked.0.contents) added disked.2 in
-    subst (IsFoundOn state) headed.2 (found_with state is name numbered.0 disked.0 headed.0.0 headed.0.1 (named_disk state.names name numbered.0 numbered.1 is.names) disked.1 headed.1)
+    subst (IsFoundOn state) headed.2 (found_with state is name numbered.0 disked.0 headed.0.0 headed.0.1
+        (named_disk state.names name numbered.0 numbered.1 is.names) disked.1 headed.1)
 
 -- all of them
 pub all_found : (state : GroupState) → IsState state → (names : List (List ℕ)) → All (IsFoundOn state) (added_of state names)
-all_found state is names = all_kept (IsFoundOn state) (λ name. Unit {0}) (added_named state) (λ name added any found. found_on state is name added found) names (λ k d within. tt)
+all_found state is names =
+    all_kept (IsFoundOn state) (λ name. Unit {0}) (added_named state) (λ name added any found. found_on state is name added found) names
+        (λ k d within. tt)
 
 pub all_added : (state : GroupState) → IsState state → (names : List (List ℕ)) → All IsAdded (added_of state names)
 all_added state is names = All-weaker (IsFoundOn state) IsAdded (λ added found. found.is) (added_of state names) (all_found state is names)

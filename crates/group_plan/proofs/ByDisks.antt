@@ -1,5 +1,6 @@
 -- Numbers by disks, one physical volume after another, from the last.
-use Rattle.std.proofs.Common.{◌≡◌, ◌<◌, ◌≤◌, ℕ, ◌+◌, ◌-◌, Bool, true, false, cond, List, ◌∷◌, drop, length, nat_lt, Option, Some, None, refl, ap, sym, ◌∙◌, arith}
+use Rattle.std.proofs.Common.{◌≡◌, ◌<◌, ◌≤◌, ℕ, ◌+◌, ◌-◌, Bool, true, false, cond, List, ◌∷◌, drop, length, nat_lt, Option, Some, None,
+    refl, ap, sym, ◌∙◌, arith}
 use Rattle.std.specs.Prelude.{◌==◌, slice_index, IfSome}
 use Rattle.std.specs.List.{position_from, position_or_len}
 use Rattle.std.specs.Ordering.{eq_by_cmp, is_eq, nat_cmp}
@@ -31,8 +32,10 @@ pub none_at : (disk_of : List ℕ) (many disk : ℕ) → many ≡ length disk_of
 none_at disk_of many disk is = ap (λ (rest : List ℕ). place_from many rest disk) (drop_all many disk_of (omega (arith, is)))
 
 -- one more, in front of those that are found
-pub step_at : (disk_of : List ℕ) (after own disk : ℕ) (found : Option ℕ) → 0 < after → after ≤ length disk_of → own ≡ slice_index disk_of (after - 1)
-    → found ≡ place_from after (drop after disk_of) disk → cond (eq_by_cmp nat_cmp own disk) (Some (after - 1)) found ≡ place_from (after - 1) (drop (after - 1) disk_of) disk
+pub step_at : (disk_of : List ℕ) (after own disk : ℕ) (found : Option ℕ) → 0 < after → after ≤ length disk_of
+    → own ≡ slice_index disk_of (after - 1)
+    → found ≡ place_from after (drop after disk_of) disk
+    → cond (eq_by_cmp nat_cmp own disk) (Some (after - 1)) found ≡ place_from (after - 1) (drop (after - 1) disk_of) disk
 step_at disk_of after own disk found some within is rest =
     let next : after - 1 + 1 ≡ after = omega (arith, some) in
     ap (λ (here : Bool). cond here (Some (after - 1)) found) (tied own disk)

@@ -1,5 +1,6 @@
 -- Numbers by names, one name after another, from the last.
-use Rattle.std.proofs.Common.{◌≡◌, ◌<◌, ◌≤◌, ℕ, ◌+◌, ◌-◌, suc, Bool, true, false, cond, List, [], ◌∷◌, drop, length, Option, Some, None, refl, ap, sym, ◌∙◌, arith}
+use Rattle.std.proofs.Common.{◌≡◌, ◌<◌, ◌≤◌, ℕ, ◌+◌, ◌-◌, suc, Bool, true, false, cond, List, [], ◌∷◌, drop, length, Option, Some, None,
+    refl, ap, sym, ◌∙◌, arith}
 use Rattle.std.specs.Prelude.{option_map, slice_index_or, IfSome}
 use Rattle.std.specs.Str.{bytes_eq}
 use Rattle.std.proofs.lemmas.List.{drop_all, drop_more}
@@ -15,7 +16,9 @@ added at (Some n) = ap Some (omega arith)
 
 -- the first has the name, or the others tell
 module _ (at : ℕ) (first : List ℕ) (names : List (List ℕ)) (name : List ℕ) where
-  by_first : (b : Bool) → bytes_eq first name ≡ b → option_map (λ n. n + at) (cond b (Some 0) (option_map (λ n. n + 1) (number_named names name))) ≡ cond b (Some at) (number_from (at + 1) names name)
+  by_first : (b : Bool) → bytes_eq first name ≡ b
+      → option_map (λ n. n + at) (cond b (Some 0) (option_map (λ n. n + 1) (number_named names name)))
+      ≡ cond b (Some at) (number_from (at + 1) names name)
   by_first true is = ap Some (omega arith)
   by_first false is = added at (number_named names name)
 
@@ -24,7 +27,8 @@ module _ (at : ℕ) (first : List ℕ) (names : List (List ℕ)) (name : List �
   number_from-cons = by_first (bytes_eq first name) refl
 
 -- it is that of one of them
-below_by : (b : Bool) (o : Option ℕ) (many : ℕ) → IfSome o (λ n. n < many) → IfSome (cond b (Some 0) (option_map (λ n. n + 1) o)) (λ n. n < suc many)
+below_by : (b : Bool) (o : Option ℕ) (many : ℕ) → IfSome o (λ n. n < many)
+    → IfSome (cond b (Some 0) (option_map (λ n. n + 1) o)) (λ n. n < suc many)
 below_by true o many below = omega arith
 below_by false None many below = tt
 below_by false (Some n) many below = omega (arith, below)
@@ -32,7 +36,8 @@ below_by false (Some n) many below = omega (arith, below)
 pub number_named-below : (names : List (List ℕ)) (name : List ℕ) → IfSome (number_named names name) (λ n. n < length names)
 unfolding number_named
 number_named-below [] name = tt
-number_named-below (first ∷ names) name = below_by (bytes_eq first name) (number_named names name) (length names) (number_named-below names name)
+number_named-below (first ∷ names) name =
+    below_by (bytes_eq first name) (number_named names name) (length names) (number_named-below names name)
 
 -- none of no further names
 pub none_from : (names : List (List ℕ)) (many : ℕ) (name : List ℕ) → many ≡ length names → number_from many (drop many names) name ≡ None
@@ -40,8 +45,10 @@ unfolding number_named
 none_from names many name is = ap (λ (rest : List (List ℕ)). number_from many rest name) (drop_all many names (omega (arith, is)))
 
 -- one name more, in front of those that are found
-pub step_from : (names : List (List ℕ)) (after : ℕ) (own name : List ℕ) (found : Option ℕ) → 0 < after → after ≤ length names → own ≡ slice_index_or names (after - 1) []
-    → found ≡ number_from after (drop after names) name → cond (bytes_eq own name) (Some (after - 1)) found ≡ number_from (after - 1) (drop (after - 1) names) name
+pub step_from : (names : List (List ℕ)) (after : ℕ) (own name : List ℕ) (found : Option ℕ) → 0 < after → after ≤ length names
+    → own ≡ slice_index_or names (after - 1) []
+    → found ≡ number_from after (drop after names) name
+    → cond (bytes_eq own name) (Some (after - 1)) found ≡ number_from (after - 1) (drop (after - 1) names) name
 step_from names after own name found some within is rest =
     let next : after - 1 + 1 ≡ after = omega (arith, some) in
     ap (cond (bytes_eq own name) (Some (after - 1))) (rest ∙ ap (λ (n : ℕ). number_from n (drop n names) name) (sym next))

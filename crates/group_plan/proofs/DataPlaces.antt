@@ -20,7 +20,8 @@ each_inside bytes (area ∷ areas) all =
     (inside, each_inside bytes areas all.1)
 
 all_inside : (bytes : ℕ) (areas : List Extent) → find (is_outside bytes) areas ≡ None → Each (Inside bytes) areas
-all_inside bytes areas none = each_inside bytes areas (recursion_from_All (λ area. is_outside bytes area ≡ false) areas (All-from_find (is_outside bytes) areas none))
+all_inside bytes areas none =
+    each_inside bytes areas (recursion_from_All (λ area. is_outside bytes area ≡ false) areas (All-from_find (is_outside bytes) areas none))
 
 later_inside : (bytes : ℕ) (front back : List Extent) → Each (Inside bytes) (front ++ back) → Each (Inside bytes) back
 later_inside bytes [] back all = all
@@ -31,16 +32,22 @@ fold_least : (x : ℕ) (xs : List ℕ) → fold min x xs ≤ x
 fold_least x [] = omega arith
 fold_least x (y ∷ ys) = omega (arith, fold_least (min x y) ys)
 
-first_kept : (bytes place : ℕ) (area : Extent) (areas : List Extent) (b : Bool) → Inside bytes area → (unwrap_or (reduce min (map (λ (a : Extent). a.offset) (filter (comes_next place) areas))) bytes ≤ bytes)
-    → unwrap_or (reduce min (map (λ (a : Extent). a.offset) (cond b (area ∷ filter (comes_next place) areas) (filter (comes_next place) areas)))) bytes ≤ bytes
-first_kept bytes place area areas true inside later = omega (arith, fold_least area.offset (map (λ (a : Extent). a.offset) (filter (comes_next place) areas)), inside)
+first_kept : (bytes place : ℕ) (area : Extent) (areas : List Extent) (b : Bool) → Inside bytes area
+    → (unwrap_or (reduce min (map (λ (a : Extent). a.offset) (filter (comes_next place) areas))) bytes ≤ bytes)
+    → unwrap_or (reduce min (map (λ (a : Extent). a.offset)
+    (cond b (area ∷ filter (comes_next place) areas) (filter (comes_next place) areas)))) bytes ≤ bytes
+first_kept bytes place area areas true inside later =
+    omega (arith, fold_least area.offset (map (λ (a : Extent). a.offset) (filter (comes_next place) areas)), inside)
 first_kept bytes place area areas false inside later = later
 
-next_inside : (bytes place : ℕ) (areas : List Extent) → Each (Inside bytes) areas → unwrap_or (reduce min (map (λ (a : Extent). a.offset) (filter (comes_next place) areas))) bytes ≤ bytes
+next_inside : (bytes place : ℕ) (areas : List Extent) → Each (Inside bytes) areas
+    → unwrap_or (reduce min (map (λ (a : Extent). a.offset) (filter (comes_next place) areas))) bytes ≤ bytes
 next_inside bytes place [] all = omega arith
-next_inside bytes place (area ∷ areas) all = first_kept bytes place area areas (comes_next place area) all.0 (next_inside bytes place areas all.1)
+next_inside bytes place (area ∷ areas) all =
+    first_kept bytes place area areas (comes_next place area) all.0 (next_inside bytes place areas all.1)
 
-ends_by : (bytes : ℕ) (areas : List Extent) (area : Extent) (b : Bool) → Inside bytes area → Each (Inside bytes) areas → cond b (next_start areas area.offset bytes) (area.offset + area.size) ≤ bytes
+ends_by : (bytes : ℕ) (areas : List Extent) (area : Extent) (b : Bool) → Inside bytes area → Each (Inside bytes) areas
+    → cond b (next_start areas area.offset bytes) (area.offset + area.size) ≤ bytes
 unfolding next_start
 ends_by bytes areas area true inside all = next_inside bytes area.offset areas all
 ends_by bytes areas area false inside all = inside
@@ -56,5 +63,6 @@ pub data_ends : (held areas : List Extent) (disk : ℕ) → CanLie held areas (d
 data_ends [] areas disk lie = omega arith
 data_ends (area ∷ more) areas disk lie =
     let all : Each (Inside (disk * 512)) ((area ∷ more) ++ areas) = all_inside (disk * 512) ((area ∷ more) ++ areas) lie.inside in
-    let end : end_of areas (disk * 512) area ≤ disk * 512 = ends_by (disk * 512) areas area (eqb area.size 0) all.0 (later_inside (disk * 512) (area ∷ more) areas all) in
+    let end : end_of areas (disk * 512) area ≤ disk * 512 =
+        ends_by (disk * 512) areas area (eqb area.size 0) all.0 (later_inside (disk * 512) (area ∷ more) areas all) in
     omega (arith, end)

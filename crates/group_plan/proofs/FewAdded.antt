@@ -26,12 +26,14 @@ below_by q n false rest is any below later = later any
 
 below : (all : List AddedPv) (q : ℕ) → Each IsAdded all → list_any (eqb q) (disks_added all) ≡ true → q < 64
 below [] q are any = absurd (true≢false (sym any))
-below (added ∷ more) q are any = below_by q added.disk (eqb q added.disk) (list_any (eqb q) (disks_added more)) refl any are.0.disk_below (below more q are.1)
+below (added ∷ more) q are any =
+    below_by q added.disk (eqb q added.disk) (list_any (eqb q) (disks_added more)) refl any are.0.disk_below (below more q are.1)
 
 -- where none is used, they are at most 64
 pub few_added : (listed : List ℕ) (all : List AddedPv) → All IsAdded all → used_row listed all ≡ None → length all ≤ 64
 few_added listed all are none =
     let few : length (disks_added all) ≤ 64 =
-    length-le_from_distinct_below (disks_added all) 64 (distinct all (all_unused listed all none).1) (λ q any. below all q (recursion_from_All IsAdded all are) any)
+    length-le_from_distinct_below (disks_added all) 64 (distinct all (all_unused listed all none).1)
+        (λ q any. below all q (recursion_from_All IsAdded all are) any)
     in
     omega (arith, few, length-map all (λ (added : AddedPv). added.disk))

@@ -22,7 +22,8 @@ module _ (P : Pv → Type 0) (id : List ℕ) (pv : Pv) where
   each_found [] all found = cc
   each_found (row ∷ pvs) all found = by (has_id id row) (each_found pvs all.1) found
     where
-      by : (b : Bool) → (pv_with pvs id ≡ Some pv → P pv) → option_map (λ (row : List ℕ × Pv). row.1) (cond b (Some row) (find (has_id id) pvs)) ≡ Some pv → P pv
+      by : (b : Bool) → (pv_with pvs id ≡ Some pv → P pv)
+          → option_map (λ (row : List ℕ × Pv). row.1) (cond b (Some row) (find (has_id id) pvs)) ≡ Some pv → P pv
       by true later found = subst P (same_Some row.1 pv found) all.0
       by false later found = later found
 

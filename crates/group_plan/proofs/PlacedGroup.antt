@@ -1,5 +1,6 @@
 -- The extents of a physical volume of the group are no more than its disk has sectors.
-use Rattle.std.proofs.Common.{◌≡◌, ◌≤◌, ◌<◌, ℕ, suc, ◌+◌, ◌*◌, ◌^◌, Bool, true, false, ◌||◌, ◌&&◌, cond, ltb, List, [], ◌∷◌, length, map, Option, Some, None, inl, inr, refl, sym, ap, subst, ◌∙◌, arith}
+use Rattle.std.proofs.Common.{◌≡◌, ◌≤◌, ◌<◌, ℕ, suc, ◌+◌, ◌*◌, ◌^◌, Bool, true, false, ◌||◌, ◌&&◌, cond, ltb, List, [], ◌∷◌, length, map,
+    Option, Some, None, inl, inr, refl, sym, ap, subst, ◌∙◌, arith}
 use Rattle.std.specs.Prelude.{option_map, slice_get, unwrap_or, All, Contains, IfSome}
 use Rattle.std.specs.List.{AllByRecursion as Each, list_any}
 use Rattle.std.proofs.lemmas.Bool.{cases_lt, false≢true}
@@ -39,17 +40,21 @@ ends_on start end sectors rest placed some =
       | inr upto ↦ upto
     ]
 
-few_on : (start count sectors : ℕ) (rest : Bool) → (ltb start (start + count) && (ltb sectors (start + count) || rest)) ≡ false → sectors ≤ 2 ^ 40 → count ≤ 2 ^ 40
+few_on : (start count sectors : ℕ) (rest : Bool) → (ltb start (start + count) && (ltb sectors (start + count) || rest)) ≡ false
+    → sectors ≤ 2 ^ 40 → count ≤ 2 ^ 40
 few_on start count sectors rest placed most =
     elim (cases_lt start (start + count)) [
       | inl some ↦ let upto = ends_on start (start + count) sectors rest placed some in omega (arith, upto, most)
       | inr none ↦ omega (arith, none)
     ]
 
-own_few : (extent_size : ℕ) (reading : Reading) (pv : Row) (header : PvHeader) → same_bytes pv.1.id header.id ≡ true → is_this_misplaced extent_size reading (pv_shape header) pv ≡ false → reading.sectors ≤ 2 ^ 40 → pv.1.pe_count * extent_size ≤ 2 ^ 40
+own_few : (extent_size : ℕ) (reading : Reading) (pv : Row) (header : PvHeader) → same_bytes pv.1.id header.id ≡ true
+    → is_this_misplaced extent_size reading (pv_shape header) pv ≡ false → reading.sectors ≤ 2 ^ 40 → pv.1.pe_count * extent_size ≤ 2 ^ 40
 own_few extent_size reading pv header same placed most =
-    few_on pv.1.pe_start (pv.1.pe_count * extent_size) reading.sectors (ltb pv.1.pe_start 8 || list_any (meets_area pv.1.pe_start (pv.1.pe_start + pv.1.pe_count * extent_size)) (pv_shape header).areas)
-    (sym (ap (λ (b : Bool). b && is_misplaced pv.1.pe_start (pv.1.pe_start + pv.1.pe_count * extent_size) reading (pv_shape header)) same) ∙ placed) most
+    few_on pv.1.pe_start (pv.1.pe_count * extent_size) reading.sectors
+        (ltb pv.1.pe_start 8 || list_any (meets_area pv.1.pe_start (pv.1.pe_start + pv.1.pe_count * extent_size)) (pv_shape header).areas)
+    (sym (ap (λ (b : Bool). b && is_misplaced pv.1.pe_start (pv.1.pe_start + pv.1.pe_count * extent_size) reading (pv_shape header)) same)
+        ∙ placed) most
 
 -- ---- on all disks
 
@@ -58,7 +63,9 @@ module _ (group : Group) (pv : Row) (among : Contains group.pvs pv) where
   IsFew = pv.1.pe_count * group.extent_size ≤ 2 ^ 40
 
   -- where the disk's header has its id
-  here : (disk : Disk) (header : Option PvHeader) → header_on disk.contents ≡ header → unwrap_or (option_map (λ (h : PvHeader). same_bytes h.id pv.1.id) header) false ≡ true → IsPlacedOn group (disk_shape disk) → disk.sectors ≤ 2 ^ 40 → IsFew
+  here : (disk : Disk) (header : Option PvHeader) → header_on disk.contents ≡ header
+      → unwrap_or (option_map (λ (h : PvHeader). same_bytes h.id pv.1.id) header) false ≡ true → IsPlacedOn group (disk_shape disk)
+      → disk.sectors ≤ 2 ^ 40 → IsFew
   here disk None there has placed most = absurd (false≢true has)
   here disk (Some header) there has placed most =
       own_few group.extent_size (disk_shape disk) pv header (same_bytes_to pv.1.id header.id (sym (same_bytes_tells header.id pv.1.id has)))
@@ -69,10 +76,13 @@ module _ (group : Group) (pv : Row) (among : Contains group.pvs pv) where
       among)
       most
 
-  on_own : (disks : List Disk) → ((k : ℕ) (disk : Disk) → slice_get disks k ≡ Some disk → disk.sectors ≤ 2 ^ 40) → Each (IsPlacedOn group) (shapes disks) → disk_with disks pv.1.id < length disks → IsFew
+  on_own : (disks : List Disk) → ((k : ℕ) (disk : Disk) → slice_get disks k ≡ Some disk → disk.sectors ≤ 2 ^ 40)
+      → Each (IsPlacedOn group) (shapes disks) → disk_with disks pv.1.id < length disks → IsFew
   on_own [] most placed within = absurd (omega (arith, within))
-  on_own (disk ∷ disks) most placed within = by (has_header_id pv.1.id disk) refl within (λ later. on_own disks (λ k d there. most (suc k) d there) placed.1 later) where
-    by : (b : Bool) → has_header_id pv.1.id disk ≡ b → cond b 0 (disk_with disks pv.1.id + 1) < suc (length disks) → (disk_with disks pv.1.id < length disks → IsFew) → IsFew
+  on_own (disk ∷ disks) most placed within =
+      by (has_header_id pv.1.id disk) refl within (λ later. on_own disks (λ k d there. most (suc k) d there) placed.1 later) where
+    by : (b : Bool) → has_header_id pv.1.id disk ≡ b → cond b 0 (disk_with disks pv.1.id + 1) < suc (length disks)
+        → (disk_with disks pv.1.id < length disks → IsFew) → IsFew
     by true has within later = here disk (header_on disk.contents) refl has placed.0 (most 0 disk refl)
     by false other within later = later (omega (arith, within))
 
@@ -80,7 +90,8 @@ module _ (group : Group) (pv : Row) (among : Contains group.pvs pv) where
 pub lie_on_disks : (state : GroupState) → IsState state → (group : Group) → state.group ≡ Some group → LieOnDisks group
 lie_on_disks state is group found =
     All-from_recursion (λ (pv : Row). pv.1.pe_count * group.extent_size ≤ 2 ^ 40) group.pvs
-    (by group.pvs (recursion_from_All (Contains group.pvs) group.pvs (All-contains_itself group.pvs)) (recursion_from_All (λ n. n < length state.disks) (disks_of group state.disks) listed))
+    (by group.pvs (recursion_from_All (Contains group.pvs) group.pvs (All-contains_itself group.pvs))
+        (recursion_from_All (λ n. n < length state.disks) (disks_of group state.disks) listed))
   where
     listed : All (λ n. n < length state.disks) (disks_of group state.disks)
     listed =
@@ -88,15 +99,22 @@ lie_on_disks state is group found =
         (subst (λ (o : Option Group). IfSome o (λ g. All (λ n. n < length state.disks) state.disk_of)) found is.there)
 
     placed : Each (IsPlacedOn group) (shapes state.disks)
-    placed = each_placed group 0 (shapes state.disks) (subst (λ (o : Option Group). IfSome o (λ g. first_misplaced g (shapes state.disks) ≡ None)) found is.placed)
+    placed =
+        each_placed group 0 (shapes state.disks)
+            (subst (λ (o : Option Group). IfSome o (λ g. first_misplaced g (shapes state.disks) ≡ None)) found is.placed)
 
-    by : (pvs : List Row) → Each (Contains group.pvs) pvs → Each (λ n. n < length state.disks) (map (λ (pv : Row). disk_with state.disks pv.1.id) pvs) → Each (λ (pv : Row). pv.1.pe_count * group.extent_size ≤ 2 ^ 40) pvs
+    by : (pvs : List Row) → Each (Contains group.pvs) pvs
+        → Each (λ n. n < length state.disks) (map (λ (pv : Row). disk_with state.disks pv.1.id) pvs)
+        → Each (λ (pv : Row). pv.1.pe_count * group.extent_size ≤ 2 ^ 40) pvs
     by [] among within = tt
-    by (pv ∷ pvs) among within = (on_own group pv among.0 state.disks (λ k disk there. (is.disks k disk there).most) placed within.0, by pvs among.1 within.1)
+    by (pv ∷ pvs) among within =
+        (on_own group pv among.0 state.disks (λ k disk there. (is.disks k disk there).most) placed within.0, by pvs among.1 within.1)
 
 -- the group lists at most 64 disks
-pub few_listed : (state : GroupState) → IsState state → (group : Group) → state.group ≡ Some group → IsAccepted group → length state.disk_of ≤ 64
+pub few_listed : (state : GroupState) → IsState state → (group : Group) → state.group ≡ Some group → IsAccepted group
+    → length state.disk_of ≤ 64
 few_listed state is group found accepted =
-    let same : length state.disk_of ≡ length group.pvs = ap length (listed_are state group is found) ∙ length-map group.pvs (λ (pv : Row). disk_with state.disks pv.1.id) in
+    let same : length state.disk_of ≡ length group.pvs =
+        ap length (listed_are state group is found) ∙ length-map group.pvs (λ (pv : Row). disk_with state.disks pv.1.id) in
     let few = (accepted Volumes).pvs.1 in
     omega (arith, same, few)

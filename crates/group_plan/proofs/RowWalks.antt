@@ -7,7 +7,8 @@ use Rattle.sector_base.proofs.Walks.{next_got}
 use Rattle.line_answers.specs.declared.op_refusal.OpRefusal.{OpRefusal}
 use Rattle.group_plan.specs.Judging.{first_refusal}
 
-module _ {X : Type 0} (row : X → Option OpRefusal) (xs : List X) (i : ℕ) (whole : Option OpRefusal) (so_far : first_refusal (map row (drop i xs)) ≡ whole) where
+module _ {X : Type 0} (row : X → Option OpRefusal) (xs : List X) (i : ℕ) (whole : Option OpRefusal)
+    (so_far : first_refusal (map row (drop i xs)) ≡ whole) where
   -- the row of the element here, and those behind it
   here : (x : X) → slice_get xs i ≡ Some x → option_or (row x) (first_refusal (map row (drop (i + 1) xs))) ≡ whole
   here x got = sym (ap (λ (l : List X). first_refusal (map row l)) (next_got xs i x got)) ∙ so_far

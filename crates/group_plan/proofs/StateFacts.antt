@@ -21,12 +21,14 @@ areas_take state is = subst (All CanTake) (sym is.areas) (areas_shaped state.dis
 pub added_below : (all : List AddedPv) → All IsAdded all → All IsBelow (disks_added all)
 added_below all are = All-map IsBelow (λ (added : AddedPv). added.disk) all (λ k d within. (are k d within).disk_below)
 
-pub listed_are : (state : GroupState) (group : Group) → IsState state → state.group ≡ Some group → state.disk_of ≡ disks_of group state.disks
+pub listed_are : (state : GroupState) (group : Group) → IsState state → state.group ≡ Some group
+    → state.disk_of ≡ disks_of group state.disks
 listed_are state group is found = subst (λ (o : Option Group). IfSome o (λ g. state.disk_of ≡ disks_of g state.disks)) found is.disk_of
 
 pub listed_below : (state : GroupState) (group : Group) → IsState state → state.group ≡ Some group → All IsBelow state.disk_of
 listed_below state group is found =
-    let there : All (λ n. n < length state.disks) state.disk_of = subst (λ (o : Option Group). IfSome o (λ g. All (λ n. n < length state.disks) state.disk_of)) found is.there in
+    let there : All (λ n. n < length state.disks) state.disk_of =
+        subst (λ (o : Option Group). IfSome o (λ g. All (λ n. n < length state.disks) state.disk_of)) found is.there in
     All-weaker (λ n. n < length state.disks) IsBelow (λ n below. omega (arith, below, is.few)) state.disk_of there
 
 pub both_below : (listed : List ℕ) (all : List AddedPv) → All IsBelow listed → All IsAdded all → All IsBelow (listed ++ disks_added all)

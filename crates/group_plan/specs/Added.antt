@@ -72,4 +72,5 @@ pv_of extent_size added = record {
 
 -- its label as it is written: with version 2, and the lowest flag, which says that a group uses it
 abbrev pub label_of : AddedPv → NewLabel
-label_of added = record { disk = added.disk; sector = added.label; header = record added.header { version = 2; flags = bit_or added.header.flags 1 } }
+label_of added =
+    record { disk = added.disk; sector = added.label; header = record added.header { version = 2; flags = bit_or added.header.flags 1 } }

@@ -1,5 +1,6 @@
 -- How a line is judged: by refusals in their order, each of which holds or doesn't.
-use Rattle.std.specs.Prelude.{◌≡◌, ℕ, ◌+◌, ◌-◌, ◌^◌, ◌&&◌, ◌==◌, Bool, not, nat_lt, if◌then◌else◌, List, [], ◌∷◌, length, min, find, Option, None, Some, is_none, option_map, Result, MatchResult}
+use Rattle.std.specs.Prelude.{◌≡◌, ℕ, ◌+◌, ◌-◌, ◌^◌, ◌&&◌, ◌==◌, Bool, not, nat_lt, if◌then◌else◌, List, [], ◌∷◌, length, min, find, Option,
+    None, Some, is_none, option_map, Result, MatchResult}
 use Rattle.std.specs.Option.{option_or}
 use Rattle.std.specs.List.{list_any}
 use Rattle.std.specs.FinSet as set
@@ -86,7 +87,8 @@ need_of extent_size added = data_start added + extent_size + (added.sectors - da
 
 -- the first of which that holds
 unfoldable pub small_row : ℕ → List AddedPv → Option OpRefusal
-small_row extent_size all = option_map (λ (added : AddedPv). TooSmall added.sectors (need_of extent_size added)) (find (is_small extent_size) all)
+small_row extent_size all =
+    option_map (λ (added : AddedPv). TooSmall added.sectors (need_of extent_size added)) (find (is_small extent_size) all)
 
 -- so many volumes are more than any group may have, or than its own limit, where that isn't 0
 unfoldable pub many_row : ℕ → ℕ → ℕ → Option OpRefusal
@@ -113,4 +115,5 @@ is_full size area = nat_lt (room area.0.size area.1) (need size)
 -- the first of the areas on these disks of which that holds
 unfoldable pub large_row : List (Area × Option Locn) → List ℕ → ℕ → Option OpRefusal
 large_row areas disks size =
-    option_map (λ (area : Area × Option Locn). TooLarge (need size) (room area.0.size area.1)) (find (λ area. lies_on (set_of disks) area && is_full size area) areas)
+    option_map (λ (area : Area × Option Locn). TooLarge (need size) (room area.0.size area.1))
+        (find (λ area. lies_on (set_of disks) area && is_full size area) areas)

@@ -33,7 +33,8 @@ names_in pvs lvs = names_of pvs ++ names_of lvs
 -- the physical volumes with these behind them, each named `pvN` with the least number that no volume has
 abbrev pub with_added : List (List ℕ × Lv) → ℕ → List (List ℕ × Pv) → List AddedPv → List (List ℕ × Pv)
 with_added lvs extent_size pvs [] = pvs
-with_added lvs extent_size pvs (added ∷ more) = with_added lvs extent_size (pvs ++ (pv_name (free_number (names_in pvs lvs)), pv_of extent_size added) ∷ []) more
+with_added lvs extent_size pvs (added ∷ more) =
+    with_added lvs extent_size (pvs ++ (pv_name (free_number (names_in pvs lvs)), pv_of extent_size added) ∷ []) more
 
 -- the group with these too
 unfoldable pub extended : Group → List AddedPv → Group
@@ -46,4 +47,6 @@ text_row state base listed all now = large_row state.areas (listed ++ disks_adde
 -- the change that makes it one with these: it is committed, their labels say that they are used, and their disks follow
 -- those that were listed
 abbrev pub change_with : Group → List ℕ → List AddedPv → Change
-change_with base listed all = record { group = Some (extended base all); zero = []; labels = map label_of all; taken = set_of (disks_added all); cleared = set.empty; disk_of = listed ++ disks_added all }
+change_with base listed all =
+    record { group = Some (extended base all); zero = []; labels = map label_of all; taken = set_of (disks_added all); cleared = set.empty;
+        disk_of = listed ++ disks_added all }

@@ -9,7 +9,8 @@ use Rattle.group_plan.specs.Members.{number_on}
 
 -- at each name stands the number of the first disk that has it
 abbrev pub AreByName : BTreeMap (Bor (List ℕ)) ℕ → List (List ℕ) → Type 0
-AreByName numbers names = (name : List ℕ) → get_by (λ (key : Bor (List ℕ)). slice_cmp nat_cmp name key.now) numbers ≡ number_named names name
+AreByName numbers names =
+    (name : List ℕ) → get_by (λ (key : Bor (List ℕ)). slice_cmp nat_cmp name key.now) numbers ≡ number_named names name
 
 -- at each disk stands the number of the first physical volume on it
 abbrev pub AreByDisk : BTreeMap ℕ ℕ → List ℕ → Type 0

@@ -11,7 +11,8 @@ use Rattle.group_plan.specs.Judging.{first_refusal, refused_if}
 
 -- there are several stripes, and their pieces of so many sectors don't divide an extent
 abbrev pub stripe_row : ℕ → ℕ → ℕ → Option OpRefusal
-stripe_row extent_size stripes piece = refused_if (nat_lt 1 stripes && (piece == 0 || not (extent_size % piece == 0))) (BadStripe piece extent_size)
+stripe_row extent_size stripes piece =
+    refused_if (nat_lt 1 stripes && (piece == 0 || not (extent_size % piece == 0))) (BadStripe piece extent_size)
 
 -- so it is in a segment of this kind
 abbrev pub kind_row : ℕ → SegKind → Option OpRefusal

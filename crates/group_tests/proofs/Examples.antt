@@ -30,44 +30,56 @@ extent offset size = record { offset = offset; size = size }
 
 -- what an older pvcreate wrote, with this id
 abbrev header : ℕ → PvHeader
-header id = record { id = id ∷ []; device_bytes = 33554432; data_areas = extent 1048576 0 ∷ []; areas = extent 4096 1044480 ∷ []; version = 1; flags = 0 }
+header id =
+    record { id = id ∷ []; device_bytes = 33554432; data_areas = extent 1048576 0 ∷ []; areas = extent 4096 1044480 ∷ []; version = 1;
+        flags = 0 }
 
 -- a disk with it, and with its label in sector 2
 abbrev whole : ℕ → Disk
-whole id = record { sectors = 65536; contents = Some (Whole 2 (header id) (record { area = extent 4096 1044480; header = Err BadMagic; entry = Nothing } ∷ [])) }
+whole id =
+    record { sectors = 65536; contents = Some
+        (Whole 2 (header id) (record { area = extent 4096 1044480; header = Err BadMagic; entry = Nothing } ∷ [])) }
 
 -- two such disks and a blank one
 abbrev disks : List Disk
 disks = whole 1 ∷ whole 2 ∷ (record { sectors = 65536; contents = Some (NoLabel NoneFound) }) ∷ []
 
 abbrev state : GroupState
-state = record { group = None; disks = disks; names = codes "a" ∷ codes "b" ∷ codes "c" ∷ []; areas = held_areas 0 disks; disk_of = []; backup = None }
+state =
+    record { group = None; disks = disks; names = codes "a" ∷ codes "b" ∷ codes "c" ∷ []; areas = held_areas 0 disks; disk_of = [];
+        backup = None }
 
 abbrev line : Command → Line
 line command = record { number = 1; id = Some (9 ∷ []); command = command }
 
 -- a label that was found stays in its sector
-row_kept : (change_of state (line (Pvcreate (codes "a") 1)) 0 []).labels ≡ (record { disk = 0; sector = 2; header = new_header (9 ∷ []) 65536 1 }) ∷ []
+row_kept : (change_of state (line (Pvcreate (codes "a") 1)) 0 []).labels
+    ≡ (record { disk = 0; sector = 2; header = new_header (9 ∷ []) 65536 1 }) ∷ []
 unfolding number_named
 row_kept = refl
 
 -- a new one is in sector 1, here of a physical volume without a metadata area
-row_new : (change_of state (line (Pvcreate (codes "c") 0)) 0 []).labels ≡ (record { disk = 2; sector = 1; header = record { id = 9 ∷ []; device_bytes = 33554432; data_areas = extent 1048576 0 ∷ []; areas = []; version = 2; flags = 0 } }) ∷ []
+row_new : (change_of state (line (Pvcreate (codes "c") 0)) 0 []).labels
+    ≡ (record { disk = 2; sector = 1; header =
+    record { id = 9 ∷ []; device_bytes = 33554432; data_areas = extent 1048576 0 ∷ []; areas = []; version = 2; flags = 0 } }) ∷ []
 unfolding number_named
 row_new = refl
 
 -- a group of both disks, each with seven extents of 8,192 sectors
 abbrev pv : ℕ → List ℕ → Pv
-pv id device = record { id = id ∷ []; device = device; allocatable = true; missing = false; dev_size = 65536; pe_start = 2048; pe_count = 7 }
+pv id device =
+    record { id = id ∷ []; device = device; allocatable = true; missing = false; dev_size = 65536; pe_start = 2048; pe_count = 7 }
 
 row_group : (change_of state (line (Vgcreate (codes "vg") 8192 (codes "b" ∷ codes "a" ∷ []))) 0 []).group
-    ≡ Some (record (empty_group (9 ∷ []) (codes "vg") 8192) { pvs = (codes "pv0", pv 2 (codes "b")) ∷ (codes "pv1", pv 1 (codes "a")) ∷ [] })
+    ≡ Some (record (empty_group (9 ∷ []) (codes "vg") 8192)
+    { pvs = (codes "pv0", pv 2 (codes "b")) ∷ (codes "pv1", pv 1 (codes "a")) ∷ [] })
 unfolding digits number_named added_named extended free_number next_start
 row_group = refl
 
 -- their labels stay in sector 2, with version 2 and the used flag
 row_labels : (change_of state (line (Vgcreate (codes "vg") 8192 (codes "b" ∷ codes "a" ∷ []))) 0 []).labels
-    ≡ (record { disk = 1; sector = 2; header = record (header 2) { version = 2; flags = 1 } }) ∷ (record { disk = 0; sector = 2; header = record (header 1) { version = 2; flags = 1 } }) ∷ []
+    ≡ (record { disk = 1; sector = 2; header = record (header 2) { version = 2; flags = 1 } })
+    ∷ (record { disk = 0; sector = 2; header = record (header 1) { version = 2; flags = 1 } }) ∷ []
 unfolding number_named added_named
 row_labels = refl
 

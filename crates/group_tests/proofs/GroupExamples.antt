@@ -7,7 +7,8 @@ use Rattle.std.specs.Ordering.{nat_cmp}
 use Rattle.lvm_id.specs.LvmId.{hyphen_form}
 use Rattle.command_table.specs.Options.{number_named}
 use Rattle.line_answers.specs.declared.op_refusal.OpRefusal.{OpRefusal}
-use Rattle.line_answers.specs.declared.op_refusal.OpRefusal.TheVariants.{BadRule, BadText, InUse, LastPv, MoveStands, NoArea, NotInGroup, NotResizeable, OtherGroup, SeqnoEnd, TooMany, UnknownPv}
+use Rattle.line_answers.specs.declared.op_refusal.OpRefusal.TheVariants.{BadRule, BadText, InUse, LastPv, MoveStands, NoArea, NotInGroup,
+    NotResizeable, OtherGroup, SeqnoEnd, TooMany, UnknownPv}
 use Rattle.pv_label.specs.declared.refusal.LabelRefusal.TheVariants.{NoLabel as NoneFound}
 use Rattle.pv_header.specs.declared.extent_list.Extent.{Extent}
 use Rattle.pv_header.specs.declared.header.PvHeader.{PvHeader}
@@ -42,13 +43,17 @@ extent offset size = record { offset = offset; size = size }
 
 -- the header with this id, of a physical volume in use
 abbrev header : ℕ → PvHeader
-header id = record { id = id ∷ []; device_bytes = 67108864; data_areas = extent 1048576 0 ∷ []; areas = extent 4096 1044480 ∷ []; version = 2; flags = 1 }
+header id =
+    record { id = id ∷ []; device_bytes = 67108864; data_areas = extent 1048576 0 ∷ []; areas = extent 4096 1044480 ∷ []; version = 2;
+        flags = 1 }
 
 -- a disk with it, and with a text in its area
 abbrev whole : ℕ → Disk
 whole id = record {
   sectors = 131072;
-  contents = Some (Whole 1 (header id) (record { area = extent 4096 1044480; header = Err BadMagic; entry = Text (record { offset = 512; size = 479; sum = 0 }) } ∷ []));
+  contents =
+      Some (Whole 1 (header id) (record { area = extent 4096 1044480; header = Err BadMagic;
+          entry = Text (record { offset = 512; size = 479; sum = 0 }) } ∷ []));
 }
 
 -- two disks of the group, one of none, and a blank one
@@ -57,7 +62,8 @@ disks = whole 1 ∷ whole 2 ∷ whole 3 ∷ (record { sectors = 131072; contents
 
 -- a physical volume of 15 extents
 abbrev pv : ℕ → List ℕ → Pv
-pv id device = record { id = id ∷ []; device = device; allocatable = true; missing = false; dev_size = 131072; pe_start = 2048; pe_count = 15 }
+pv id device =
+    record { id = id ∷ []; device = device; allocatable = true; missing = false; dev_size = 131072; pe_start = 2048; pe_count = 15 }
 
 -- a volume of four extents, on what this says
 abbrev volume : ℕ → On → Lv
@@ -85,7 +91,9 @@ group_with lvs = record {
 }
 
 abbrev state : Group → GroupState
-state group = record { group = Some group; disks = disks; names = codes "a" ∷ codes "b" ∷ codes "c" ∷ codes "d" ∷ []; areas = held_areas 0 disks; disk_of = 0 ∷ 1 ∷ []; backup = None }
+state group =
+    record { group = Some group; disks = disks; names = codes "a" ∷ codes "b" ∷ codes "c" ∷ codes "d" ∷ []; areas = held_areas 0 disks;
+        disk_of = 0 ∷ 1 ∷ []; backup = None }
 
 -- one volume, on b
 abbrev on_b : Group
@@ -121,7 +129,8 @@ row_in_use : reducing on_b (codes "b") ≡ Some (InUse (codes "b"))
 unfolding number_named added_named pv_named unknown_row
 row_in_use = refl
 
-row_only : first_refusal (leaving_tests (state plain) (record plain { pvs = (codes "pv0", pv 1 (codes "a")) ∷ [] }) (codes "a") 0) ≡ Some (LastPv (codes "a"))
+row_only : first_refusal (leaving_tests (state plain) (record plain { pvs = (codes "pv0", pv 1 (codes "a")) ∷ [] }) (codes "a") 0)
+    ≡ Some (LastPv (codes "a"))
 row_only = refl
 
 -- a alone is listed then, and b is cleared
@@ -171,7 +180,8 @@ row_later : (restored_group plain (record on_b { seqno = 7 })).seqno ≡ 8
 row_later = refl
 
 -- what was MISSING is there
-row_there : (restored_group plain (record plain { pvs = (codes "pv0", record (pv 1 (codes "a")) { missing = true }) ∷ [] })).pvs ≡ (codes "pv0", pv 1 (codes "a")) ∷ []
+row_there : (restored_group plain (record plain { pvs = (codes "pv0", record (pv 1 (codes "a")) { missing = true }) ∷ [] })).pvs
+    ≡ (codes "pv0", pv 1 (codes "a")) ∷ []
 row_there = refl
 
 -- the text may list them in another order
@@ -182,7 +192,8 @@ row_bad_text : restoring plain (Unread (codes "BadToken")) ≡ Some (BadText (co
 row_bad_text = refl
 
 -- c is a disk with an area, and nothing stands on a disk with the id 4: that is said before that it is another group
-row_no_area : map (λ id. restoring plain (Sound (record plain { pvs = (codes "pv0", pv id (codes "a")) ∷ [] }))) (3 ∷ 4 ∷ []) ≡ Some (OtherGroup (hyphen_form (3 ∷ [])) (hyphen_form (1 ∷ []))) ∷ Some NoArea ∷ []
+row_no_area : map (λ id. restoring plain (Sound (record plain { pvs = (codes "pv0", pv id (codes "a")) ∷ [] }))) (3 ∷ 4 ∷ [])
+    ≡ Some (OtherGroup (hyphen_form (3 ∷ [])) (hyphen_form (1 ∷ []))) ∷ Some NoArea ∷ []
 unfolding area_row
 row_no_area = simp (set.contains-empty nat_cmp, set.contains-insert nat_cmp_total) refl
 
@@ -191,11 +202,15 @@ unfolding area_row
 row_bad_rule = simp (set.contains-insert nat_cmp_total) refl
 
 -- its extents would leave the disk
-row_bad_shape : restoring plain (Sound (record plain { pvs = (codes "pv0", record (pv 1 (codes "a")) { pe_count = 16; dev_size = 0 }) ∷ [] })) ≡ Some (BadRule 15)
+row_bad_shape : restoring plain (Sound (record plain
+    { pvs = (codes "pv0", record (pv 1 (codes "a")) { pe_count = 16; dev_size = 0 }) ∷ [] })) ≡ Some (BadRule 15)
 unfolding area_row
 row_bad_shape = simp (set.contains-insert nat_cmp_total) refl
 
-row_moves : restoring plain (Sound (group_with ((codes "pvmove0", record (volume 7 (on.Pv 1)) { status = record { read = true; write = true; visible = false; fixed_minor = false; pvmove = true; locked = true; notsynced = false } }) ∷ []))) ≡ Some MoveStands
+row_moves : restoring plain (Sound (group_with
+    ((codes "pvmove0", record (volume 7 (on.Pv 1))
+    { status = record { read = true; write = true; visible = false; fixed_minor = false; pvmove = true; locked = true; notsynced = false }
+    }) ∷ []))) ≡ Some MoveStands
 row_moves = refl
 
 row_both_last : restoring (record plain { seqno = 4294967295 }) (Unread (codes "BadToken")) ≡ Some SeqnoEnd
@@ -214,9 +229,11 @@ unfolding area_row
 row_other_name = simp (set.contains-insert nat_cmp_total) refl
 
 -- the text has an id more, and lacks none
-row_more_pvs : first_refusal (other_group_rows plain (record plain { pvs = (codes "pv0", pv 1 (codes "a")) ∷ [] })) ≡ Some (OtherGroup (hyphen_form (2 ∷ [])) (codes "-"))
+row_more_pvs : first_refusal (other_group_rows plain (record plain { pvs = (codes "pv0", pv 1 (codes "a")) ∷ [] }))
+    ≡ Some (OtherGroup (hyphen_form (2 ∷ [])) (codes "-"))
 row_more_pvs = refl
 
 -- the least of those that the text lacks
-row_fewer_pvs : first_refusal (other_group_rows (record plain { pvs = (codes "pv2", pv 3 (codes "c")) ∷ [] }) plain) ≡ Some (OtherGroup (hyphen_form (3 ∷ [])) (hyphen_form (1 ∷ [])))
+row_fewer_pvs : first_refusal (other_group_rows (record plain { pvs = (codes "pv2", pv 3 (codes "c")) ∷ [] }) plain)
+    ≡ Some (OtherGroup (hyphen_form (3 ∷ [])) (hyphen_form (1 ∷ [])))
 row_fewer_pvs = refl

@@ -12,7 +12,8 @@ use Rattle.command_table.specs.declared.command.Command.{Command}
 use Rattle.command_table.specs.declared.command.Command.TheVariants.{Lvcreate, Lvextend, Lvreduce}
 use Rattle.command_table.specs.declared.command.NewVolume.{NewVolume}
 use Rattle.command_table.specs.Options.{number_named}
-use Rattle.line_answers.specs.declared.op_refusal.OpRefusal.TheVariants.{BadStripe, IdTaken, Layered, Locked, NameTaken, NoRun, NoSpace, NotAllocatable, NotInGroup, NotLonger, NotShorter, TooFewPvs, TooMany, UnknownGroup, UnknownPv, UnknownVolume}
+use Rattle.line_answers.specs.declared.op_refusal.OpRefusal.TheVariants.{BadStripe, IdTaken, Layered, Locked, NameTaken, NoRun, NoSpace,
+    NotAllocatable, NotInGroup, NotLonger, NotShorter, TooFewPvs, TooMany, UnknownGroup, UnknownPv, UnknownVolume}
 use Rattle.lvm_script.specs.declared.line.Line.{Line}
 use Rattle.meta_model.specs.declared.group.Group.{Group}
 use Rattle.meta_model.specs.declared.lv.Lv.{Lv}
@@ -42,7 +43,9 @@ use Rattle.group_ops.specs.Planning.{asks_of, change_of, refusal_of}
 
 -- a physical volume of 15 extents of 8,192 sectors, on a disk with this name
 abbrev pv : ℕ → List ℕ → List ℕ × Pv
-pv id name = (codes "pv" ++ id ∷ [], record { id = id ∷ []; device = name; allocatable = true; missing = false; dev_size = 131072; pe_start = 2048; pe_count = 15 })
+pv id name =
+    (codes "pv" ++ id ∷ [], record { id = id ∷ []; device = name; allocatable = true; missing = false; dev_size = 131072; pe_start = 2048;
+        pe_count = 15 })
 
 -- a logical volume of these segments, visible or not
 abbrev lv : List ℕ → ℕ → Bool → List Segment → List ℕ × Lv
@@ -50,7 +53,8 @@ lv name id visible segments = (
   name,
   record {
     id = id ∷ [];
-    status = record { read = true; write = true; visible = visible; fixed_minor = false; pvmove = false; locked = false; notsynced = false };
+    status =
+        record { read = true; write = true; visible = visible; fixed_minor = false; pvmove = false; locked = false; notsynced = false };
     created = 0;
     host = [];
     segments = segments;
@@ -120,7 +124,8 @@ row_sizes = refl
 row_mirror : map (kept_of (segment 0 5 (Mirror 1024 None (leg 0 0 ∷ leg 1 0 ∷ [])) ∷ [])) (1 ∷ 3 ∷ 5 ∷ []) ≡ 1 ∷ 3 ∷ 5 ∷ []
 row_mirror = refl
 
-row_not_shorter : map (λ n. shorter_row (kept_by 8192 (Extents n) (volume mixed)) 8) (6 ∷ 7 ∷ 9 ∷ []) ≡ None ∷ Some (NotShorter 8 8) ∷ Some (NotShorter 9 8) ∷ []
+row_not_shorter : map (λ n. shorter_row (kept_by 8192 (Extents n) (volume mixed)) 8) (6 ∷ 7 ∷ 9 ∷ [])
+    ≡ None ∷ Some (NotShorter 8 8) ∷ Some (NotShorter 9 8) ∷ []
 row_not_shorter = refl
 
 -- ---- lvreduce: the shorter volume
@@ -134,10 +139,13 @@ row_front = refl
 
 -- other volumes stay, and the version is the next one
 abbrev two : List (List ℕ × Lv)
-two = lv (codes "data") 1 true (segment 0 4 (Striped 0 (leg 0 0 ∷ [])) ∷ []) ∷ lv (codes "home") 2 true (segment 0 2 (Striped 0 (leg 1 0 ∷ [])) ∷ []) ∷ []
+two =
+    lv (codes "data") 1 true (segment 0 4 (Striped 0 (leg 0 0 ∷ [])) ∷ [])
+        ∷ lv (codes "home") 2 true (segment 0 2 (Striped 0 (leg 1 0 ∷ [])) ∷ []) ∷ []
 
 row_others : shortened_volume (codes "data") 1 (group two)
-    ≡ record (group (lv (codes "data") 1 true (segment 0 1 (Striped 0 (leg 0 0 ∷ [])) ∷ []) ∷ lv (codes "home") 2 true (segment 0 2 (Striped 0 (leg 1 0 ∷ [])) ∷ []) ∷ [])) { seqno = 5 }
+    ≡ record (group (lv (codes "data") 1 true (segment 0 1 (Striped 0 (leg 0 0 ∷ [])) ∷ [])
+    ∷ lv (codes "home") 2 true (segment 0 2 (Striped 0 (leg 1 0 ∷ [])) ∷ []) ∷ [])) { seqno = 5 }
 row_others = refl
 
 -- ---- lvreduce: whole lines
@@ -149,7 +157,8 @@ line command = record { number = 1; id = Some (7 ∷ []); command = command }
 abbrev reduce : List ℕ → Amount → Line
 reduce name amount = line (Lvreduce (record { vg = codes "vg0"; lv = name }) amount)
 
-row_other_group : refusal_of (held two) (line (Lvreduce (record { vg = codes "vg1"; lv = codes "data" }) (Extents 1))) 0 [] ≡ Some (UnknownGroup (codes "vg1"))
+row_other_group : refusal_of (held two) (line (Lvreduce (record { vg = codes "vg1"; lv = codes "data" }) (Extents 1))) 0 []
+    ≡ Some (UnknownGroup (codes "vg1"))
 row_other_group = refl
 
 row_unknown : refusal_of (held two) (reduce (codes "logs") (Extents 1)) 0 [] ≡ Some (UnknownVolume (codes "logs"))
@@ -169,7 +178,8 @@ layers =
     ∷ lv (codes "side") 5 true (segment 0 2 (Striped 0 (sub 0 2 ∷ [])) ∷ [])
     ∷ []
 
-row_layered : map (λ name. refusal_of (held layers) (reduce name (Extents 1)) 0 []) (codes "top" ∷ codes "side" ∷ codes "low" ∷ []) ≡ Some (Layered (codes "top")) ∷ Some (Layered (codes "side")) ∷ Some (UnknownVolume (codes "low")) ∷ []
+row_layered : map (λ name. refusal_of (held layers) (reduce name (Extents 1)) 0 []) (codes "top" ∷ codes "side" ∷ codes "low" ∷ [])
+    ≡ Some (Layered (codes "top")) ∷ Some (Layered (codes "side")) ∷ Some (UnknownVolume (codes "low")) ∷ []
 unfolding layered_row locked_row visible_named
 row_layered = refl
 
@@ -181,7 +191,8 @@ moving =
       codes "pvmove0",
       record {
         id = 2 ∷ [];
-        status = record { read = true; write = true; visible = false; fixed_minor = false; pvmove = true; locked = true; notsynced = false };
+        status =
+            record { read = true; write = true; visible = false; fixed_minor = false; pvmove = true; locked = true; notsynced = false };
         created = 0;
         host = [];
         segments = segment 0 1 (Mirror 1024 (Some 0) (leg 0 5 ∷ leg 1 0 ∷ [])) ∷ [];
@@ -195,7 +206,8 @@ row_locked = refl
 
 -- what five extents of mixed are committed as
 row_change : (change_of (held (lv (codes "s") 7 true mixed ∷ [])) (reduce (codes "s") (Extents 5)) 0 []).group
-    ≡ Some (record (group (lv (codes "s") 7 true (segment 0 4 (Striped 0 (leg 0 3 ∷ [])) ∷ segment 4 2 (Striped 128 (leg 0 7 ∷ leg 1 3 ∷ [])) ∷ []) ∷ [])) { seqno = 5 })
+    ≡ Some (record (group (lv (codes "s") 7 true
+    (segment 0 4 (Striped 0 (leg 0 3 ∷ [])) ∷ segment 4 2 (Striped 128 (leg 0 7 ∷ leg 1 3 ∷ [])) ∷ []) ∷ [])) { seqno = 5 })
 unfolding visible_named
 row_change = refl
 
@@ -217,7 +229,8 @@ striped = segment 0 6 (Striped 128 (leg 0 0 ∷ leg 1 0 ∷ []))
 
 -- six extents are as many as it has, and so are five, in whole stripes; three are four; a sector more than six extents is one extent
 -- more
-row_not_longer : map (longer_row 8192 (volume (striped ∷ []))) (To (Extents 6) ∷ To (Extents 5) ∷ To (Extents 3) ∷ To (Extents 7) ∷ To (Sectors 49152) ∷ To (Sectors 49153) ∷ By (Extents 1) ∷ [])
+row_not_longer : map (longer_row 8192 (volume (striped ∷ [])))
+    (To (Extents 6) ∷ To (Extents 5) ∷ To (Extents 3) ∷ To (Extents 7) ∷ To (Sectors 49152) ∷ To (Sectors 49153) ∷ By (Extents 1) ∷ [])
     ≡ Some (NotLonger 6 6) ∷ Some (NotLonger 6 6) ∷ Some (NotLonger 4 6) ∷ None ∷ Some (NotLonger 6 6) ∷ None ∷ None ∷ []
 row_not_longer = refl
 
@@ -226,7 +239,8 @@ abbrev shares : List Segment → List Growth → List ℕ
 shares segments growths = map (λ growth. (more_for (held []) (group []) growth [] (volume segments)).extents) growths
 
 -- seven extents are one more, and with two stripes one on each
-row_shares : shares (striped ∷ []) (To (Extents 7) ∷ To (Extents 8) ∷ To (Extents 9) ∷ By (Extents 3) ∷ By (Sectors 8193) ∷ []) ≡ 1 ∷ 1 ∷ 2 ∷ 2 ∷ 1 ∷ []
+row_shares : shares (striped ∷ []) (To (Extents 7) ∷ To (Extents 8) ∷ To (Extents 9) ∷ By (Extents 3) ∷ By (Sectors 8193) ∷ [])
+    ≡ 1 ∷ 1 ∷ 2 ∷ 2 ∷ 1 ∷ []
 row_shares = refl
 
 -- the last segment alone decides: with the two stripes behind four linear extents each gets half
@@ -242,7 +256,8 @@ abbrev extend : List ℕ → Growth → List (List ℕ) → Line
 extend name growth pvs = line (Lvextend (record { vg = codes "vg0"; lv = name }) growth pvs)
 
 -- data has four extents on one leg
-row_asks : option_map {U = ℕ × ℕ} (λ (asking : Asking). (asking.want.extents, asking.want.legs)) (asks_of (held two) (extend (codes "data") (To (Extents 9)) [])) ≡ Some (5, 1)
+row_asks : option_map {U = ℕ × ℕ} (λ (asking : Asking). (asking.want.extents, asking.want.legs))
+    (asks_of (held two) (extend (codes "data") (To (Extents 9)) [])) ≡ Some (5, 1)
 unfolding visible_named
 row_asks = refl
 
@@ -275,7 +290,8 @@ unfolding area_row layered_row locked_row outside_row pvs_named space_row unknow
 row_full = simp (set.len-empty nat_cmp, set.contains-empty nat_cmp, set.contains-insert nat_cmp_total) refl
 
 -- the allocator's refusals name a disk, here the third, by its number
-row_shown : map (shown_refusal (0 ∷ 2 ∷ [])) (alloc.NoMemory ∷ alloc.NotAllocatable 1 ∷ alloc.NoSpace 16 15 ∷ alloc.NoRun 9 8 ∷ alloc.TooFewPvs 3 2 ∷ [])
+row_shown : map (shown_refusal (0 ∷ 2 ∷ []))
+    (alloc.NoMemory ∷ alloc.NotAllocatable 1 ∷ alloc.NoSpace 16 15 ∷ alloc.NoRun 9 8 ∷ alloc.TooFewPvs 3 2 ∷ [])
     ≡ None ∷ Some (NotAllocatable 2) ∷ Some (NoSpace 16 15) ∷ Some (NoRun 9 8) ∷ Some (TooFewPvs 3 2) ∷ []
 row_shown = refl
 
@@ -289,11 +305,15 @@ abbrev begin : ℕ → ℕ → PartRun
 begin number first = record { pv = number; first = first }
 
 -- each part that is given is a segment
-row_longer : (change_of (held two) (extend (codes "data") (By (Extents 3)) []) 0 ((record { extents = 2; runs = begin 0 4 ∷ [] }) ∷ (record { extents = 1; runs = begin 1 2 ∷ [] }) ∷ [])).group
-    ≡ Some (record (group (lv (codes "data") 1 true (segment 0 4 (Striped 0 (leg 0 0 ∷ [])) ∷ segment 4 2 (Striped 0 (leg 0 4 ∷ [])) ∷ segment 6 1 (Striped 0 (leg 1 2 ∷ [])) ∷ []) ∷ lv (codes "home") 2 true (segment 0 2 (Striped 0 (leg 1 0 ∷ [])) ∷ []) ∷ [])) { seqno = 5 })
+row_longer : (change_of (held two) (extend (codes "data") (By (Extents 3)) []) 0
+    ((record { extents = 2; runs = begin 0 4 ∷ [] }) ∷ (record { extents = 1; runs = begin 1 2 ∷ [] }) ∷ [])).group
+    ≡ Some (record (group (lv (codes "data") 1 true
+    (segment 0 4 (Striped 0 (leg 0 0 ∷ [])) ∷ segment 4 2 (Striped 0 (leg 0 4 ∷ [])) ∷ segment 6 1 (Striped 0 (leg 1 2 ∷ [])) ∷ [])
+    ∷ lv (codes "home") 2 true (segment 0 2 (Striped 0 (leg 1 0 ∷ [])) ∷ []) ∷ [])) { seqno = 5 })
 row_longer = refl
 
-row_longer_stripes : (change_of (held (lv (codes "s") 7 true (striped ∷ []) ∷ [])) (extend (codes "s") (To (Extents 7)) []) 0 ((record { extents = 1; runs = begin 0 3 ∷ begin 1 5 ∷ [] }) ∷ [])).group
+row_longer_stripes : (change_of (held (lv (codes "s") 7 true (striped ∷ []) ∷ [])) (extend (codes "s") (To (Extents 7)) []) 0
+    ((record { extents = 1; runs = begin 0 3 ∷ begin 1 5 ∷ [] }) ∷ [])).group
     ≡ Some (record (group (lv (codes "s") 7 true (striped ∷ segment 6 2 (Striped 128 (leg 0 3 ∷ leg 1 5 ∷ [])) ∷ []) ∷ [])) { seqno = 5 })
 row_longer_stripes = refl
 
@@ -301,38 +321,48 @@ row_longer_stripes = refl
 
 -- a new volume of so much, on so many stripes, with so many mirrors
 abbrev wanted : Amount → ℕ → ℕ → NewVolume
-wanted amount stripes mirrors = record { vg = codes "vg0"; lv = codes "new"; amount = amount; stripes = stripes; stripe_size = 128; mirrors = mirrors; contiguous = false; pvs = [] }
+wanted amount stripes mirrors =
+    record { vg = codes "vg0"; lv = codes "new"; amount = amount; stripes = stripes; stripe_size = 128; mirrors = mirrors;
+        contiguous = false; pvs = [] }
 
 -- two stripes have half of the extents each, and three of five; each leg of a mirror has all; a sector more than an extent is two
 row_created_shares : map (share_for 8192)
-    (wanted (Extents 5) 1 0 ∷ wanted (Extents 6) 2 0 ∷ wanted (Extents 5) 2 0 ∷ wanted (Extents 5) 1 2 ∷ wanted (Sectors 8193) 1 0 ∷ wanted (Sectors 8193) 2 0 ∷ wanted (Sectors 8192) 1 1 ∷ []) ≡ 5 ∷ 3 ∷ 3 ∷ 5 ∷ 2 ∷ 1 ∷ 1 ∷ []
+    (wanted (Extents 5) 1 0 ∷ wanted (Extents 6) 2 0 ∷ wanted (Extents 5) 2 0 ∷ wanted (Extents 5) 1 2 ∷ wanted (Sectors 8193) 1 0
+        ∷ wanted (Sectors 8193) 2 0 ∷ wanted (Sectors 8192) 1 1 ∷ []) ≡ 5 ∷ 3 ∷ 3 ∷ 5 ∷ 2 ∷ 1 ∷ 1 ∷ []
 row_created_shares = refl
 
-row_created_legs : map legs_for (wanted (Extents 1) 1 0 ∷ wanted (Extents 1) 2 0 ∷ wanted (Extents 1) 8 0 ∷ wanted (Extents 1) 1 1 ∷ wanted (Extents 1) 1 7 ∷ []) ≡ 1 ∷ 2 ∷ 8 ∷ 2 ∷ 8 ∷ []
+row_created_legs : map legs_for (wanted (Extents 1) 1 0 ∷ wanted (Extents 1) 2 0 ∷ wanted (Extents 1) 8 0 ∷ wanted (Extents 1) 1 1
+    ∷ wanted (Extents 1) 1 7 ∷ []) ≡ 1 ∷ 2 ∷ 8 ∷ 2 ∷ 8 ∷ []
 row_created_legs = refl
 
 -- a single leg has no stripe size
-row_created_kinds : map kind_for (wanted (Extents 1) 1 0 ∷ wanted (Extents 1) 2 0 ∷ wanted (Extents 1) 1 1 ∷ []) ≡ Striped 0 [] ∷ Striped 128 [] ∷ Mirror 1024 None [] ∷ []
+row_created_kinds : map kind_for (wanted (Extents 1) 1 0 ∷ wanted (Extents 1) 2 0 ∷ wanted (Extents 1) 1 1 ∷ [])
+    ≡ Striped 0 [] ∷ Striped 128 [] ∷ Mirror 1024 None [] ∷ []
 row_created_kinds = refl
 
 -- an lvcreate of it
 abbrev create : NewVolume → Line
 create new = line (Lvcreate new)
 
-row_created_asks : option_map {U = ℕ × ℕ × Bool} (λ (asking : Asking). (asking.want.extents, asking.want.legs, asking.want.contiguous)) (asks_of (held two) (create (record (wanted (Extents 5) 2 0) { contiguous = true }))) ≡ Some (3, 2, true)
+row_created_asks : option_map {U = ℕ × ℕ × Bool} (λ (asking : Asking). (asking.want.extents, asking.want.legs, asking.want.contiguous))
+    (asks_of (held two) (create (record (wanted (Extents 5) 2 0) { contiguous = true }))) ≡ Some (3, 2, true)
 row_created_asks = refl
 
 -- ---- lvcreate: rows
 
 -- pieces of 128 sectors don't divide extents of 64; a single leg has none
-row_stripe_pieces : map (λ (new : NewVolume). stripe_row 64 new.stripes new.stripe_size) (wanted (Extents 1) 2 0 ∷ wanted (Extents 1) 1 0 ∷ record (wanted (Extents 1) 2 0) { stripe_size = 64 } ∷ []) ≡ Some (BadStripe 128 64) ∷ None ∷ None ∷ []
+row_stripe_pieces : map (λ (new : NewVolume). stripe_row 64 new.stripes new.stripe_size)
+    (wanted (Extents 1) 2 0 ∷ wanted (Extents 1) 1 0 ∷ record (wanted (Extents 1) 2 0) { stripe_size = 64 } ∷ [])
+    ≡ Some (BadStripe 128 64) ∷ None ∷ None ∷ []
 row_stripe_pieces = refl
 
 -- of a group the first volume whose pieces don't divide an extent, 0 sectors among them; one of a single leg has no pieces
 row_stripes_of :
     map
-    (λ (kind : SegKind). stripes_row (group (lv (codes "s") 7 true (striped ∷ []) ∷ lv (codes "t") 8 true (striped ∷ segment 6 6 kind ∷ []) ∷ [])))
-    (Striped 256 (leg 0 6 ∷ leg 1 6 ∷ []) ∷ Striped 192 (leg 0 6 ∷ leg 1 6 ∷ []) ∷ Striped 0 (leg 0 6 ∷ leg 1 6 ∷ []) ∷ Striped 0 (leg 0 6 ∷ []) ∷ [])
+    (λ (kind : SegKind). stripes_row (group (lv (codes "s") 7 true (striped ∷ []) ∷ lv (codes "t") 8 true (striped ∷ segment 6 6 kind ∷ [])
+        ∷ [])))
+    (Striped 256 (leg 0 6 ∷ leg 1 6 ∷ []) ∷ Striped 192 (leg 0 6 ∷ leg 1 6 ∷ []) ∷ Striped 0 (leg 0 6 ∷ leg 1 6 ∷ [])
+        ∷ Striped 0 (leg 0 6 ∷ []) ∷ [])
     ≡ None ∷ Some (BadStripe 192 8192) ∷ Some (BadStripe 0 8192) ∷ None ∷ []
 row_stripes_of = refl
 
@@ -346,16 +376,19 @@ unfolding many_row
 row_no_limit = refl
 
 -- 9 is the id of the group, 48 that of a physical volume and 2 that of a logical one
-row_ids : map (λ (id : ℕ). id_row (held two) (group two) (id ∷ [])) (7 ∷ 9 ∷ 48 ∷ 2 ∷ []) ≡ None ∷ Some (IdTaken (9 ∷ [])) ∷ Some (IdTaken (48 ∷ [])) ∷ Some (IdTaken (2 ∷ [])) ∷ []
+row_ids : map (λ (id : ℕ). id_row (held two) (group two) (id ∷ [])) (7 ∷ 9 ∷ 48 ∷ 2 ∷ [])
+    ≡ None ∷ Some (IdTaken (9 ∷ [])) ∷ Some (IdTaken (48 ∷ [])) ∷ Some (IdTaken (2 ∷ [])) ∷ []
 row_ids = refl
 
 -- ---- lvcreate: whole lines
 
-row_created_elsewhere : refusal_of (held two) (create (record (wanted (Extents 1) 1 0) { vg = codes "vg1" })) 0 [] ≡ Some (UnknownGroup (codes "vg1"))
+row_created_elsewhere : refusal_of (held two) (create (record (wanted (Extents 1) 1 0) { vg = codes "vg1" })) 0 []
+    ≡ Some (UnknownGroup (codes "vg1"))
 row_created_elsewhere = refl
 
 -- hidden volumes have their names too, and this is said before that a disk is unknown
-row_name_taken : map (λ name. refusal_of (held layers) (create (record (wanted (Extents 1) 1 0) { lv = name; pvs = codes "d" ∷ [] })) 0 []) (codes "top" ∷ codes "low" ∷ codes "new" ∷ [])
+row_name_taken : map (λ name. refusal_of (held layers) (create (record (wanted (Extents 1) 1 0) { lv = name; pvs = codes "d" ∷ [] })) 0 [])
+    (codes "top" ∷ codes "low" ∷ codes "new" ∷ [])
     ≡ Some (NameTaken (codes "top")) ∷ Some (NameTaken (codes "low")) ∷ Some (UnknownPv (codes "d")) ∷ []
 unfolding added_named number_named taken_row unknown_row
 row_name_taken = refl
@@ -389,6 +422,7 @@ row_created_mirror : (change_of (held two) (create (wanted (Extents 3) 1 1)) 12 
 row_created_mirror = refl
 
 -- its first eight sectors are those of its first leg; the second physical volume is on the third disk
-row_zeroed : map (λ (given : List Part). (change_of (held two) (create (wanted (Extents 6) 2 0)) 12 given).zero) (both_stripes ∷ ((record { extents = 6; runs = begin 1 2 ∷ [] }) ∷ []) ∷ [] ∷ [])
+row_zeroed : map (λ (given : List Part). (change_of (held two) (create (wanted (Extents 6) 2 0)) 12 given).zero)
+    (both_stripes ∷ ((record { extents = 6; runs = begin 1 2 ∷ [] }) ∷ []) ∷ [] ∷ [])
     ≡ ((record { pv = 0; first = 34816; count = 8 }) ∷ []) ∷ ((record { pv = 2; first = 18432; count = 8 }) ∷ []) ∷ [] ∷ []
 row_zeroed = refl

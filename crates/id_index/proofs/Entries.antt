@@ -12,12 +12,14 @@ found id [] = refl
 found id (e ∷ es) = ap (cond (eq_by_cmp (slice_cmp nat_cmp) id e.0) (Some e.1)) (found id es)
 
 -- what is looked up in the entries is what the map has
-pub lookup-is : (es : List (List ℕ × ℕ)) (id : List ℕ) → lookup (eq_by_cmp (slice_cmp nat_cmp) id) es ≡ map.get {R = slice_cmp nat_cmp} (map.from_entries es) id
+pub lookup-is : (es : List (List ℕ × ℕ)) (id : List ℕ)
+    → lookup (eq_by_cmp (slice_cmp nat_cmp) id) es ≡ map.get {R = slice_cmp nat_cmp} (map.from_entries es) id
 lookup-is es id = found id es ∙ sym (get-from_entries nat_list_cmp_total es id)
 
 -- entries in which one number was put are the map with that
 pub insert-is : (es fs : List (List ℕ × ℕ)) (id : List ℕ) (number : ℕ)
-    → ((q : List ℕ) → lookup (eq_by_cmp (slice_cmp nat_cmp) q) fs ≡ cond (eq_by_cmp (slice_cmp nat_cmp) id q) (Some number) (lookup (eq_by_cmp (slice_cmp nat_cmp) q) es))
+    → ((q : List ℕ) → lookup (eq_by_cmp (slice_cmp nat_cmp) q) fs
+    ≡ cond (eq_by_cmp (slice_cmp nat_cmp) id q) (Some number) (lookup (eq_by_cmp (slice_cmp nat_cmp) q) es))
     → map.from_entries {R = slice_cmp nat_cmp} fs ≡ map.insert (map.from_entries es) id number
 insert-is es fs id number updates =
     same_map nat_list_cmp_total (slice_cmp-IsAntisymmetric nat_cmp-IsAntisymmetric) _ _ (λ q.

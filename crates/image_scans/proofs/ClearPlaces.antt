@@ -39,7 +39,9 @@ use Rattle.image_scans.proofs.CommitLine.{is_state, settled}
 use Rattle.image_scans.proofs.FoundAreas.{IsHeldOn, all_held}
 use Rattle.image_scans.proofs.Placed.{IsPlaceOn, place_beside}
 
-module _ (base : Image) (sizes : List ℕ) (found : Found) (names : List (List ℕ)) (backup : Option Backup) (line : Line) (now : ℕ) (given : List Part) (p : CanCarryOut base sizes found names backup line now given) (group : Group) (is_group : found.group ≡ Some group) where
+module _ (base : Image) (sizes : List ℕ) (found : Found) (names : List (List ℕ)) (backup : Option Backup) (line : Line) (now : ℕ)
+    (given : List Part) (p : CanCarryOut base sizes found names backup line now given) (group : Group) (is_group : found.group ≡ Some group)
+    where
   abbrev cleared_of_line : FinSet nat_cmp
   cleared_of_line = (change_of (state_in found names backup) line now given).cleared
 
@@ -60,7 +62,9 @@ module _ (base : Image) (sizes : List ℕ) (found : Found) (names : List (List �
     number = slice_index (disks_of group found.disks) at.pv
 
     on : IsPlaceOn found.disks number at.sector
-    on = place_beside group found.disks (old_whole p.scan.readings found (settled base sizes found names backup line now given p) group is_group).0 placed (none_missing_of found p.shape p.whole group is_group) lv sector at is
+    on =
+        place_beside group found.disks (old_whole p.scan.readings found (settled base sizes found names backup line now given p) group
+            is_group).0 placed (none_missing_of found p.shape p.whole group is_group) lv sector at is
 
     no_header : (a : Area × Option Locn) → IsHeldOn found.disks a → CanTake a → covers (header_span a.0) number at.sector ≡ false
     no_header a is_held take =
@@ -73,7 +77,8 @@ module _ (base : Image) (sizes : List ℕ) (found : Found) (names : List (List �
     uncleared = record {
       labels = λ k d within.
           inr (λ same.
-          let low : (get_or (unused_labels cleared_of_line found.disks) k d).sector < 4 = (labels_can found.disks found.areas scanned cleared_of_line k d within).sector_below in
+          let low : (get_or (unused_labels cleared_of_line found.disks) k d).sector < 4 =
+              (labels_can found.disks found.areas scanned cleared_of_line k d within).sector_below in
           let behind : 8 ≤ at.sector = on.beside.behind in
           omega (arith, low, same, behind));
       headers =
@@ -81,9 +86,12 @@ module _ (base : Image) (sizes : List ℕ) (found : Found) (names : List (List �
           (λ k d within. no_header (get_or found.areas k d) (held k d within) (each_takes found.disks found.areas scanned k d within));
     }
 
-    pub place_kept : (mid image : Image) → HasFirstBatches (clears_of (state_in found names backup) line now given) mid image → at_place image found.disk_of at ≡ at_place mid found.disk_of at
+    pub place_kept : (mid image : Image) → HasFirstBatches (clears_of (state_in found names backup) line now given) mid image
+        → at_place image found.disk_of at ≡ at_place mid found.disk_of at
     place_kept mid image h =
-        subst (λ (l : List ℕ). at_place image l at ≡ at_place mid l at) (sym listed) ((p.keeps.clears.kept mid image h).others number at.sector uncleared)
+        subst (λ (l : List ℕ). at_place image l at ≡ at_place mid l at) (sym listed)
+            ((p.keeps.clears.kept mid image h).others number at.sector uncleared)
 
 pub clears_keep_places : ClearsKeepPlaces
-clears_keep_places base mid image sizes found names backup line now given group p is_group h lv sector at is = place_kept base sizes found names backup line now given p group is_group lv sector at is mid image h
+clears_keep_places base mid image sizes found names backup line now given group p is_group h lv sector at is =
+    place_kept base sizes found names backup line now given p group is_group lv sector at is mid image h

@@ -18,7 +18,8 @@ pub record IsClearWrite (areas : List (Area × Option Locn)) (pv sector : ℕ) (
   pub at : (get_or areas number no_area).0.start / 512 ≡ sector
   pub is : value ≡ header_bytes (header_of (get_or areas number no_area).0 None None)
 
-pub clear_write : (areas : List (Area × Option Locn)) (pv sector : ℕ) (value : List ℕ) → IsWrittenBy (map clear_put areas) pv sector value → IsClearWrite areas pv sector value
+pub clear_write : (areas : List (Area × Option Locn)) (pv sector : ℕ) (value : List ℕ) → IsWrittenBy (map clear_put areas) pv sector value
+    → IsClearWrite areas pv sector value
 clear_write areas pv sector value by =
     let w = clear_where areas no_area pv sector value by in
     let t = covers_tells (header_span (get_or areas w.0 no_area).0) pv sector w.2 in

@@ -1,5 +1,6 @@
 -- The lines that commit a group: vgcreate where none was found, vgextend and those of a next version where one was.
-use Rattle.std.proofs.Common.{◌≡◌, ◌≤◌, ℕ, ◌<◌, ◌%◌, ◌^◌, false, List, [], ◌∷◌, ◌++◌, map, Option, Some, None, refl, sym, ap, subst, ◌∙◌, arith}
+use Rattle.std.proofs.Common.{◌≡◌, ◌≤◌, ℕ, ◌<◌, ◌%◌, ◌^◌, false, List, [], ◌∷◌, ◌++◌, map, Option, Some, None, refl, sym, ap, subst, ◌∙◌,
+    arith}
 use Rattle.std.specs.Prelude.{IfSome, IsSomeAnd, slice_index, unwrap_or}
 use Rattle.std.specs.Ordering.{nat_cmp}
 use Rattle.std.specs.FinSet as set
@@ -70,26 +71,34 @@ id_is : (id : Option (List ℕ)) → IsSomeAnd id IsId → IsId (unwrap_or id []
 id_is None is = absurd is
 id_is (Some id) is = is
 
-create_none : (state : GroupState) (base : Group) (names : List (List ℕ)) (now : ℕ) → first_refusal (new_rows state base names now) ≡ None → first_refusal (create_rows state base (added_of state names)) ≡ None
+create_none : (state : GroupState) (base : Group) (names : List (List ℕ)) (now : ℕ) → first_refusal (new_rows state base names now) ≡ None
+    → first_refusal (create_rows state base (added_of state names)) ≡ None
 create_none state base names now none =
     let rows = none_holds (new_rows state base names now) none in
-    all_none (create_rows state base (added_of state names)) (each_front (λ row. row ≡ None) (create_rows state base (added_of state names)) (text_row state base [] (added_of state names) now ∷ []) rows.1)
+    all_none (create_rows state base (added_of state names))
+        (each_front (λ row. row ≡ None) (create_rows state base (added_of state names))
+        (text_row state base [] (added_of state names) now ∷ []) rows.1)
 
 create_by : (state : GroupState) (base : Group) (names : List (List ℕ)) (now : ℕ) (o : Option Group)
-    → first_refusal (option_map_or (λ (group : Group). Some (GroupStands group.name) ∷ []) o (new_rows state base names now)) ≡ None → (o ≡ None) × (first_refusal (new_rows state base names now) ≡ None)
+    → first_refusal (option_map_or (λ (group : Group). Some (GroupStands group.name) ∷ []) o (new_rows state base names now)) ≡ None
+    → (o ≡ None) × (first_refusal (new_rows state base names now) ≡ None)
 create_by state base names now None none = (refl, none)
 create_by state base names now (Some group) none = absurd cc
 
-pub vgcreate_commits : (found : Found) (names : List (List ℕ)) (backup : Option Backup) → IsState (state_in found names backup) → (id : Option (List ℕ)) (vg : List ℕ) (extent_size : ℕ) (pvs : List (List ℕ)) (now : ℕ)
+pub vgcreate_commits : (found : Found) (names : List (List ℕ)) (backup : Option Backup) → IsState (state_in found names backup)
+    → (id : Option (List ℕ)) (vg : List ℕ) (extent_size : ℕ) (pvs : List (List ℕ)) (now : ℕ)
     → IsSomeAnd id IsId × (group_name_refusal vg ≡ None) × (8 ≤ extent_size) × (extent_size ≤ 2 ^ 31) × (extent_size % 8 ≡ 0)
-    → first_refusal (option_map_or (λ (group : Group). Some (GroupStands group.name) ∷ []) found.group (new_rows (state_in found names backup) (empty_group (unwrap_or id []) vg extent_size) pvs now)) ≡ None
-    → Commits found (state_in found names backup) (change_with (empty_group (unwrap_or id []) vg extent_size) [] (added_of (state_in found names backup) pvs))
+    → first_refusal (option_map_or (λ (group : Group). Some (GroupStands group.name) ∷ []) found.group
+    (new_rows (state_in found names backup) (empty_group (unwrap_or id []) vg extent_size) pvs now)) ≡ None
+    → Commits found (state_in found names backup)
+    (change_with (empty_group (unwrap_or id []) vg extent_size) [] (added_of (state_in found names backup) pvs))
 vgcreate_commits found names backup is id vg extent_size pvs now planned none =
     let state : GroupState = state_in found names backup in
     let base : Group = empty_group (unwrap_or id []) vg extent_size in
     let parts = create_by state base pvs now found.group none in
     let whole : IsWhole (extended base (added_of state pvs)) =
-    created state is (unwrap_or id []) vg extent_size pvs (id_is id planned.0) planned.1 planned.2 planned.3 planned.4 (create_none state base pvs now parts.1)
+    created state is (unwrap_or id []) vg extent_size pvs (id_is id planned.0) planned.1 planned.2 planned.3 planned.4
+        (create_none state base pvs now parts.1)
     in
     record {
       group = extended base (added_of state pvs);
@@ -100,45 +109,61 @@ vgcreate_commits found names backup is id vg extent_size pvs now planned none =
 -- ---- vgextend
 
 -- the group that was found keeps the rules, and a tree stands for it
-pub old_whole : (readings : List Reading) (found : Found) → IsSettledScan readings found → (group : Group) → found.group ≡ Some group → IsAccepted group × HasTree group
-old_whole readings found (settled_none nothing none given) group is = absurd (let e : ◌≡◌ {A = Option Group} None (Some group) = sym none ∙ is in cc)
+pub old_whole : (readings : List Reading) (found : Found) → IsSettledScan readings found → (group : Group) → found.group ≡ Some group
+    → IsAccepted group × HasTree group
+old_whole readings found (settled_none nothing none given) group is =
+    absurd (let e : ◌≡◌ {A = Option Group} None (Some group) = sym none ∙ is in cc)
 old_whole readings found (settled_some held parts some copy given all) group is =
     let same : held.group ≡ group = same_Some held.group group (sym some ∙ is) in
     subst (λ (g : Group). IsAccepted g × HasTree g) same (copy.accepted, copy_tree held.text held.group held.passed copy)
 
 extend_by : (state : GroupState) (vg : List ℕ) (names : List (List ℕ)) (now : ℕ) (o : Option Group)
-    → first_refusal (option_map_or (found_rows state vg names now) o (Some (UnknownGroup vg) ∷ [])) ≡ None → (group : Group) × (o ≡ Some group) × (first_refusal (found_rows state vg names now group) ≡ None)
+    → first_refusal (option_map_or (found_rows state vg names now) o (Some (UnknownGroup vg) ∷ [])) ≡ None
+    → (group : Group) × (o ≡ Some group) × (first_refusal (found_rows state vg names now group) ≡ None)
 extend_by state vg names now None none = absurd cc
 extend_by state vg names now (Some group) none = (group, refl, none)
 
-extend_none : (state : GroupState) (vg : List ℕ) (names : List (List ℕ)) (now : ℕ) (group : Group) → first_refusal (found_rows state vg names now group) ≡ None → first_refusal (extend_rows state group (added_of state names)) ≡ None
+extend_none : (state : GroupState) (vg : List ℕ) (names : List (List ℕ)) (now : ℕ) (group : Group)
+    → first_refusal (found_rows state vg names now group) ≡ None → first_refusal (extend_rows state group (added_of state names)) ≡ None
 extend_none state vg names now group none =
     let rows = none_holds (found_rows state vg names now group) none in
-    all_none (extend_rows state group (added_of state names)) (each_front (λ row. row ≡ None) (extend_rows state group (added_of state names)) (text_row state (next_version group) state.disk_of (added_of state names) now ∷ []) rows.1.1.1.1)
+    all_none (extend_rows state group (added_of state names))
+        (each_front (λ row. row ≡ None) (extend_rows state group (added_of state names))
+        (text_row state (next_version group) state.disk_of (added_of state names) now ∷ []) rows.1.1.1.1)
 
-pub none_missing_of : (found : Found) → HasShape found → FoundIsWhole found → (group : Group) → found.group ≡ Some group → missing_of (shapes found.disks) group.pvs ≡ []
+pub none_missing_of : (found : Found) → HasShape found → FoundIsWhole found → (group : Group) → found.group ≡ Some group
+    → missing_of (shapes found.disks) group.pvs ≡ []
 none_missing_of found shape whole group is =
     sym (subst (λ (o : Option Group). IfSome o (λ g. found.missing ≡ missing_of (shapes found.disks) g.pvs)) is shape.missing) ∙ whole.there
 
-pub vgextend_commits : (found : Found) (names : List (List ℕ)) (backup : Option Backup) → HasShape found → FoundIsWhole found → IsState (state_in found names backup) → (readings : List Reading) → IsSettledScan readings found → (vg : List ℕ) (pvs : List (List ℕ)) (now : ℕ) (group : Group)
+pub vgextend_commits : (found : Found) (names : List (List ℕ)) (backup : Option Backup) → HasShape found → FoundIsWhole found
+    → IsState (state_in found names backup) → (readings : List Reading) → IsSettledScan readings found
+    → (vg : List ℕ) (pvs : List (List ℕ)) (now : ℕ) (group : Group)
     → found.group ≡ Some group → first_refusal (found_rows (state_in found names backup) vg pvs now group) ≡ None
-    → Commits found (state_in found names backup) (change_with (next_version group) found.disk_of (added_of (state_in found names backup) pvs))
+    → Commits found (state_in found names backup)
+    (change_with (next_version group) found.disk_of (added_of (state_in found names backup) pvs))
 unfolding extended
 vgextend_commits found names backup shape whole is readings settled vg pvs now group there none =
     let state : GroupState = state_in found names backup in
-    let listed : found.disk_of ≡ disks_of group found.disks = subst (λ (o : Option Group). IfSome o (λ g. found.disk_of ≡ disks_of g found.disks)) there shape.disk_of in
+    let listed : found.disk_of ≡ disks_of group found.disks =
+        subst (λ (o : Option Group). IfSome o (λ g. found.disk_of ≡ disks_of g found.disks)) there shape.disk_of in
     let old = old_whole readings found settled group there in
-    let good : IsWhole (extended (next_version group) (added_of state pvs)) = next_is_whole state is group pvs listed old.0 old.1 (extend_none state vg pvs now group none) in
+    let good : IsWhole (extended (next_version group) (added_of state pvs)) =
+        next_is_whole state is group pvs listed old.0 old.1 (extend_none state vg pvs now group none) in
     record {
       group = extended (next_version group) (added_of state pvs);
-      makes = makes_group state is (next_version group) found.disk_of pvs (record { disks_is = sym listed; there = all_there (shapes found.disks) group.pvs (none_missing_of found shape whole group there) }) good;
+      makes =
+          makes_group state is (next_version group) found.disk_of pvs
+              (record { disks_is = sym listed; there = all_there (shapes found.disks) group.pvs
+              (none_missing_of found shape whole group there) }) good;
       next = subst (λ (o : Option Group). IsNext o (extended (next_version group) (added_of state pvs))) (sym there) (refl, omega arith);
     }
 
 -- ---- the next version, on the disks of the group
 
 -- whatever sectors are to hold zeros before, and whatever disks are cleared behind
-with_others : (state : GroupState) (change : Change) (spans : List Span) (cleared : set.FinSet nat_cmp) (group : Group) → MakesGroup state change group → MakesGroup state (record change { zero = spans; cleared = cleared }) group
+with_others : (state : GroupState) (change : Change) (spans : List Span) (cleared : set.FinSet nat_cmp) (group : Group)
+    → MakesGroup state change group → MakesGroup state (record change { zero = spans; cleared = cleared }) group
 with_others state change spans cleared group m = record {
   made = m.made;
   there = m.there;
@@ -152,42 +177,58 @@ with_others state change spans cleared group m = record {
   disks_is = m.disks_is;
 }
 
-pub next_commits : (found : Found) (names : List (List ℕ)) (backup : Option Backup) → HasShape found → FoundIsWhole found → IsState (state_in found names backup) → (readings : List Reading) → IsSettledScan readings found → (change : Change) (now : ℕ) → now < 2 ^ 48
+pub next_commits : (found : Found) (names : List (List ℕ)) (backup : Option Backup) → HasShape found → FoundIsWhole found
+    → IsState (state_in found names backup) → (readings : List Reading) → IsSettledScan readings found → (change : Change) (now : ℕ)
+    → now < 2 ^ 48
     → CommitsNext (state_in found names backup) change now → Commits found (state_in found names backup) change
 unfolding extended
 next_commits found names backup shape whole is readings settled change now time made =
     let state : GroupState = state_in found names backup in
     let there : found.group ≡ Some made.old = made.there in
-    let listed : found.disk_of ≡ disks_of made.old found.disks = subst (λ (o : Option Group). IfSome o (λ g. found.disk_of ≡ disks_of g found.disks)) there shape.disk_of in
+    let listed : found.disk_of ≡ disks_of made.old found.disks =
+        subst (λ (o : Option Group). IfSome o (λ g. found.disk_of ≡ disks_of g found.disks)) there shape.disk_of in
     let old = old_whole readings found settled made.old there in
-    let pvs : disks_of made.next found.disks ≡ disks_of made.old found.disks = ap (λ (l : List (List ℕ × Pv)). map (λ (pv : List ℕ × Pv). disk_with found.disks pv.1.id) l) made.same_pvs in
-    let present : missing_of (shapes found.disks) made.next.pvs ≡ [] = ap (missing_of (shapes found.disks)) made.same_pvs ∙ none_missing_of found shape whole made.old there in
+    let pvs : disks_of made.next found.disks ≡ disks_of made.old found.disks =
+        ap (λ (l : List (List ℕ × Pv)). map (λ (pv : List ℕ × Pv). disk_with found.disks pv.1.id) l) made.same_pvs in
+    let present : missing_of (shapes found.disks) made.next.pvs ≡ [] =
+        ap (missing_of (shapes found.disks)) made.same_pvs ∙ none_missing_of found shape whole made.old there in
     let makes : MakesGroup state (change_with made.next found.disk_of (added_of state [])) (extended made.next (added_of state [])) =
-    makes_group state is made.next found.disk_of [] (record { disks_is = pvs ∙ sym listed; there = all_there (shapes found.disks) made.next.pvs present }) (made.whole is old.0 old.1 time)
+    makes_group state is made.next found.disk_of []
+        (record { disks_is = pvs ∙ sym listed; there = all_there (shapes found.disks) made.next.pvs present })
+        (made.whole is old.0 old.1 time)
     in
     subst (Commits found state) (version_is state made.zero made.next ∙ sym made.change_is)
     (record {
       group = extended made.next (added_of state []);
-      makes = with_others state (change_with made.next found.disk_of (added_of state [])) made.zero set.empty (extended made.next (added_of state [])) makes;
+      makes =
+          with_others state (change_with made.next found.disk_of (added_of state [])) made.zero set.empty
+              (extended made.next (added_of state [])) makes;
       next = subst (λ (o : Option Group). IsNext o made.next) (sym there) (sym made.same_id, omega (arith, made.next_seqno));
     })
 
 -- ---- the next version without one of the physical volumes
 
-pub leaves_commits : (found : Found) (names : List (List ℕ)) (backup : Option Backup) → HasShape found → FoundIsWhole found → IsState (state_in found names backup) → (readings : List Reading) → IsSettledScan readings found → (change : Change) (now : ℕ) → LeavesNext (state_in found names backup) change now
+pub leaves_commits : (found : Found) (names : List (List ℕ)) (backup : Option Backup) → HasShape found → FoundIsWhole found
+    → IsState (state_in found names backup) → (readings : List Reading) → IsSettledScan readings found → (change : Change) (now : ℕ)
+    → LeavesNext (state_in found names backup) change now
     → Commits found (state_in found names backup) change
 unfolding extended
 leaves_commits found names backup shape whole is readings settled change now left =
     let state : GroupState = state_in found names backup in
     let there : found.group ≡ Some left.old = left.there in
-    let listed : found.disk_of ≡ disks_of left.old found.disks = subst (λ (o : Option Group). IfSome o (λ g. found.disk_of ≡ disks_of g found.disks)) there shape.disk_of in
+    let listed : found.disk_of ≡ disks_of left.old found.disks =
+        subst (λ (o : Option Group). IfSome o (λ g. found.disk_of ≡ disks_of g found.disks)) there shape.disk_of in
     let old = old_whole readings found settled left.old there in
     let rest : List ℕ = remove found.disk_of left.number in
     let next : Group = reduced_group left.old left.number in
-    let pvs : disks_of next found.disks ≡ rest = map-remove (λ (pv : List ℕ × Pv). disk_with found.disks pv.1.id) left.old.pvs left.number ∙ ap (λ (l : List ℕ). remove l left.number) (sym listed) in
+    let pvs : disks_of next found.disks ≡ rest =
+        map-remove (λ (pv : List ℕ × Pv). disk_with found.disks pv.1.id) left.old.pvs left.number
+            ∙ ap (λ (l : List ℕ). remove l left.number) (sym listed) in
     let IsThere : List ℕ × Pv → Type 0 = λ pv. is_missing (shapes found.disks) pv ≡ false in
     let present : Each IsThere next.pvs =
-    recursion_from_All IsThere next.pvs (all_without IsThere left.old.pvs left.number (All-from_recursion IsThere left.old.pvs (all_there (shapes found.disks) left.old.pvs (none_missing_of found shape whole left.old there))))
+    recursion_from_All IsThere next.pvs (all_without IsThere left.old.pvs left.number
+        (All-from_recursion IsThere left.old.pvs
+        (all_there (shapes found.disks) left.old.pvs (none_missing_of found shape whole left.old there))))
     in
     let makes : MakesGroup state (change_with next rest (added_of state [])) (extended next (added_of state [])) =
     makes_group state is next rest [] (record { disks_is = pvs; there = present }) (left.whole is old.0 old.1)
@@ -195,6 +236,8 @@ leaves_commits found names backup shape whole is readings settled change now lef
     subst (Commits found state) (sym left.change_is)
     (record {
       group = next;
-      makes = with_others state (version_change_on rest next) [] (set_of (slice_index found.disk_of left.number ∷ [])) next (subst (λ (c : Change). MakesGroup state c next) (version_on state rest next) makes);
+      makes =
+          with_others state (version_change_on rest next) [] (set_of (slice_index found.disk_of left.number ∷ [])) next
+              (subst (λ (c : Change). MakesGroup state c next) (version_on state rest next) makes);
       next = subst (λ (o : Option Group). IsNext o next) (sym there) (refl, omega arith);
     })

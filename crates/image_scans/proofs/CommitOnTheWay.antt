@@ -1,5 +1,6 @@
 -- An image on the way of a change that commits a group: each disk reads again, but for areas that give the new text.
-use Rattle.std.proofs.Common.{◌≡◌, ◌≢◌, ◌≤◌, ◌<◌, ◌⊎◌, ℕ, ◌+◌, ◌/◌, Bool, true, false, List, [], ◌∷◌, ◌++◌, length, get_or, map, Option, Some, None, inl, inr, ⊎_elim, refl, sym, ap, subst, ◌∙◌, arith}
+use Rattle.std.proofs.Common.{◌≡◌, ◌≢◌, ◌≤◌, ◌<◌, ◌⊎◌, ℕ, ◌+◌, ◌/◌, Bool, true, false, List, [], ◌∷◌, ◌++◌, length, get_or, map, Option,
+    Some, None, inl, inr, ⊎_elim, refl, sym, ap, subst, ◌∙◌, arith}
 use Rattle.std.specs.Prelude.{All, slice_get}
 use Rattle.std.specs.FinSet as set
 use Rattle.std.specs.List.{AllByRecursion as Each}
@@ -64,22 +65,27 @@ each_back P (x ∷ xs) ys all = each_back P xs ys all.1
 
 -- ---- what stands on a disk
 
-header_whole : (contents : PvFound) (header : PvHeader) → header_on (Some contents) ≡ Some header → (label : ℕ) × (areas : List AreaFound) × (contents ≡ Whole label header areas)
+header_whole : (contents : PvFound) (header : PvHeader) → header_on (Some contents) ≡ Some header
+    → (label : ℕ) × (areas : List AreaFound) × (contents ≡ Whole label header areas)
 header_whole (NoLabel refusal) header is = absurd cc
 header_whole (NoHeader label refusal) header is = absurd cc
 header_whole (Whole label own areas) header is = (label, areas, ap (λ (h : PvHeader). Whole label h areas) (same_Some own header is))
 
-pub header_read : (contents : Option PvFound) (header : PvHeader) → header_on contents ≡ Some header → (label : ℕ) × (areas : List AreaFound) × (contents ≡ Some (Whole label header areas))
+pub header_read : (contents : Option PvFound) (header : PvHeader) → header_on contents ≡ Some header
+    → (label : ℕ) × (areas : List AreaFound) × (contents ≡ Some (Whole label header areas))
 header_read None header is = absurd cc
 header_read (Some contents) header is = let w = header_whole contents header is in (w.0, w.1, ap (λ (c : PvFound). Some c) w.2)
 
 -- some label, where a list has none
 some_label : NewLabel
-some_label = record { disk = 0; sector = 0; header = record { id = []; device_bytes = 0; data_areas = []; areas = []; version = 0; flags = 0 } }
+some_label =
+    record { disk = 0; sector = 0; header = record { id = []; device_bytes = 0; data_areas = []; areas = []; version = 0; flags = 0 } }
 
 -- ---- the change
 
-module _ (state : GroupState) (is_state : IsState state) (change : Change) (group : Group) (makes : MakesGroup state change group) (text : List ℕ) (fits : CanTakeText change state.areas text) (can : All CanLabel change.labels) (differ : AreApart change.labels) (base : Image) where
+module _ (state : GroupState) (is_state : IsState state) (change : Change) (group : Group) (makes : MakesGroup state change group)
+    (text : List ℕ) (fits : CanTakeText change state.areas text) (can : All CanLabel change.labels) (differ : AreApart change.labels)
+    (base : Image) where
   abbrev own : List (Area × Option Locn)
   own = areas_of change state.areas
 
@@ -101,10 +107,13 @@ module _ (state : GroupState) (is_state : IsState state) (change : Change) (grou
   own_far = All-filter (lies_on (set_of change.disk_of)) IsFar state.areas (areas_far state is_state)
 
   own_held : All (IsHeldOn state.disks) own
-  own_held = All-filter (lies_on (set_of change.disk_of)) (IsHeldOn state.disks) state.areas (subst (All (IsHeldOn state.disks)) (sym is_state.areas) (all_held state.disks is_state.disks))
+  own_held =
+      All-filter (lies_on (set_of change.disk_of)) (IsHeldOn state.disks) state.areas
+          (subst (All (IsHeldOn state.disks)) (sym is_state.areas) (all_held state.disks is_state.disks))
 
   -- a label, or a sector of an area of the group
-  pub writes : (pv sector : ℕ) (value : List ℕ) → AnyWrites batches pv sector value → IsWrittenBy label_puts pv sector value ⊎ IsAreaWrite text own pv sector value
+  pub writes : (pv sector : ℕ) (value : List ℕ) → AnyWrites batches pv sector value
+      → IsWrittenBy label_puts pv sector value ⊎ IsAreaWrite text own pv sector value
   writes pv sector value by =
       ⊎_elim
       (λ first.
@@ -117,7 +126,9 @@ module _ (state : GroupState) (is_state : IsState state) (change : Change) (grou
 
   -- each label is that of the physical volume that was found on its disk
   abbrev IsLabelOn : NewLabel → Type 0
-  IsLabelOn label = (disk : Disk) × (old : PvHeader) × (slice_get state.disks label.disk ≡ Some disk) × (option_and_then pv_in disk.contents ≡ Some (label.sector, old)) × IsSameHeader old label.header
+  IsLabelOn label =
+      (disk : Disk) × (old : PvHeader) × (slice_get state.disks label.disk ≡ Some disk)
+          × (option_and_then pv_in disk.contents ≡ Some (label.sector, old)) × IsSameHeader old label.header
 
   labels_on : All IsLabelOn change.labels
   labels_on =
@@ -145,7 +156,8 @@ module _ (state : GroupState) (is_state : IsState state) (change : Change) (grou
       let begins : 2048 ≤ (get_or own by.number no_area).0.start = own_far by.number no_area by.among in
       omega (arith, low, begins, by.from)
 
-  label_stays : (k : ℕ) (d : NewLabel) → k < length change.labels → with_batches batches base (get_or change.labels k d).disk (get_or change.labels k d).sector ≡ label_bytes (get_or change.labels k d)
+  label_stays : (k : ℕ) (d : NewLabel) → k < length change.labels
+      → with_batches batches base (get_or change.labels k d).disk (get_or change.labels k d).sector ≡ label_bytes (get_or change.labels k d)
   label_stays k d within =
       let label : NewLabel = get_or change.labels k d in
       let first : Image = with_batches (batch_if [] ++ batch_if label_puts) base in
@@ -155,7 +167,9 @@ module _ (state : GroupState) (is_state : IsState state) (change : Change) (grou
       ap (λ (i : Image). i label.disk label.sector) (batches_append (batch_if [] ++ batch_if label_puts) commit base)
       ∙ ⊎_elim
       (λ same. same ∙ there)
-      (λ by. absurd (near_kept label.disk label.sector (can k d within).sector_below (with_batches commit first label.disk label.sector) (commit_writes text own fits.committed.take own_rooms label.disk label.sector (with_batches commit first label.disk label.sector) by)))
+      (λ by. absurd (near_kept label.disk label.sector (can k d within).sector_below (with_batches commit first label.disk label.sector)
+          (commit_writes text own fits.committed.take own_rooms label.disk label.sector (with_batches commit first label.disk label.sector)
+          by)))
       (batches_or commit first label.disk label.sector)
 
   label_written : (pv sector : ℕ) (value : List ℕ) → IsWrittenBy label_puts pv sector value → WritesLabel pv sector value
@@ -187,14 +201,17 @@ module _ (state : GroupState) (is_state : IsState state) (change : Change) (grou
         (λ label.
         let w = label_where change.labels some_label pv sector (image pv sector) label in
         let others : Each (λ n. n ≢ pv) (disks_added makes.all) =
-        each_back (λ n. n ≢ pv) makes.first (disks_added makes.all) (subst (Each (λ n. n ≢ pv)) makes.disk_of_is (absent set.empty change.disk_of pv off).1)
+        each_back (λ n. n ≢ pv) makes.first (disks_added makes.all)
+            (subst (Each (λ n. n ≢ pv)) makes.disk_of_is (absent set.empty change.disk_of pv off).1)
         in
         let apart : All (λ (l : NewLabel). l.disk ≢ pv) change.labels =
-        subst (All (λ (l : NewLabel). l.disk ≢ pv)) (sym makes.labels_is) (All-map (λ (l : NewLabel). l.disk ≢ pv) label_of makes.all (added_apart pv makes.all others))
+        subst (All (λ (l : NewLabel). l.disk ≢ pv)) (sym makes.labels_is)
+            (All-map (λ (l : NewLabel). l.disk ≢ pv) label_of makes.all (added_apart pv makes.all others))
         in
         absurd (apart w.0 some_label w.1 w.2))
         (λ area.
-        let on : set.contains (set_of change.disk_of) (get_or own area.number no_area).0.pv ≡ true = filter_passes (lies_on (set_of change.disk_of)) state.areas area.number no_area area.among in
+        let on : set.contains (set_of change.disk_of) (get_or own area.number no_area).0.pv ≡ true =
+            filter_passes (lies_on (set_of change.disk_of)) state.areas area.number no_area area.among in
         absurd (true≢false (sym on ∙ ap (set.contains (set_of change.disk_of)) area.disk ∙ off)))
         (writes pv sector (image pv sector) by))
         (front_or batches base image pv sector h)
@@ -204,7 +221,8 @@ module _ (state : GroupState) (is_state : IsState state) (change : Change) (grou
         added_apart n (added ∷ more) apart = All-cons (λ (a : AddedPv). a.disk ≢ n) added more apart.0 (added_apart n more apart.1)
 
     -- a disk of the group, with its header
-    module _ (pv : ℕ) (disk : Disk) (there : slice_get state.disks pv ≡ Some disk) (label : ℕ) (header : PvHeader) (areas : List AreaFound) (is : disk.contents ≡ Some (Whole label header areas)) (low : label < 4) where
+    module _ (pv : ℕ) (disk : Disk) (there : slice_get state.disks pv ≡ Some disk) (label : ℕ) (header : PvHeader) (areas : List AreaFound)
+        (is : disk.contents ≡ Some (Whole label header areas)) (low : label < 4) where
       of_label : (sector : ℕ) (value : List ℕ) → (w : WritesLabel pv sector value) → (label ≡ sector) × (header ≡ w.on.1)
       of_label sector value w =
           let same : disk ≡ w.on.0 = same_Some disk w.on.0 (sym there ∙ ap (slice_get state.disks) (sym w.disk) ∙ w.on.2) in
@@ -233,11 +251,13 @@ module _ (state : GroupState) (is_state : IsState state) (change : Change) (grou
             (λ at.
             let w : WritesLabel pv label (image pv label) = label_written pv label (image pv label) at in
             let same : header ≡ w.on.1 = (of_label label (image pv label) w).1 in
-            let has : HasLabel (with_batches batches base) w.label = subst (HasLabel (with_batches batches base)) w.label_is (ends w.number some_label w.among) in
+            let has : HasLabel (with_batches batches base) w.label =
+                subst (HasLabel (with_batches batches base)) w.label_is (ends w.number some_label w.among) in
             inr (
               w.label.header,
               subst (λ (old : PvHeader). IsSameHeader old w.label.header) (sym same) w.on.4,
-              subst (λ (s : List ℕ). IsLabel s label) (sym w.is) (subst (λ (n : ℕ). IsLabel (label_bytes w.label) n) w.at (label_read w.label w.can_label)),
+              subst (λ (s : List ℕ). IsLabel s label) (sym w.is)
+                  (subst (λ (n : ℕ). IsLabel (label_bytes w.label) n) w.at (label_read w.label w.can_label)),
               subst (λ (s : List ℕ). IsPvHeader s w.label.header []) (w.stands ∙ sym w.is) has.header,
             ))
             (λ area. absurd (near_kept pv label low (image pv label) area))
@@ -249,17 +269,22 @@ module _ (state : GroupState) (is_state : IsState state) (change : Change) (grou
       headers k d within =
           let found : AreaFound = get_or areas k d in
           let sector : ℕ = found.area.offset / 512 in
-          let placed : All (IsPlaced areas) areas = subst (λ (c : Option PvFound). All (IsPlaced (areas_on c)) (areas_on c)) is (areas_placed pv disk.sectors disk.contents (is_state.disks pv disk there).contents) in
+          let placed : All (IsPlaced areas) areas =
+              subst (λ (c : Option PvFound). All (IsPlaced (areas_on c)) (areas_on c)) is
+                  (areas_placed pv disk.sectors disk.contents (is_state.disks pv disk there).contents) in
           ⊎_elim
           (λ same. inl same)
           (λ by.
           ⊎_elim
-          (λ at. let w : WritesLabel pv sector (image pv sector) = label_written pv sector (image pv sector) at in absurd (omega (arith, w.can_label.sector_below, w.at, (placed k d within).far)))
-          (λ area. inr (header_met state.disks is_state.disks text own own_held own_rooms pv disk there label header areas is k d within (image pv sector) area))
+          (λ at. let w : WritesLabel pv sector (image pv sector) = label_written pv sector (image pv sector) at in absurd
+              (omega (arith, w.can_label.sector_below, w.at, (placed k d within).far)))
+          (λ area. inr (header_met state.disks is_state.disks text own own_held own_rooms pv disk there label header areas is k d within
+              (image pv sector) area))
           (writes pv sector (image pv sector) by))
           (front_or batches base image pv sector h)
 
-      module _ (may : Bool) (kept : All (IsKeptOrMade text base image may) state.areas) (on_group : set.contains (set_of change.disk_of) pv ≡ true) where
+      module _ (may : Bool) (kept : All (IsKeptOrMade text base image may) state.areas)
+          (on_group : set.contains (set_of change.disk_of) pv ≡ true) where
         abbrev OnWay : Area × Option Locn → Type 0
         OnWay held = lies_on (set_of change.disk_of) held ≡ true → IsOnTheWay text base image may held
 
@@ -272,33 +297,43 @@ module _ (state : GroupState) (is_state : IsState state) (change : Change) (grou
         known : All (IsKnown text pv base image may (λ r. false)) areas
         known k d within = inl (
           λ held is_held.
-              let here : held.0.pv ≡ pv = ap (λ (a : Area). a.pv) (entry_kept (area_on pv (get_or areas k d).area) (get_or areas k d).entry held is_held) in
+              let here : held.0.pv ≡ pv =
+                  ap (λ (a : Area). a.pv) (entry_kept (area_on pv (get_or areas k d).area) (get_or areas k d).entry held is_held) in
               let all : All (λ found. (x : Area × Option Locn) → held_area (0 + pv) found ≡ Some x → OnWay x) areas =
-              subst (λ (c : Option PvFound). All (λ found. (x : Area × Option Locn) → held_area (0 + pv) found ≡ Some x → OnWay x) (areas_on c)) is
+              subst (λ (c : Option PvFound). All (λ found. (x : Area × Option Locn) → held_area (0 + pv) found ≡ Some x → OnWay x)
+                  (areas_on c)) is
               (of_held OnWay 0 state.disks (subst (All OnWay) is_state.areas ways) pv disk there)
               in
-              all k d within held (ap (λ (n : ℕ). held_area n (get_or areas k d)) (omega arith) ∙ is_held) (ap (set.contains (set_of change.disk_of)) here ∙ on_group),
+              all k d within held (ap (λ (n : ℕ). held_area n (get_or areas k d)) (omega arith) ∙ is_held)
+                  (ap (set.contains (set_of change.disk_of)) here ∙ on_group),
           headers k d within,
         )
 
     -- where the areas of a listed physical volume show what they showed, or the new text if it may
-    module _ (may : List ℕ → Bool) (passed : List (List ℕ)) (copy : IsCopyOf text group passed) (kept : (id : List ℕ) → lists group id ≡ true → All (IsKeptOrMade text base image (may id)) state.areas) where
+    module _ (may : List ℕ → Bool) (passed : List (List ℕ)) (copy : IsCopyOf text group passed)
+        (kept : (id : List ℕ) → lists group id ≡ true → All (IsKeptOrMade text base image (may id)) state.areas) where
       abbrev new : AreaReading
       new = Copy group text passed
 
-      disk_on : (pv : ℕ) (disk : Disk) (reading : Reading) → slice_get state.disks pv ≡ Some disk → IsDiskReading pv (base pv) disk reading → PvMayBeRefused (λ id r. false) reading.pv → set.contains (set_of change.disk_of) pv ≡ true
+      disk_on : (pv : ℕ) (disk : Disk) (reading : Reading) → slice_get state.disks pv ≡ Some disk → IsDiskReading pv (base pv) disk reading
+          → PvMayBeRefused (λ id r. false) reading.pv → set.contains (set_of change.disk_of) pv ≡ true
           → DiskAgain pv (image pv) may (λ id r. false) new disk reading
       disk_on pv disk reading there read given on =
           let listed : IsListedOn group state.disks pv = of_set (IsListedOn group state.disks) change.disk_of makes.listed pv on in
           let same : disk ≡ listed.disk = same_Some disk listed.disk (sym there ∙ listed.there) in
           let w = header_read disk.contents listed.header (ap (λ (x : Disk). header_on x.contents) same ∙ listed.is) in
           let stands = subst (λ (c : Option PvFound). ContentsCanStand pv disk.sectors c) w.2 (is_state.disks pv disk there).contents in
-          subst (λ (n : ℕ). DiskAgain pv (image pv) may (λ id r. false) new disk (record { sectors = n; pv = reading.pv })) (sym read.sectors_is)
-          (disk_again text group passed copy may (λ id r. false) pv base image disk.sectors disk.contents reading.pv read.contents read.pv_is given w.0 listed.header w.1 w.2
+          subst (λ (n : ℕ). DiskAgain pv (image pv) may (λ id r. false) new disk (record { sectors = n; pv = reading.pv }))
+              (sym read.sectors_is)
+          (disk_again text group passed copy may (λ id r. false) pv base image disk.sectors disk.contents reading.pv read.contents
+              read.pv_is given w.0 listed.header w.1 w.2
           (label_stands pv disk there w.0 listed.header w.1 w.2 stands.0)
-          (recursion_from_All (IsKnown text pv base image (may listed.header.id) (λ r. false)) w.1 (known pv disk there w.0 listed.header w.1 w.2 stands.0 (may listed.header.id) (kept listed.header.id listed.listed) on)))
+          (recursion_from_All (IsKnown text pv base image (may listed.header.id) (λ r. false)) w.1
+              (known pv disk there w.0 listed.header w.1 w.2 stands.0 (may listed.header.id) (kept listed.header.id listed.listed) on)))
 
-      pub each_reads : (pv : ℕ) (disk : Disk) (reading : Reading) → slice_get state.disks pv ≡ Some disk → IsDiskReading pv (base pv) disk reading → PvMayBeRefused (λ id r. false) reading.pv → DiskAgain pv (image pv) may (λ id r. false) new disk reading
+      pub each_reads : (pv : ℕ) (disk : Disk) (reading : Reading) → slice_get state.disks pv ≡ Some disk
+          → IsDiskReading pv (base pv) disk reading → PvMayBeRefused (λ id r. false) reading.pv
+          → DiskAgain pv (image pv) may (λ id r. false) new disk reading
       each_reads pv disk reading there read given =
           ⊎_elim
           (λ on. disk_on pv disk reading there read given on)
@@ -306,6 +341,10 @@ module _ (state : GroupState) (is_state : IsState state) (change : Change) (grou
           (cases_Bool (set.contains (set_of change.disk_of) pv))
 
     -- where each area shows what it showed, or the new text
-    pub each_again : (passed : List (List ℕ)) → IsCopyOf text group passed → All (IsKeptOrNew text base image) state.areas → (pv : ℕ) (disk : Disk) (reading : Reading) → slice_get state.disks pv ≡ Some disk → IsDiskReading pv (base pv) disk reading
-        → PvMayBeRefused (λ id r. false) reading.pv → DiskAgain pv (image pv) (lists group) (λ id r. false) (Copy group text passed) disk reading
-    each_again passed copy kept = each_reads (lists group) passed copy (λ id listed k d within. kept_or_made text base image (lists group id) listed (get_or state.areas k d) (kept k d within))
+    pub each_again : (passed : List (List ℕ)) → IsCopyOf text group passed → All (IsKeptOrNew text base image) state.areas
+        → (pv : ℕ) (disk : Disk) (reading : Reading) → slice_get state.disks pv ≡ Some disk → IsDiskReading pv (base pv) disk reading
+        → PvMayBeRefused (λ id r. false) reading.pv
+        → DiskAgain pv (image pv) (lists group) (λ id r. false) (Copy group text passed) disk reading
+    each_again passed copy kept =
+        each_reads (lists group) passed copy (λ id listed k d within. kept_or_made text base image (lists group id) listed
+            (get_or state.areas k d) (kept k d within))

@@ -5,7 +5,10 @@ use Rattle.std.specs.Option.{option_and_then}
 use Rattle.std.specs.List.{enumerate_from, flat_map, list_any}
 use Rattle.meta_model.specs.declared.group.Group.{Group}
 use Rattle.scan_rules.specs.declared.copy_refusal.CopyRefusal.{CopyRefusal}
-use Rattle.scan_rules.specs.Decision.{Conflict, DuplicatePv, FoundGroup, Held, NoCopy, NoGroup, PvShape, Reading, ScanAnswer, TwoGroups, Unsupported, best, conflict, copies, copies_from, decide_scan, duplicates, first_duplicate, first_misplaced, found, found_with, greater, ids_from, is_held, is_listed, is_something, misshapen, misshapen_by, no_copy, readings_in, refusals, refusals_from, same_bytes, sum_agrees, two_groups, unsupported}
+use Rattle.scan_rules.specs.Decision.{Conflict, DuplicatePv, FoundGroup, Held, NoCopy, NoGroup, PvShape, Reading, ScanAnswer, TwoGroups,
+    Unsupported, best, conflict, copies, copies_from, decide_scan, duplicates, first_duplicate, first_misplaced, found, found_with, greater,
+    ids_from, is_held, is_listed, is_something, misshapen, misshapen_by, no_copy, readings_in, refusals, refusals_from, same_bytes,
+    sum_agrees, two_groups, unsupported}
 use Rattle.scan_rules.specs.Found.{missing_of, stale_of}
 
 -- ---- the tests
@@ -44,24 +47,31 @@ no_copy_only (c ∷ cs) rs = tt
 
 unsupported_only : (cs : List Held) (rs : List (ℕ × CopyRefusal)) → OnlyRefuses (unsupported cs rs)
 unsupported_only [] rs = tt
-unsupported_only (c ∷ cs) rs = mapped (λ (r : ℕ × CopyRefusal). Unsupported r.0) (find (λ (r : ℕ × CopyRefusal). sum_agrees r.1) rs) (λ r. tt)
+unsupported_only (c ∷ cs) rs =
+    mapped (λ (r : ℕ × CopyRefusal). Unsupported r.0) (find (λ (r : ℕ × CopyRefusal). sum_agrees r.1) rs) (λ r. tt)
 
 two_groups_only : (cs : List Held) → OnlyRefuses (two_groups cs)
 two_groups_only [] = tt
-two_groups_only (c ∷ cs) = mapped (λ (d : Held). TwoGroups c.group.id d.group.id) (find (λ (d : Held). not (same_bytes d.group.id c.group.id)) cs) (λ d. tt)
+two_groups_only (c ∷ cs) =
+    mapped (λ (d : Held). TwoGroups c.group.id d.group.id) (find (λ (d : Held). not (same_bytes d.group.id c.group.id)) cs) (λ d. tt)
 
 conflict_only : (cs : List Held) → OnlyRefuses (conflict cs)
 conflict_only cs =
-    chained (λ (b : Held). option_map (λ (d : Held). Conflict b.disk d.disk b.group.seqno) (find (λ (d : Held). d.group.seqno == b.group.seqno && not (same_bytes d.text b.text)) cs)) (best cs) (λ b.
-    mapped (λ (d : Held). Conflict b.disk d.disk b.group.seqno) (find (λ (d : Held). d.group.seqno == b.group.seqno && not (same_bytes d.text b.text)) cs) (λ d. tt))
+    chained (λ (b : Held). option_map (λ (d : Held). Conflict b.disk d.disk b.group.seqno)
+        (find (λ (d : Held). d.group.seqno == b.group.seqno && not (same_bytes d.text b.text)) cs)) (best cs) (λ b.
+    mapped (λ (d : Held). Conflict b.disk d.disk b.group.seqno)
+        (find (λ (d : Held). d.group.seqno == b.group.seqno && not (same_bytes d.text b.text)) cs) (λ d. tt))
 
-shape_only : (misplaced : Option ℕ) (held : Bool) (disk : ℕ) → OnlyRefuses (unwrap_or (option_map (λ (d : ℕ). Some (PvShape d)) misplaced) (cond held None (Some (PvShape disk))))
+shape_only : (misplaced : Option ℕ) (held : Bool) (disk : ℕ)
+    → OnlyRefuses (unwrap_or (option_map (λ (d : ℕ). Some (PvShape d)) misplaced) (cond held None (Some (PvShape disk))))
 shape_only None true disk = tt
 shape_only None false disk = tt
 shape_only (Some d) held disk = tt
 
 misshapen_only : (cs : List Held) (disks : List Reading) → OnlyRefuses (misshapen cs disks)
-misshapen_only cs disks = chained (λ (b : Held). misshapen_by b disks) (best cs) (λ b. shape_only (first_misplaced b.group disks) (is_held b.group b.text disks) b.disk)
+misshapen_only cs disks =
+    chained (λ (b : Held). misshapen_by b disks) (best cs)
+        (λ b. shape_only (first_misplaced b.group disks) (is_held b.group b.text disks) b.disk)
 
 -- each test before the answer was passed
 pub record Passes (disks : List Reading) (answer : ScanAnswer) : Type 0 where
@@ -83,12 +93,15 @@ passes disks answer nothing is =
     let f3 : ScanAnswer = unwrap_or (two_groups cs) f2 in
     let f4 : ScanAnswer = unwrap_or (unsupported cs rs) f3 in
     let f5 : ScanAnswer = unwrap_or (no_copy cs rs) f4 in
-    let a : (duplicates disks ≡ None) × (f5 ≡ answer) = past (duplicates disks) f5 answer (mapped (λ (pair : ℕ × ℕ). DuplicatePv pair.0 pair.1) (first_duplicate (ids_from 0 disks)) (λ pair. tt)) nothing is in
+    let a : (duplicates disks ≡ None) × (f5 ≡ answer) =
+        past (duplicates disks) f5 answer (mapped (λ (pair : ℕ × ℕ). DuplicatePv pair.0 pair.1) (first_duplicate (ids_from 0 disks))
+            (λ pair. tt)) nothing is in
     let b : (no_copy cs rs ≡ None) × (f4 ≡ answer) = past (no_copy cs rs) f4 answer (no_copy_only cs rs) nothing a.1 in
     let c : (unsupported cs rs ≡ None) × (f3 ≡ answer) = past (unsupported cs rs) f3 answer (unsupported_only cs rs) nothing b.1 in
     let d : (two_groups cs ≡ None) × (f2 ≡ answer) = past (two_groups cs) f2 answer (two_groups_only cs) nothing c.1 in
     let e : (conflict cs ≡ None) × (f1 ≡ answer) = past (conflict cs) f1 answer (conflict_only cs) nothing d.1 in
-    let f : (misshapen cs disks ≡ None) × (found cs disks ≡ answer) = past (misshapen cs disks) (found cs disks) answer (misshapen_only cs disks) nothing e.1 in
+    let f : (misshapen cs disks ≡ None) × (found cs disks ≡ answer) =
+        past (misshapen cs disks) (found cs disks) answer (misshapen_only cs disks) nothing e.1 in
     record { apart = a.0; copy = b.0; supported = c.0; one_group = d.0; agree = e.0; shape = f.0; is = f.1 }
 
 -- ---- a group that was found
@@ -112,10 +125,13 @@ missing_of_answer _ = []
 
 -- the disks that hold something of a group that doesn't list them
 abbrev pub strays_in : Group → List Reading → List ℕ
-strays_in group disks = filter_map (λ (d : ℕ × Reading). cond (not (is_listed group d.1) && list_any is_something (readings_in d.1)) (Some d.0) None) (enumerate_from 0 disks)
+strays_in group disks =
+    filter_map (λ (d : ℕ × Reading). cond (not (is_listed group d.1) && list_any is_something (readings_in d.1)) (Some d.0) None)
+        (enumerate_from 0 disks)
 
 -- what is known of a group that was found
-pub record IsFoundWith (disks : List Reading) (held : Held) (stale : List (ℕ × ℕ)) (strays : List ℕ) (missing : List (List ℕ)) : Type 0 where
+pub record IsFoundWith (disks : List Reading) (held : Held) (stale : List (ℕ × ℕ)) (strays : List ℕ) (missing : List (List ℕ)) : Type 0
+    where
   pub apart : first_duplicate (ids_from 0 disks) ≡ None
   pub best_is : best (copies disks) ≡ Some held
   pub placed : first_misplaced held.group disks ≡ None
@@ -128,23 +144,28 @@ no_pair : (o : Option (ℕ × ℕ)) → option_map (λ (pair : ℕ × ℕ). Dupl
 no_pair None is = refl
 no_pair (Some pair) is = absurd cc
 
-well_by : (o : Option ℕ) (held : Bool) (disk : ℕ) → unwrap_or (option_map (λ (d : ℕ). Some (PvShape d)) o) (cond held None (Some (PvShape disk))) ≡ None → (o ≡ None) × (held ≡ true)
+well_by : (o : Option ℕ) (held : Bool) (disk : ℕ)
+    → unwrap_or (option_map (λ (d : ℕ). Some (PvShape d)) o) (cond held None (Some (PvShape disk))) ≡ None → (o ≡ None) × (held ≡ true)
 well_by None true disk is = (refl, refl)
 well_by None false disk is = absurd cc
 well_by (Some d) held disk is = absurd cc
 
-best_found : (disks : List Reading) (o : Option Held) (answer : ScanAnswer) (held : Held) → unwrap_or (option_map (found_with disks) o) NoGroup ≡ answer → held_in answer ≡ Some held → o ≡ Some held
+best_found : (disks : List Reading) (o : Option Held) (answer : ScanAnswer) (held : Held)
+    → unwrap_or (option_map (found_with disks) o) NoGroup ≡ answer → held_in answer ≡ Some held → o ≡ Some held
 best_found disks None answer held is has = absurd (let none : ◌≡◌ {A = Option Held} None (Some held) = ap held_in is ∙ has in cc)
 best_found disks (Some b) answer held is has = ap held_in is ∙ has
 
-pub found_parts : (disks : List Reading) (held : Held) (stale : List (ℕ × ℕ)) (strays : List ℕ) (missing : List (List ℕ)) → decide_scan disks ≡ FoundGroup held stale strays missing → IsFoundWith disks held stale strays missing
+pub found_parts : (disks : List Reading) (held : Held) (stale : List (ℕ × ℕ)) (strays : List ℕ) (missing : List (List ℕ))
+    → decide_scan disks ≡ FoundGroup held stale strays missing → IsFoundWith disks held stale strays missing
 found_parts disks held stale strays missing is =
     let answer : ScanAnswer = FoundGroup held stale strays missing in
     let p : Passes disks answer = passes disks answer (λ nothing. nothing) is in
     let b : best (copies disks) ≡ Some held = best_found disks (best (copies disks)) answer held p.is refl in
-    let shape : misshapen_by held disks ≡ None = sym (ap (λ (o : Option Held). option_and_then (λ (x : Held). misshapen_by x disks) o) b) ∙ p.shape in
+    let shape : misshapen_by held disks ≡ None =
+        sym (ap (λ (o : Option Held). option_and_then (λ (x : Held). misshapen_by x disks) o) b) ∙ p.shape in
     let well = well_by (first_misplaced held.group disks) (is_held held.group held.text disks) held.disk shape in
-    let with : found_with disks held ≡ answer = sym (ap (λ (o : Option Held). unwrap_or (option_map (found_with disks) o) NoGroup) b) ∙ p.is in
+    let with : found_with disks held ≡ answer =
+        sym (ap (λ (o : Option Held). unwrap_or (option_map (found_with disks) o) NoGroup) b) ∙ p.is in
     record {
       apart = no_pair (first_duplicate (ids_from 0 disks)) p.apart;
       best_is = b;
@@ -188,7 +209,8 @@ nothing_found disks h =
     let tests : Option (ℕ × ℕ) → List Held → List (ℕ × CopyRefusal) → ScanAnswer =
     λ pair cs rs.
     unwrap_or (option_map (λ (p : ℕ × ℕ). DuplicatePv p.0 p.1) pair)
-    (unwrap_or (no_copy cs rs) (unwrap_or (unsupported cs rs) (unwrap_or (two_groups cs) (unwrap_or (conflict cs) (unwrap_or (misshapen cs disks) (found cs disks)))))) in
+    (unwrap_or (no_copy cs rs) (unwrap_or (unsupported cs rs)
+        (unwrap_or (two_groups cs) (unwrap_or (conflict cs) (unwrap_or (misshapen cs disks) (found cs disks)))))) in
     ap (λ (o : Option (ℕ × ℕ)). tests o (copies_from 0 disks) (refusals_from 0 disks)) h.apart
     ∙ ap (λ (cs : List Held). tests None cs (refusals_from 0 disks)) h.no_copies
     ∙ ap (λ (rs : List (ℕ × CopyRefusal)). tests None [] rs) h.no_refusals

@@ -1,5 +1,6 @@
 -- One disk on the way of a commit: what stands there, and that it reads again but for areas that give the new text.
-use Rattle.std.proofs.Common.{◌≡◌, ◌<◌, ◌⊎◌, ℕ, zero, suc, ◌+◌, ◌*◌, Bool, cond, List, [], ◌∷◌, map, Option, Some, None, inl, inr, ⊎_elim, refl, sym, ap, subst, ◌∙◌, arith}
+use Rattle.std.proofs.Common.{◌≡◌, ◌<◌, ◌⊎◌, ℕ, zero, suc, ◌+◌, ◌*◌, Bool, cond, List, [], ◌∷◌, map, Option, Some, None, inl, inr, ⊎_elim,
+    refl, sym, ap, subst, ◌∙◌, arith}
 use Rattle.std.specs.Prelude.{slice_get}
 use Rattle.std.specs.FinSet as set
 use Rattle.std.specs.List.{AllByRecursion as Each}
@@ -31,7 +32,8 @@ use Rattle.image_scans.proofs.Labels.{IsSameHeader, header_again, label_again, o
 -- ---- its areas
 
 -- areas in their order
-record AreasReadAgain (pv : ℕ) (sector_at : ℕ → List ℕ) (new : AreaReading) (may : Bool) (bare : AreaReading → Bool) (founds : List AreaFound) (before : List AreaOf) : Type 0 where
+record AreasReadAgain (pv : ℕ) (sector_at : ℕ → List ℕ) (new : AreaReading) (may : Bool) (bare : AreaReading → Bool)
+    (founds : List AreaFound) (before : List AreaOf) : Type 0 where
   found : List AreaFound
   areas : List AreaOf
   same : map (λ (f : AreaFound). f.area) found ≡ map (λ (f : AreaFound). f.area) founds
@@ -39,15 +41,20 @@ record AreasReadAgain (pv : ℕ) (sector_at : ℕ → List ℕ) (new : AreaReadi
   reads : AreAreaReadings pv sector_at found areas
   again : AreasAgain new may bare before areas
 
-areas_again : (text : List ℕ) (group : Group) (passed : List (List ℕ)) → IsCopyOf text group passed → (may : Bool) (bare : AreaReading → Bool) (pv : ℕ) (base image : Image) (founds : List AreaFound) (before : List AreaOf)
-    → AreAreaReadings pv (base pv) founds before → Each (IsAreaFound (base pv)) founds → AreasGive (MayBeRefused bare) before → Each (IsKnown text pv base image may bare) founds
+areas_again : (text : List ℕ) (group : Group) (passed : List (List ℕ)) → IsCopyOf text group passed
+    → (may : Bool) (bare : AreaReading → Bool) (pv : ℕ) (base image : Image) (founds : List AreaFound) (before : List AreaOf)
+    → AreAreaReadings pv (base pv) founds before → Each (IsAreaFound (base pv)) founds → AreasGive (MayBeRefused bare) before
+    → Each (IsKnown text pv base image may bare) founds
     → AreasReadAgain pv (image pv) (Copy group text passed) may bare founds before
-areas_again text group passed copy may bare pv base image [] [] reads is given known = record { found = []; areas = []; same = refl; is = tt; reads = tt; again = tt }
+areas_again text group passed copy may bare pv base image [] [] reads is given known =
+    record { found = []; areas = []; same = refl; is = tt; reads = tt; again = tt }
 areas_again text group passed copy may bare pv base image [] (area ∷ before) reads is given known = absurd reads
 areas_again text group passed copy may bare pv base image (found ∷ founds) [] reads is given known = absurd reads
 areas_again text group passed copy may bare pv base image (found ∷ founds) (area ∷ before) reads is given known =
-    let one : ReadsAgain pv (image pv) found.area (Copy group text passed) may bare area = area_again text group passed copy may bare pv base image found area is.0 reads.0 given.0 known.0 in
-    let later : AreasReadAgain pv (image pv) (Copy group text passed) may bare founds before = areas_again text group passed copy may bare pv base image founds before reads.1 is.1 given.1 known.1 in
+    let one : ReadsAgain pv (image pv) found.area (Copy group text passed) may bare area =
+        area_again text group passed copy may bare pv base image found area is.0 reads.0 given.0 known.0 in
+    let later : AreasReadAgain pv (image pv) (Copy group text passed) may bare founds before =
+        areas_again text group passed copy may bare pv base image founds before reads.1 is.1 given.1 known.1 in
     record {
       found = one.found ∷ later.found;
       areas = one.area ∷ later.areas;
@@ -60,7 +67,8 @@ areas_again text group passed copy may bare pv base image (found ∷ founds) (ar
 -- ---- the disk
 
 -- a disk in an image, as it is found and reads there, beside what it was and how it read
-pub record DiskAgain (pv : ℕ) (sector_at : ℕ → List ℕ) (may : List ℕ → Bool) (bare : List ℕ → AreaReading → Bool) (new : AreaReading) (disk : Disk) (reading : Reading) : Type 0 where
+pub record DiskAgain (pv : ℕ) (sector_at : ℕ → List ℕ) (may : List ℕ → Bool) (bare : List ℕ → AreaReading → Bool) (new : AreaReading)
+    (disk : Disk) (reading : Reading) : Type 0 where
   pub there : Disk
   pub read : Reading
   pub sectors_is : there.sectors ≡ disk.sectors
@@ -85,7 +93,8 @@ pv_same may bare new None = tt
 pv_same may bare new (Some pv) = (refl, areas_same new (may pv.id) (bare pv.id) pv.areas)
 
 -- a disk with the same sectors
-pub disk_same : (pv : ℕ) (old new_at : ℕ → List ℕ) (may : List ℕ → Bool) (bare : List ℕ → AreaReading → Bool) (new : AreaReading) (disk : Disk) (reading : Reading) → ((sector : ℕ) → new_at sector ≡ old sector) → IsDiskReading pv old disk reading
+pub disk_same : (pv : ℕ) (old new_at : ℕ → List ℕ) (may : List ℕ → Bool) (bare : List ℕ → AreaReading → Bool) (new : AreaReading)
+    (disk : Disk) (reading : Reading) → ((sector : ℕ) → new_at sector ≡ old sector) → IsDiskReading pv old disk reading
     → DiskAgain pv new_at may bare new disk reading
 disk_same pv old new_at may bare new disk reading same is = record {
   there = disk;
@@ -103,22 +112,27 @@ disk_same pv old new_at may bare new disk reading same is = record {
 -- its label's sector is as it was, or has a label and header with the same id and areas; and no sector before it differs
 pub record LabelStands (old new_at : ℕ → List ℕ) (label : ℕ) (header : PvHeader) : Type 0 where
   pub before : (k : ℕ) → k < label → new_at k ≡ old k
-  pub is : (new_at label ≡ old label) ⊎ ((made : PvHeader) × IsSameHeader header made × IsLabel (new_at label) label × IsPvHeader (new_at label) made [])
+  pub is : (new_at label ≡ old label) ⊎ ((made : PvHeader) × IsSameHeader header made × IsLabel (new_at label) label
+      × IsPvHeader (new_at label) made [])
 
-module _ (text : List ℕ) (group : Group) (passed : List (List ℕ)) (copy : IsCopyOf text group passed) (may : List ℕ → Bool) (bare : List ℕ → AreaReading → Bool) (pv : ℕ) (base image : Image) (sectors label : ℕ) (header : PvHeader) (areas : List AreaFound)
+module _ (text : List ℕ) (group : Group) (passed : List (List ℕ)) (copy : IsCopyOf text group passed) (may : List ℕ → Bool)
+    (bare : List ℕ → AreaReading → Bool) (pv : ℕ) (base image : Image) (sectors label : ℕ) (header : PvHeader) (areas : List AreaFound)
     (found : IsFound (base pv) sectors (Whole label header areas)) (stands : LabelStands (base pv) (image pv) label header) where
   abbrev new : AreaReading
   new = Copy group text passed
 
   -- the header in the image, and what is read there
-  there : (pv_header : PvHeader) × IsSameHeader header pv_header × ((founds : List AreaFound) → AreAreasFound (image pv) header.areas founds → IsFound (image pv) sectors (Whole label pv_header founds))
+  there : (pv_header : PvHeader) × IsSameHeader header pv_header
+      × ((founds : List AreaFound) → AreAreasFound (image pv) header.areas founds
+      → IsFound (image pv) sectors (Whole label pv_header founds))
   there =
       ⊎_elim
       (λ same. (
         header,
         record { id = refl; held = refl; areas = refl },
         λ founds are. (
-          label_again (base pv) (image pv) label stands.before (subst (λ (s : List ℕ). IsLabel s label) (sym same) (own_label found.0)) found.0,
+          label_again (base pv) (image pv) label stands.before (subst (λ (s : List ℕ). IsLabel s label) (sym same) (own_label found.0))
+              found.0,
           subst (λ (s : List ℕ). Reads s (sectors * 512) header) (sym same) found.1,
           are,
         ),
@@ -137,13 +151,18 @@ module _ (text : List ℕ) (group : Group) (passed : List (List ℕ)) (copy : Is
       own_label : IsFirstLabel (first_four (base pv)) label → IsLabel (base pv label) label
       own_label first = subst (λ (s : List ℕ). IsLabel s label) (of_four (base pv) label first.among) first.label
 
-  module _ (own : PvOf) (id_is : own.id ≡ header.id) (reads : AreAreaReadings pv (base pv) areas own.areas) (given : AreasGive (MayBeRefused (bare own.id)) own.areas) (known : Each (IsKnown text pv base image (may own.id) (bare own.id)) areas) where
-    whole_again : DiskAgain pv (image pv) may bare new (record { sectors = sectors; contents = Some (Whole label header areas) }) (record { sectors = sectors; pv = Some own })
+  module _ (own : PvOf) (id_is : own.id ≡ header.id) (reads : AreAreaReadings pv (base pv) areas own.areas)
+      (given : AreasGive (MayBeRefused (bare own.id)) own.areas)
+      (known : Each (IsKnown text pv base image (may own.id) (bare own.id)) areas) where
+    whole_again : DiskAgain pv (image pv) may bare new (record { sectors = sectors; contents = Some (Whole label header areas) })
+        (record { sectors = sectors; pv = Some own })
     whole_again =
         let list : AreasReadAgain pv (image pv) new (may own.id) (bare own.id) areas own.areas =
-        areas_again text group passed copy (may own.id) (bare own.id) pv base image areas own.areas reads (recursion_from_All (IsAreaFound (base pv)) areas found.2.each) given known
+        areas_again text group passed copy (may own.id) (bare own.id) pv base image areas own.areas reads
+            (recursion_from_All (IsAreaFound (base pv)) areas found.2.each) given known
         in
-        let are : AreAreasFound (image pv) header.areas list.found = record { in_order = list.same ∙ found.2.in_order; each = All-from_recursion (IsAreaFound (image pv)) list.found list.is } in
+        let are : AreAreasFound (image pv) header.areas list.found =
+            record { in_order = list.same ∙ found.2.in_order; each = All-from_recursion (IsAreaFound (image pv)) list.found list.is } in
         let at = there in
         record {
           there = record { sectors = sectors; contents = Some (Whole label at.0 list.found) };
@@ -169,19 +188,28 @@ none_refused bare None all = tt
 none_refused bare (Some own) all = areas_weaker NotRefused (MayBeRefused (bare own.id)) (λ r is. inr is) own.areas all
 
 -- a disk with a header
-pub disk_again : (text : List ℕ) (group : Group) (passed : List (List ℕ)) → IsCopyOf text group passed → (may : List ℕ → Bool) (bare : List ℕ → AreaReading → Bool) (pv : ℕ) (base image : Image) (sectors : ℕ) (contents : Option PvFound) (read : Option PvOf)
-    → IsContents (base pv) sectors contents → IsPvReading pv (base pv) contents read → PvMayBeRefused bare read → (label : ℕ) (header : PvHeader) (areas : List AreaFound) → contents ≡ Some (Whole label header areas)
+pub disk_again : (text : List ℕ) (group : Group) (passed : List (List ℕ)) → IsCopyOf text group passed
+    → (may : List ℕ → Bool) (bare : List ℕ → AreaReading → Bool) (pv : ℕ) (base image : Image) (sectors : ℕ) (contents : Option PvFound)
+    (read : Option PvOf)
+    → IsContents (base pv) sectors contents → IsPvReading pv (base pv) contents read → PvMayBeRefused bare read
+    → (label : ℕ) (header : PvHeader) (areas : List AreaFound) → contents ≡ Some (Whole label header areas)
     → LabelStands (base pv) (image pv) label header → Each (IsKnown text pv base image (may header.id) (bare header.id)) areas
-    → DiskAgain pv (image pv) may bare (Copy group text passed) (record { sectors = sectors; contents = contents }) (record { sectors = sectors; pv = read })
+    → DiskAgain pv (image pv) may bare (Copy group text passed) (record { sectors = sectors; contents = contents })
+    (record { sectors = sectors; pv = read })
 disk_again text group passed copy may bare pv base image sectors contents read found reads given label header areas is stands known =
-    subst (λ (c : Option PvFound). DiskAgain pv (image pv) may bare (Copy group text passed) (record { sectors = sectors; contents = c }) (record { sectors = sectors; pv = read })) (sym is)
-    (by read (subst (λ (c : Option PvFound). IsContents (base pv) sectors c) is found) (subst (λ (c : Option PvFound). IsPvReading pv (base pv) c read) is reads) given)
+    subst (λ (c : Option PvFound). DiskAgain pv (image pv) may bare (Copy group text passed) (record { sectors = sectors; contents = c })
+        (record { sectors = sectors; pv = read })) (sym is)
+    (by read (subst (λ (c : Option PvFound). IsContents (base pv) sectors c) is found)
+        (subst (λ (c : Option PvFound). IsPvReading pv (base pv) c read) is reads) given)
   where
-    by : (o : Option PvOf) → IsFound (base pv) sectors (Whole label header areas) → IsPvReading pv (base pv) (Some (Whole label header areas)) o → PvMayBeRefused bare o
-        → DiskAgain pv (image pv) may bare (Copy group text passed) (record { sectors = sectors; contents = Some (Whole label header areas) }) (record { sectors = sectors; pv = o })
+    by : (o : Option PvOf) → IsFound (base pv) sectors (Whole label header areas)
+        → IsPvReading pv (base pv) (Some (Whole label header areas)) o → PvMayBeRefused bare o
+        → DiskAgain pv (image pv) may bare (Copy group text passed)
+        (record { sectors = sectors; contents = Some (Whole label header areas) }) (record { sectors = sectors; pv = o })
     by None f r g = absurd r
     by (Some own) f r g =
-        whole_again text group passed copy may bare pv base image sectors label header areas f stands own r.0 r.1 g (subst (λ (id : List ℕ). Each (IsKnown text pv base image (may id) (bare id)) areas) (sym r.0) known)
+        whole_again text group passed copy may bare pv base image sectors label header areas f stands own r.0 r.1 g
+            (subst (λ (id : List ℕ). Each (IsKnown text pv base image (may id) (bare id)) areas) (sym r.0) known)
 
 -- ---- all disks
 
@@ -195,7 +223,8 @@ pub record IsThereAt (image : Image) (first k : ℕ) (disk : Disk) (there : List
   pub own_ids : (id : List ℕ) → has_header_id id own ≡ has_header_id id disk
   pub own_areas : map (λ (f : AreaFound). f.area) (areas_on own.contents) ≡ map (λ (f : AreaFound). f.area) (areas_on disk.contents)
 
-pub record AllAgain (image : Image) (unread : set.FinSet nat_cmp) (first : ℕ) (may : List ℕ → Bool) (bare : List ℕ → AreaReading → Bool) (new : AreaReading) (disks : List Disk) (readings : List Reading) : Type 0 where
+pub record AllAgain (image : Image) (unread : set.FinSet nat_cmp) (first : ℕ) (may : List ℕ → Bool) (bare : List ℕ → AreaReading → Bool)
+    (new : AreaReading) (disks : List Disk) (readings : List Reading) : Type 0 where
   pub there : List Disk
   pub read : List Reading
   pub sizes_is : map (λ (d : Disk). d.sectors) there ≡ map (λ (d : Disk). d.sectors) disks
@@ -207,21 +236,27 @@ pub record AllAgain (image : Image) (unread : set.FinSet nat_cmp) (first : ℕ) 
 -- each of the disks from this number on
 abbrev pub EachAgain : Image → Image → (List ℕ → Bool) → (List ℕ → AreaReading → Bool) → AreaReading → ℕ → List Disk → List Reading → Type 0
 EachAgain base image may bare new first disks readings =
-    (k : ℕ) (disk : Disk) (reading : Reading) → slice_get disks k ≡ Some disk → slice_get readings k ≡ Some reading → IsDiskReading (first + k) (base (first + k)) disk reading
+    (k : ℕ) (disk : Disk) (reading : Reading) → slice_get disks k ≡ Some disk → slice_get readings k ≡ Some reading
+        → IsDiskReading (first + k) (base (first + k)) disk reading
     → DiskAgain (first + k) (image (first + k)) may bare new disk reading
 
-pub all_again : (base image : Image) (unread : set.FinSet nat_cmp) (first : ℕ) (may : List ℕ → Bool) (bare : List ℕ → AreaReading → Bool) (new : AreaReading) (disks : List Disk) (readings : List Reading) → AreDiskReadings base unread first disks readings
+pub all_again : (base image : Image) (unread : set.FinSet nat_cmp) (first : ℕ) (may : List ℕ → Bool) (bare : List ℕ → AreaReading → Bool)
+    (new : AreaReading) (disks : List Disk) (readings : List Reading) → AreDiskReadings base unread first disks readings
     → EachAgain base image may bare new first disks readings → AllAgain image unread first may bare new disks readings
-all_again base image unread first may bare new [] [] are each = record { there = []; read = []; sizes_is = refl; are = tt; again = tt; ids = λ id. refl; at = λ k disk there. absurd cc }
+all_again base image unread first may bare new [] [] are each =
+    record { there = []; read = []; sizes_is = refl; are = tt; again = tt; ids = λ id. refl; at = λ k disk there. absurd cc }
 all_again base image unread first may bare new [] (reading ∷ readings) are each = absurd are
 all_again base image unread first may bare new (disk ∷ disks) [] are each = absurd are
 all_again base image unread first may bare new (disk ∷ disks) (reading ∷ readings) are each =
-    let own : IsDiskReading (first + 0) (base (first + 0)) disk reading = subst (λ (n : ℕ). IsDiskReading n (base n) disk reading) (omega arith) are.1 in
-    let one : DiskAgain first (image first) may bare new disk reading = subst (λ (n : ℕ). DiskAgain n (image n) may bare new disk reading) (omega arith) (each 0 disk reading refl refl own) in
+    let own : IsDiskReading (first + 0) (base (first + 0)) disk reading =
+        subst (λ (n : ℕ). IsDiskReading n (base n) disk reading) (omega arith) are.1 in
+    let one : DiskAgain first (image first) may bare new disk reading =
+        subst (λ (n : ℕ). DiskAgain n (image n) may bare new disk reading) (omega arith) (each 0 disk reading refl refl own) in
     let later : AllAgain image unread (first + 1) may bare new disks readings =
     all_again base image unread (first + 1) may bare new disks readings are.2
     (λ k d r at_disk at_reading is.
-    subst (λ (n : ℕ). DiskAgain n (image n) may bare new d r) (omega arith) (each (suc k) d r at_disk at_reading (subst (λ (n : ℕ). IsDiskReading n (base n) d r) (omega arith) is)))
+    subst (λ (n : ℕ). DiskAgain n (image n) may bare new d r) (omega arith)
+        (each (suc k) d r at_disk at_reading (subst (λ (n : ℕ). IsDiskReading n (base n) d r) (omega arith) is)))
     in
     record {
       there = one.there ∷ later.there;
@@ -233,7 +268,8 @@ all_again base image unread first may bare new (disk ∷ disks) (reading ∷ rea
       at = here_or_later one later;
     }
   where
-    here_or_later : (one : DiskAgain first (image first) may bare new disk reading) (later : AllAgain image unread (first + 1) may bare new disks readings) (k : ℕ) (d : Disk) → slice_get (disk ∷ disks) k ≡ Some d
+    here_or_later : (one : DiskAgain first (image first) may bare new disk reading)
+        (later : AllAgain image unread (first + 1) may bare new disks readings) (k : ℕ) (d : Disk) → slice_get (disk ∷ disks) k ≡ Some d
         → IsThereAt image first k d (one.there ∷ later.there) (one.read ∷ later.read)
     here_or_later one later zero d there =
         subst (λ (x : Disk). IsThereAt image first 0 x (one.there ∷ later.there) (one.read ∷ later.read)) (same_Some disk d there)

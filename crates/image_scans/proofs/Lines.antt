@@ -1,12 +1,14 @@
 -- What a line makes: a version of the group, a new physical volume, or nothing.
-use Rattle.std.proofs.Common.{◌≡◌, ◌≤◌, ◌<◌, ℕ, ◌^◌, ◌||◌, nat_lt, true, false, List, [], ◌∷◌, Option, Some, None, refl, sym, ap, subst, ◌∙◌}
+use Rattle.std.proofs.Common.{◌≡◌, ◌≤◌, ◌<◌, ℕ, ◌^◌, ◌||◌, nat_lt, true, false, List, [], ◌∷◌, Option, Some, None, refl, sym, ap, subst,
+    ◌∙◌}
 use Rattle.std.specs.Prelude.{IsSomeAnd, is_some, slice_get, unwrap_or}
 use Rattle.std.specs.Option.{option_map_or}
 use Rattle.std.proofs.lemmas.Bool.{ltb-false}
 use Rattle.std.proofs.lemmas.Option.{same_Some}
 use Rattle.command_table.specs.Options.{number_named}
 use Rattle.command_table.specs.declared.command.Command.{Command}
-use Rattle.command_table.specs.declared.command.Command.TheVariants.{Lvcreate, Lvextend, Lvreduce, Lvremove, Lvrename, Pvcreate, Vgcfgrestore, Vgcreate, Vgextend, Vgreduce, Vgremove, Vgrename}
+use Rattle.command_table.specs.declared.command.Command.TheVariants.{Lvcreate, Lvextend, Lvreduce, Lvremove, Lvrename, Pvcreate,
+    Vgcfgrestore, Vgcreate, Vgextend, Vgreduce, Vgremove, Vgrename}
 use Rattle.line_answers.specs.declared.op_refusal.OpRefusal.{OpRefusal}
 use Rattle.line_answers.specs.declared.op_refusal.OpRefusal.TheVariants.{IdTaken, PvUsed, TooSmall, UnknownGroup, UnknownPv}
 use Rattle.lvm_script.specs.declared.line.Line.{Line}
@@ -68,12 +70,15 @@ abbrev rows_by : GroupState → List ℕ → List ℕ → Option ℕ → List (O
 rows_by state id name None = Some (UnknownPv name) ∷ []
 rows_by state id name (Some number) = disk_rows state id name number (slice_get state.disks number)
 
-on_disk : (found : Found) (state : GroupState) (id name : List ℕ) (copies number : ℕ) (o : Option Disk) → slice_get state.disks number ≡ o → first_refusal (disk_rows state id name number o) ≡ None → (change : Change) → change.group ≡ None
+on_disk : (found : Found) (state : GroupState) (id name : List ℕ) (copies number : ℕ) (o : Option Disk) → slice_get state.disks number ≡ o
+    → first_refusal (disk_rows state id name number o) ≡ None → (change : Change) → change.group ≡ None
     → change.labels ≡ option_map_or (λ disk. new_label id copies number disk ∷ []) o [] → LineMakes found state change
 on_disk found state id name copies number None there none change group labels = makes_nothing group labels
 on_disk found state id name copies number (Some disk) there none change group labels =
     let rows = none_holds (disk_rows state id name number (Some disk)) none in
-    let ids = both_false (group_has id state.group) (stands_on_disk id state.disks) (test_fails (group_has id state.group || stands_on_disk id state.disks) (IdTaken id) rows.1.1.0) in
+    let ids =
+        both_false (group_has id state.group) (stands_on_disk id state.disks)
+            (test_fails (group_has id state.group || stands_on_disk id state.disks) (IdTaken id) rows.1.1.0) in
     makes_pv (record {
       none = group;
       number = number;
@@ -83,33 +88,51 @@ on_disk found state id name copies number (Some disk) there none change group la
       copies = copies;
       labels_is = labels;
       unlisted = test_fails (is_listed state number) (PvUsed name) rows.0;
-      enough = ltb-false disk.sectors fewest_sectors (test_fails (nat_lt disk.sectors fewest_sectors) (TooSmall disk.sectors fewest_sectors) rows.1.0);
+      enough =
+          ltb-false disk.sectors fewest_sectors (test_fails (nat_lt disk.sectors fewest_sectors) (TooSmall disk.sectors fewest_sectors)
+              rows.1.0);
       not_in_group = ids.0;
       on_no_disk = ids.1;
     })
 
-by_name : (found : Found) (state : GroupState) (id name : List ℕ) (copies : ℕ) (o : Option ℕ) → first_refusal (rows_by state id name o) ≡ None → (change : Change) → change.group ≡ None
-    → change.labels ≡ option_map_or (λ number. option_map_or (λ disk. new_label id copies number disk ∷ []) (slice_get state.disks number) []) o [] → LineMakes found state change
+by_name : (found : Found) (state : GroupState) (id name : List ℕ) (copies : ℕ) (o : Option ℕ)
+    → first_refusal (rows_by state id name o) ≡ None → (change : Change) → change.group ≡ None
+    → change.labels ≡ option_map_or (λ number. option_map_or (λ disk. new_label id copies number disk ∷ []) (slice_get state.disks number)
+    []) o [] → LineMakes found state change
 by_name found state id name copies None none change group labels = absurd cc
-by_name found state id name copies (Some number) none change group labels = on_disk found state id name copies number (slice_get state.disks number) refl none change group labels
+by_name found state id name copies (Some number) none change group labels =
+    on_disk found state id name copies number (slice_get state.disks number) refl none change group labels
 
 -- ---- any line
 
-extend_line : (found : Found) (names : List (List ℕ)) (backup : Option Backup) → HasShape found → IsWhole found → IsState (state_in found names backup) → (readings : List Reading) → IsSettledScan readings found → (vg : List ℕ) (pvs : List (List ℕ)) (now : ℕ) (o : Option Group)
-    → found.group ≡ o → first_refusal (option_map_or (found_rows (state_in found names backup) vg pvs now) o (Some (UnknownGroup vg) ∷ [])) ≡ None
+extend_line : (found : Found) (names : List (List ℕ)) (backup : Option Backup) → HasShape found → IsWhole found
+    → IsState (state_in found names backup) → (readings : List Reading) → IsSettledScan readings found
+    → (vg : List ℕ) (pvs : List (List ℕ)) (now : ℕ) (o : Option Group)
+    → found.group ≡ o → first_refusal (option_map_or (found_rows (state_in found names backup) vg pvs now) o (Some (UnknownGroup vg) ∷ []))
+    ≡ None
     → LineMakes found (state_in found names backup) (extend_by (state_in found names backup) o pvs)
 extend_line found names backup shape whole is readings scan vg pvs now None there none = absurd cc
-extend_line found names backup shape whole is readings scan vg pvs now (Some group) there none = makes_version (vgextend_commits found names backup shape whole is readings scan vg pvs now group there none)
+extend_line found names backup shape whole is readings scan vg pvs now (Some group) there none =
+    makes_version (vgextend_commits found names backup shape whole is readings scan vg pvs now group there none)
 
-next_line : (found : Found) (names : List (List ℕ)) (backup : Option Backup) → HasShape found → IsWhole found → IsState (state_in found names backup) → (readings : List Reading) → IsSettledScan readings found → (number : ℕ) (id : Option (List ℕ)) (command : Command) (now : ℕ) (given : List Part) → now < 2 ^ 48
-    → IsPlanned id command → is_next command ≡ true → Takes (asks_of (state_in found names backup) (record { number = number; id = id; command = command })) given → refusal_of (state_in found names backup) (record { number = number; id = id; command = command }) now given ≡ None
-    → LineMakes found (state_in found names backup) (change_of (state_in found names backup) (record { number = number; id = id; command = command }) now given)
+next_line : (found : Found) (names : List (List ℕ)) (backup : Option Backup) → HasShape found → IsWhole found
+    → IsState (state_in found names backup) → (readings : List Reading) → IsSettledScan readings found
+    → (number : ℕ) (id : Option (List ℕ)) (command : Command) (now : ℕ) (given : List Part) → now < 2 ^ 48
+    → IsPlanned id command → is_next command ≡ true
+    → Takes (asks_of (state_in found names backup) (record { number = number; id = id; command = command })) given
+    → refusal_of (state_in found names backup) (record { number = number; id = id; command = command }) now given ≡ None
+    → LineMakes found (state_in found names backup)
+    (change_of (state_in found names backup) (record { number = number; id = id; command = command }) now given)
 next_line found names backup shape whole is readings scan number id command now given time planned next takes none =
     makes_version
-    (next_commits found names backup shape whole is readings scan (change_of (state_in found names backup) (record { number = number; id = id; command = command }) now given) now time (commits_next (state_in found names backup) number id command now given planned next takes none))
+    (next_commits found names backup shape whole is readings scan
+        (change_of (state_in found names backup) (record { number = number; id = id; command = command }) now given) now time
+        (commits_next (state_in found names backup) number id command now given planned next takes none))
 
-restore_line : (found : Found) (names : List (List ℕ)) (backup : Option Backup) → IsState (state_in found names backup) → (readings : List Reading) → IsSettledScan readings found → (vg text : List ℕ) (now : ℕ) (o : Option Backup) → backup ≡ o
-    → IsSomeAnd o (IsBackup text) → first_refusal (vgcfgrestore_rows (state_in found names backup) vg now) ≡ None → Commits found (state_in found names backup) (vgcfgrestore_change (state_in found names backup))
+restore_line : (found : Found) (names : List (List ℕ)) (backup : Option Backup) → IsState (state_in found names backup)
+    → (readings : List Reading) → IsSettledScan readings found → (vg text : List ℕ) (now : ℕ) (o : Option Backup) → backup ≡ o
+    → IsSomeAnd o (IsBackup text) → first_refusal (vgcfgrestore_rows (state_in found names backup) vg now) ≡ None
+    → Commits found (state_in found names backup) (vgcfgrestore_change (state_in found names backup))
 restore_line found names backup is readings scan vg text now None same known none = absurd known
 restore_line found names backup is readings scan vg text now (Some b) same known none =
     let state : GroupState = state_in found names backup in
@@ -117,26 +140,46 @@ restore_line found names backup is readings scan vg text now (Some b) same known
     let sound = sound_tree text made.said (subst (IsBackup text) (same_Some b (Sound made.said) (sym same ∙ made.gives)) known) in
     restores_commits found state is refl readings scan (vgcfgrestore_change state) now made sound.0 sound.1
 
-by_command : (found : Found) (names : List (List ℕ)) (backup : Option Backup) → HasShape found → IsWhole found → IsState (state_in found names backup) → (readings : List Reading) → IsSettledScan readings found → (number : ℕ) (id : Option (List ℕ)) (command : Command) (now : ℕ) (given : List Part) → now < 2 ^ 48
-    → IsPlanned id command → IsBackupOf command backup → Takes (asks_of (state_in found names backup) (record { number = number; id = id; command = command })) given → refusal_of (state_in found names backup) (record { number = number; id = id; command = command }) now given ≡ None
-    → LineMakes found (state_in found names backup) (change_of (state_in found names backup) (record { number = number; id = id; command = command }) now given)
+by_command : (found : Found) (names : List (List ℕ)) (backup : Option Backup) → HasShape found → IsWhole found
+    → IsState (state_in found names backup) → (readings : List Reading) → IsSettledScan readings found
+    → (number : ℕ) (id : Option (List ℕ)) (command : Command) (now : ℕ) (given : List Part) → now < 2 ^ 48
+    → IsPlanned id command → IsBackupOf command backup
+    → Takes (asks_of (state_in found names backup) (record { number = number; id = id; command = command })) given
+    → refusal_of (state_in found names backup) (record { number = number; id = id; command = command }) now given ≡ None
+    → LineMakes found (state_in found names backup)
+    (change_of (state_in found names backup) (record { number = number; id = id; command = command }) now given)
 by_command found names backup shape whole is readings scan number id (Pvcreate pv copies) now given time planned known takes none =
-    by_name found (state_in found names backup) (unwrap_or id []) pv copies (number_named names pv) none (pvcreate_change (state_in found names backup) (unwrap_or id []) pv copies) refl refl
-by_command found names backup shape whole is readings scan number id (Vgcreate vg extent_size pvs) now given time planned known takes none = makes_version (vgcreate_commits found names backup is id vg extent_size pvs now planned none)
-by_command found names backup shape whole is readings scan number id (Vgextend vg pvs) now given time planned known takes none = extend_line found names backup shape whole is readings scan vg pvs now found.group refl none
+    by_name found (state_in found names backup) (unwrap_or id []) pv copies (number_named names pv) none
+        (pvcreate_change (state_in found names backup) (unwrap_or id []) pv copies) refl refl
+by_command found names backup shape whole is readings scan number id (Vgcreate vg extent_size pvs) now given time planned known takes none =
+    makes_version (vgcreate_commits found names backup is id vg extent_size pvs now planned none)
+by_command found names backup shape whole is readings scan number id (Vgextend vg pvs) now given time planned known takes none =
+    extend_line found names backup shape whole is readings scan vg pvs now found.group refl none
 by_command found names backup shape whole is readings scan number id (Vgreduce vg pv) now given time planned known takes none =
-    makes_version (leaves_commits found names backup shape whole is readings scan (vgreduce_change (state_in found names backup) pv) now (leaves_next (state_in found names backup) vg pv now none))
-by_command found names backup shape whole is readings scan number id (Vgremove vg) now given time planned known takes none = makes_nothing refl refl
+    makes_version (leaves_commits found names backup shape whole is readings scan (vgreduce_change (state_in found names backup) pv) now
+        (leaves_next (state_in found names backup) vg pv now none))
+by_command found names backup shape whole is readings scan number id (Vgremove vg) now given time planned known takes none =
+    makes_nothing refl refl
 by_command found names backup shape whole is readings scan number id (Vgcfgrestore vg text) now given time planned known takes none =
     makes_version (restore_line found names backup is readings scan vg text now backup refl known none)
-by_command found names backup shape whole is readings scan number id (Vgrename vg new) now given time planned known takes none = next_line found names backup shape whole is readings scan number id (Vgrename vg new) now given time planned refl takes none
-by_command found names backup shape whole is readings scan number id (Lvcreate new) now given time planned known takes none = next_line found names backup shape whole is readings scan number id (Lvcreate new) now given time planned refl takes none
-by_command found names backup shape whole is readings scan number id (Lvextend path growth pvs) now given time planned known takes none = next_line found names backup shape whole is readings scan number id (Lvextend path growth pvs) now given time planned refl takes none
-by_command found names backup shape whole is readings scan number id (Lvreduce path amount) now given time planned known takes none = next_line found names backup shape whole is readings scan number id (Lvreduce path amount) now given time planned refl takes none
-by_command found names backup shape whole is readings scan number id (Lvremove path) now given time planned known takes none = next_line found names backup shape whole is readings scan number id (Lvremove path) now given time planned refl takes none
-by_command found names backup shape whole is readings scan number id (Lvrename vg old new) now given time planned known takes none = next_line found names backup shape whole is readings scan number id (Lvrename vg old new) now given time planned refl takes none
+by_command found names backup shape whole is readings scan number id (Vgrename vg new) now given time planned known takes none =
+    next_line found names backup shape whole is readings scan number id (Vgrename vg new) now given time planned refl takes none
+by_command found names backup shape whole is readings scan number id (Lvcreate new) now given time planned known takes none =
+    next_line found names backup shape whole is readings scan number id (Lvcreate new) now given time planned refl takes none
+by_command found names backup shape whole is readings scan number id (Lvextend path growth pvs) now given time planned known takes none =
+    next_line found names backup shape whole is readings scan number id (Lvextend path growth pvs) now given time planned refl takes none
+by_command found names backup shape whole is readings scan number id (Lvreduce path amount) now given time planned known takes none =
+    next_line found names backup shape whole is readings scan number id (Lvreduce path amount) now given time planned refl takes none
+by_command found names backup shape whole is readings scan number id (Lvremove path) now given time planned known takes none =
+    next_line found names backup shape whole is readings scan number id (Lvremove path) now given time planned refl takes none
+by_command found names backup shape whole is readings scan number id (Lvrename vg old new) now given time planned known takes none =
+    next_line found names backup shape whole is readings scan number id (Lvrename vg old new) now given time planned refl takes none
 by_command found names backup shape whole is readings scan number id command now given time planned known takes none = absurd planned
 
-pub line_makes : (base : Image) (sizes : List ℕ) (found : Found) (names : List (List ℕ)) (backup : Option Backup) (line : Line) (now : ℕ) (given : List Part) → CanCarryOut base sizes found names backup line now given → LineMakes found (state_in found names backup) (change_of (state_in found names backup) line now given)
+pub line_makes : (base : Image) (sizes : List ℕ) (found : Found) (names : List (List ℕ)) (backup : Option Backup) (line : Line) (now : ℕ)
+    (given : List Part) → CanCarryOut base sizes found names backup line now given
+    → LineMakes found (state_in found names backup) (change_of (state_in found names backup) line now given)
 line_makes base sizes found names backup line now given p =
-    by_command found names backup p.shape p.whole (is_state base sizes found names backup line now given p) p.scan.readings (settled base sizes found names backup line now given p) line.number line.id line.command now given p.time p.planned p.given_back p.takes p.passes
+    by_command found names backup p.shape p.whole (is_state base sizes found names backup line now given p) p.scan.readings
+        (settled base sizes found names backup line now given p) line.number line.id line.command now given p.time p.planned p.given_back
+        p.takes p.passes

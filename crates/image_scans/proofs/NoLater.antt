@@ -1,5 +1,6 @@
 -- Where a group was found, no area gives anything later.
-use Rattle.std.proofs.Common.{◌≡◌, ◌≤◌, ◌<◌, ℕ, ◌+◌, Bool, true, false, not, ◌&&◌, cond, nat_le, List, [], ◌∷◌, ◌++◌, Option, Some, None, inl, inr, ⊎_elim, refl, sym, ap, subst, ◌∙◌, arith}
+use Rattle.std.proofs.Common.{◌≡◌, ◌≤◌, ◌<◌, ℕ, ◌+◌, Bool, true, false, not, ◌&&◌, cond, nat_le, List, [], ◌∷◌, ◌++◌, Option, Some, None,
+    inl, inr, ⊎_elim, refl, sym, ap, subst, ◌∙◌, arith}
 use Rattle.std.specs.Prelude.{filter_map, find, option_map, unwrap_or, ◌==◌}
 use Rattle.std.specs.Option.{option_and_then}
 use Rattle.std.specs.List.{AllByRecursion, cons_option}
@@ -7,7 +8,9 @@ use Rattle.std.proofs.lemmas.Bool.{cases_lt, eq-eqb, le-leb, leb-true, true≢fa
 use Rattle.std.proofs.lemmas.Option.{same_Some}
 use Rattle.meta_model.specs.declared.group.Group.{Group}
 use Rattle.scan_rules.specs.declared.copy_refusal.CopyRefusal.{CopyRefusal}
-use Rattle.scan_rules.specs.Decision.{Area, AreaReading, Conflict, Copy, Found, FoundGroup, GivesNoLater, Held, HoldsNone, Reading, Refused, TwoGroups, Unsupported, best, conflict, copies, copies_from, copy_of, decide_scan, greater, readings_in, refusal_of, refusals, refusals_from, same_bytes, sum_agrees, two_groups, unsupported}
+use Rattle.scan_rules.specs.Decision.{Area, AreaReading, Conflict, Copy, Found, FoundGroup, GivesNoLater, Held, HoldsNone, Reading, Refused,
+    TwoGroups, Unsupported, best, conflict, copies, copies_from, copy_of, decide_scan, greater, readings_in, refusal_of, refusals,
+    refusals_from, same_bytes, sum_agrees, two_groups, unsupported}
 use Rattle.scan_rules.proofs.Scanning.{same_bytes_tells}
 use Rattle.vg_scan.specs.Texts.{IsCopyOf}
 use Rattle.image_scans.proofs.Decided.{IsFoundWith, Passes, found_parts, passes}
@@ -16,7 +19,8 @@ use Rattle.image_scans.proofs.SettledBase.{IsItsCopy, one_copy}
 
 -- ---- lists
 
-find_parts : {X : Type 0} (test : X → Bool) (x : X) (b : Bool) (rest : Option X) → test x ≡ b → cond b (Some x) rest ≡ None → (test x ≡ false) × (rest ≡ None)
+find_parts : {X : Type 0} (test : X → Bool) (x : X) (b : Bool) (rest : Option X) → test x ≡ b → cond b (Some x) rest ≡ None
+    → (test x ≡ false) × (rest ≡ None)
 find_parts test x true rest is none = absurd cc
 find_parts test x false rest is none = (is, none)
 
@@ -42,28 +46,37 @@ all_parts : {X : Type 0} (P : X → Type 0) (xs ys : List X) → AllByRecursion 
 all_parts P [] ys all = (tt, all)
 all_parts P (x ∷ xs) ys all = let later = all_parts P xs ys all.1 in ((all.0, later.0), later.1)
 
-module _ {Y : Type 0} (f : ℕ → AreaReading → Option Y) (P : Y → Type 0) (Q : AreaReading → Type 0) (each : (disk : ℕ) (r : AreaReading) (rest : List Y) → AllByRecursion P (cons_option (f disk r) rest) → Q r × AllByRecursion P rest) where
-  given_from : (disk : ℕ) (o : Option AreaReading) (rest : List AreaReading) → AllByRecursion P (filter_map (f disk) (cons_option o rest)) → GivenHas Q o × AllByRecursion P (filter_map (f disk) rest)
+module _ {Y : Type 0} (f : ℕ → AreaReading → Option Y) (P : Y → Type 0) (Q : AreaReading → Type 0)
+    (each : (disk : ℕ) (r : AreaReading) (rest : List Y) → AllByRecursion P (cons_option (f disk r) rest) → Q r × AllByRecursion P rest)
+    where
+  given_from : (disk : ℕ) (o : Option AreaReading) (rest : List AreaReading) → AllByRecursion P (filter_map (f disk) (cons_option o rest))
+      → GivenHas Q o × AllByRecursion P (filter_map (f disk) rest)
   given_from disk None rest all = (tt, all)
   given_from disk (Some r) rest all = each disk r (filter_map (f disk) rest) all
 
-  areas_from : (disk : ℕ) (areas : List Area) → AllByRecursion P (filter_map (f disk) (filter_map (λ (area : Area). area.reading) areas)) → AreasGive Q areas
+  areas_from : (disk : ℕ) (areas : List Area) → AllByRecursion P (filter_map (f disk) (filter_map (λ (area : Area). area.reading) areas))
+      → AreasGive Q areas
   areas_from disk [] all = tt
-  areas_from disk (area ∷ areas) all = let parts = given_from disk area.reading (filter_map (λ (a : Area). a.reading) areas) all in (parts.0, areas_from disk areas parts.1)
+  areas_from disk (area ∷ areas) all =
+      let parts = given_from disk area.reading (filter_map (λ (a : Area). a.reading) areas) all in (parts.0, areas_from disk areas parts.1)
 
-  pv_from : (disk : ℕ) (pv : Option Found) → AllByRecursion P (filter_map (f disk) (unwrap_or (option_map (λ (p : Found). filter_map (λ (area : Area). area.reading) p.areas) pv) [])) → PvGives Q pv
+  pv_from : (disk : ℕ) (pv : Option Found)
+      → AllByRecursion P (filter_map (f disk) (unwrap_or (option_map (λ (p : Found). filter_map (λ (area : Area). area.reading) p.areas) pv)
+      [])) → PvGives Q pv
   pv_from disk None all = tt
   pv_from disk (Some pv) all = areas_from disk pv.areas all
 
 abbrev HeldHas : (Group → List ℕ → List (List ℕ) → Type 0) → Held → Type 0
 HeldHas P held = P held.group held.text held.passed
 
-one_copied : (P : Group → List ℕ → List (List ℕ) → Type 0) (disk : ℕ) (r : AreaReading) (rest : List Held) → AllByRecursion (HeldHas P) (cons_option (copy_of disk r) rest) → CopyHas P r × AllByRecursion (HeldHas P) rest
+one_copied : (P : Group → List ℕ → List (List ℕ) → Type 0) (disk : ℕ) (r : AreaReading) (rest : List Held)
+    → AllByRecursion (HeldHas P) (cons_option (copy_of disk r) rest) → CopyHas P r × AllByRecursion (HeldHas P) rest
 one_copied P disk HoldsNone rest all = (tt, all)
 one_copied P disk (Copy group text passed) rest all = all
 one_copied P disk (Refused why) rest all = (tt, all)
 
-copied_from : (P : Group → List ℕ → List (List ℕ) → Type 0) (first : ℕ) (disks : List Reading) → AllByRecursion (HeldHas P) (copies_from first disks) → DisksGive (λ disk. CopyHas P) disks
+copied_from : (P : Group → List ℕ → List (List ℕ) → Type 0) (first : ℕ) (disks : List Reading)
+    → AllByRecursion (HeldHas P) (copies_from first disks) → DisksGive (λ disk. CopyHas P) disks
 copied_from P first [] all = tt
 copied_from P first (disk ∷ disks) all =
     let parts = all_parts (HeldHas P) (filter_map (copy_of first) (readings_in disk)) (copies_from (first + 1) disks) all in
@@ -78,12 +91,14 @@ RefusesPlainly HoldsNone = Unit {0}
 RefusesPlainly (Copy group text passed) = Unit {0}
 RefusesPlainly (Refused why) = sum_agrees why ≡ false
 
-one_refused : (disk : ℕ) (r : AreaReading) (rest : List (ℕ × CopyRefusal)) → AllByRecursion IsPlainRefusal (cons_option (refusal_of disk r) rest) → RefusesPlainly r × AllByRecursion IsPlainRefusal rest
+one_refused : (disk : ℕ) (r : AreaReading) (rest : List (ℕ × CopyRefusal))
+    → AllByRecursion IsPlainRefusal (cons_option (refusal_of disk r) rest) → RefusesPlainly r × AllByRecursion IsPlainRefusal rest
 one_refused disk HoldsNone rest all = (tt, all)
 one_refused disk (Copy group text passed) rest all = (tt, all)
 one_refused disk (Refused why) rest all = all
 
-refused_from : (first : ℕ) (disks : List Reading) → AllByRecursion IsPlainRefusal (refusals_from first disks) → DisksGive (λ disk. RefusesPlainly) disks
+refused_from : (first : ℕ) (disks : List Reading) → AllByRecursion IsPlainRefusal (refusals_from first disks)
+    → DisksGive (λ disk. RefusesPlainly) disks
 refused_from first [] all = tt
 refused_from first (disk ∷ disks) all =
     let parts = all_parts IsPlainRefusal (filter_map (refusal_of first) (readings_in disk)) (refusals_from (first + 1) disks) all in
@@ -98,10 +113,12 @@ greatest : (cs : List Held) (b : Held) → best cs ≡ Some b → AllByRecursion
 greatest [] b is = absurd cc
 greatest (c ∷ cs) b is = step (best cs) refl (λ d at. greatest cs d at) is
   where
-    below : (d : Held) → AllByRecursion (IsAtMost d.group.seqno) cs → d.group.seqno ≤ b.group.seqno → AllByRecursion (IsAtMost b.group.seqno) cs
+    below : (d : Held) → AllByRecursion (IsAtMost d.group.seqno) cs → d.group.seqno ≤ b.group.seqno
+        → AllByRecursion (IsAtMost b.group.seqno) cs
     below d all le = all_weaker (IsAtMost d.group.seqno) (IsAtMost b.group.seqno) (λ x less. omega (arith, less, le)) cs all
 
-    pick : (d : Held) (t : Bool) → nat_le d.group.seqno c.group.seqno ≡ t → AllByRecursion (IsAtMost d.group.seqno) cs → Some (cond t c d) ≡ Some b → AllByRecursion (IsAtMost b.group.seqno) (c ∷ cs)
+    pick : (d : Held) (t : Bool) → nat_le d.group.seqno c.group.seqno ≡ t → AllByRecursion (IsAtMost d.group.seqno) cs
+        → Some (cond t c d) ≡ Some b → AllByRecursion (IsAtMost b.group.seqno) (c ∷ cs)
     pick d true test all is' =
         let same : c.group.seqno ≡ b.group.seqno = ap (λ (h : Held). h.group.seqno) (same_Some c b is') in
         let le : d.group.seqno ≤ c.group.seqno = leb-true d.group.seqno c.group.seqno test in
@@ -118,8 +135,11 @@ greatest (c ∷ cs) b is = step (best cs) refl (λ d at. greatest cs d at) is
     none_left [] is' = tt
     none_left (d ∷ ds) is' = absurd cc
 
-    step : (o : Option Held) → best cs ≡ o → ((d : Held) → best cs ≡ Some d → AllByRecursion (IsAtMost d.group.seqno) cs) → Some (greater c o) ≡ Some b → AllByRecursion (IsAtMost b.group.seqno) (c ∷ cs)
-    step None at below' is' = let same : c.group.seqno ≡ b.group.seqno = ap (λ (h : Held). h.group.seqno) (same_Some c b is') in (omega (arith, same), none_left cs at)
+    step : (o : Option Held) → best cs ≡ o → ((d : Held) → best cs ≡ Some d → AllByRecursion (IsAtMost d.group.seqno) cs)
+        → Some (greater c o) ≡ Some b → AllByRecursion (IsAtMost b.group.seqno) (c ∷ cs)
+    step None at below' is' =
+        let same : c.group.seqno ≡ b.group.seqno = ap (λ (h : Held). h.group.seqno)
+            (same_Some c b is') in (omega (arith, same), none_left cs at)
     step (Some d) at below' is' = pick d (nat_le d.group.seqno c.group.seqno) refl (below' d at) is'
 
 -- ---- the tests
@@ -127,28 +147,41 @@ greatest (c ∷ cs) b is = step (best cs) refl (λ d at. greatest cs d at) is
 one_id : (cs : List Held) → two_groups cs ≡ None → (id : List ℕ) × AllByRecursion (λ (c : Held). c.group.id ≡ id) cs
 one_id [] none = ([], tt)
 one_id (c ∷ cs) none =
-    let each = find_each (λ (d : Held). not (same_bytes d.group.id c.group.id)) cs (no_map (λ (d : Held). TwoGroups c.group.id d.group.id) (find (λ (d : Held). not (same_bytes d.group.id c.group.id)) cs) none) in
-    (c.group.id, (refl, all_weaker (λ (d : Held). not (same_bytes d.group.id c.group.id) ≡ false) (λ (d : Held). d.group.id ≡ c.group.id) (λ d no_other. same_bytes_tells d.group.id c.group.id (not_false (same_bytes d.group.id c.group.id) no_other)) cs each))
+    let each =
+        find_each (λ (d : Held). not (same_bytes d.group.id c.group.id)) cs
+            (no_map (λ (d : Held). TwoGroups c.group.id d.group.id) (find (λ (d : Held). not (same_bytes d.group.id c.group.id)) cs)
+            none) in
+    (c.group.id, (refl, all_weaker (λ (d : Held). not (same_bytes d.group.id c.group.id) ≡ false) (λ (d : Held). d.group.id ≡ c.group.id)
+        (λ d no_other. same_bytes_tells d.group.id c.group.id (not_false (same_bytes d.group.id c.group.id) no_other)) cs each))
   where
     not_false : (b : Bool) → not b ≡ false → b ≡ true
     not_false true is = refl
     not_false false is = absurd (true≢false is)
 
-no_other_text : (cs : List Held) (b : Held) → best cs ≡ Some b → conflict cs ≡ None → AllByRecursion (λ (d : Held). (d.group.seqno == b.group.seqno && not (same_bytes d.text b.text)) ≡ false) cs
+no_other_text : (cs : List Held) (b : Held) → best cs ≡ Some b → conflict cs ≡ None
+    → AllByRecursion (λ (d : Held). (d.group.seqno == b.group.seqno && not (same_bytes d.text b.text)) ≡ false) cs
 no_other_text cs b is none =
     find_each (λ (d : Held). d.group.seqno == b.group.seqno && not (same_bytes d.text b.text)) cs
-    (no_map (λ (d : Held). Conflict b.disk d.disk b.group.seqno) (find (λ (d : Held). d.group.seqno == b.group.seqno && not (same_bytes d.text b.text)) cs)
-    (sym (ap (λ (o : Option Held). option_and_then (λ (x : Held). option_map (λ (d : Held). Conflict x.disk d.disk x.group.seqno) (find (λ (d : Held). d.group.seqno == x.group.seqno && not (same_bytes d.text x.text)) cs)) o) is) ∙ none))
+    (no_map (λ (d : Held). Conflict b.disk d.disk b.group.seqno)
+        (find (λ (d : Held). d.group.seqno == b.group.seqno && not (same_bytes d.text b.text)) cs)
+    (sym (ap (λ (o : Option Held). option_and_then
+        (λ (x : Held). option_map (λ (d : Held). Conflict x.disk d.disk x.group.seqno)
+        (find (λ (d : Held). d.group.seqno == x.group.seqno && not (same_bytes d.text x.text)) cs)) o) is) ∙ none))
 
-plain_refusals : (cs : List Held) (rs : List (ℕ × CopyRefusal)) (b : Held) → best cs ≡ Some b → unsupported cs rs ≡ None → AllByRecursion IsPlainRefusal rs
+plain_refusals : (cs : List Held) (rs : List (ℕ × CopyRefusal)) (b : Held) → best cs ≡ Some b → unsupported cs rs ≡ None
+    → AllByRecursion IsPlainRefusal rs
 plain_refusals [] rs b is none = absurd cc
-plain_refusals (c ∷ cs) rs b is none = find_each (λ (r : ℕ × CopyRefusal). sum_agrees r.1) rs (no_map (λ (r : ℕ × CopyRefusal). Unsupported r.0) (find (λ (r : ℕ × CopyRefusal). sum_agrees r.1) rs) none)
+plain_refusals (c ∷ cs) rs b is none =
+    find_each (λ (r : ℕ × CopyRefusal). sum_agrees r.1) rs
+        (no_map (λ (r : ℕ × CopyRefusal). Unsupported r.0) (find (λ (r : ℕ × CopyRefusal). sum_agrees r.1) rs) none)
 
 -- what is known of each copy
 abbrev IsEarlier : List ℕ → Held → Group → List ℕ → List (List ℕ) → Type 0
-IsEarlier id b group text passed = (group.id ≡ id) × ((group.seqno ≤ b.group.seqno) × ((group.seqno == b.group.seqno && not (same_bytes text b.text)) ≡ false))
+IsEarlier id b group text passed =
+    (group.id ≡ id) × ((group.seqno ≤ b.group.seqno) × ((group.seqno == b.group.seqno && not (same_bytes text b.text)) ≡ false))
 
-no_later : (id : List ℕ) (b : Held) → b.group.id ≡ id → IsCopyOf b.text b.group b.passed → (r : AreaReading) → CopyHas (IsEarlier id b) r × (CopyHas IsItsCopy r × RefusesPlainly r) → GivesNoLater b.group b.text r
+no_later : (id : List ℕ) (b : Held) → b.group.id ≡ id → IsCopyOf b.text b.group b.passed → (r : AreaReading)
+    → CopyHas (IsEarlier id b) r × (CopyHas IsItsCopy r × RefusesPlainly r) → GivesNoLater b.group b.text r
 no_later id b own copy HoldsNone is = tt
 no_later id b own copy (Refused why) is = is.1.1
 no_later id b own copy (Copy group text passed) is = (
@@ -157,13 +190,16 @@ no_later id b own copy (Copy group text passed) is = (
       (λ (less : group.seqno < b.group.seqno). inr (
         less,
         λ same.
-            let one : group ≡ b.group = one_copy b.text group b.group passed b.passed (subst (λ (t : List ℕ). IsCopyOf t group passed) same is.1.0) copy in
+            let one : group ≡ b.group =
+                one_copy b.text group b.group passed b.passed (subst (λ (t : List ℕ). IsCopyOf t group passed) same is.1.0) copy in
             let e : group.seqno ≡ b.group.seqno = ap (λ (g : Group). g.seqno) one in omega (arith, less, e),
       ))
       (λ (reached : b.group.seqno ≤ group.seqno).
       let most : group.seqno ≤ b.group.seqno = is.0.1.0 in
       let e : group.seqno ≡ b.group.seqno = omega (arith, reached, most) in
-      let same : text ≡ b.text = same_bytes_tells text b.text (agrees (group.seqno == b.group.seqno) (same_bytes text b.text) (eq-eqb group.seqno b.group.seqno e) is.0.1.1) in
+      let same : text ≡ b.text =
+          same_bytes_tells text b.text (agrees (group.seqno == b.group.seqno) (same_bytes text b.text) (eq-eqb group.seqno b.group.seqno e)
+              is.0.1.1) in
       inl (one_copy b.text group b.group passed b.passed (subst (λ (t : List ℕ). IsCopyOf t group passed) same is.1.0) copy, same))
       (cases_lt group.seqno b.group.seqno),
 )
@@ -174,22 +210,30 @@ no_later id b own copy (Copy group text passed) is = (
     agrees false y is' none = absurd (true≢false (sym is'))
 
 -- so it is of all areas
-pub none_later_given : (readings : List Reading) (held : Held) (stale : List (ℕ × ℕ)) (strays : List ℕ) (missing : List (List ℕ)) → decide_scan readings ≡ FoundGroup held stale strays missing
+pub none_later_given : (readings : List Reading) (held : Held) (stale : List (ℕ × ℕ)) (strays : List ℕ) (missing : List (List ℕ))
+    → decide_scan readings ≡ FoundGroup held stale strays missing
     → DisksGive (λ disk. CopyHas IsItsCopy) readings → DisksGive (λ disk. GivesNoLater held.group held.text) readings
 unfolding copies refusals
 none_later_given readings held stale strays missing is are =
     let parts : IsFoundWith readings held stale strays missing = found_parts readings held stale strays missing is in
-    let p : Passes readings (FoundGroup held stale strays missing) = passes readings (FoundGroup held stale strays missing) (λ nothing. nothing) is in
+    let p : Passes readings (FoundGroup held stale strays missing) =
+        passes readings (FoundGroup held stale strays missing) (λ nothing. nothing) is in
     let cs : List Held = copies_from 0 readings in
     let ids = one_id cs p.one_group in
     let id : List ℕ = ids.0 in
     let all : AllByRecursion (HeldHas (IsEarlier id held)) cs =
-    all_both (λ (c : Held). c.group.id ≡ id) (λ (c : Held). (c.group.seqno ≤ held.group.seqno) × ((c.group.seqno == held.group.seqno && not (same_bytes c.text held.text)) ≡ false)) cs ids.1
-    (all_both (IsAtMost held.group.seqno) (λ (c : Held). (c.group.seqno == held.group.seqno && not (same_bytes c.text held.text)) ≡ false) cs (greatest cs held parts.best_is) (no_other_text cs held parts.best_is p.agree))
+    all_both (λ (c : Held). c.group.id ≡ id)
+        (λ (c : Held). (c.group.seqno ≤ held.group.seqno)
+        × ((c.group.seqno == held.group.seqno && not (same_bytes c.text held.text)) ≡ false)) cs ids.1
+    (all_both (IsAtMost held.group.seqno) (λ (c : Held). (c.group.seqno == held.group.seqno && not (same_bytes c.text held.text)) ≡ false)
+        cs (greatest cs held parts.best_is) (no_other_text cs held parts.best_is p.agree))
     in
     let given : DisksGive (λ disk. CopyHas (IsEarlier id held)) readings = copied_from (IsEarlier id held) 0 readings all in
     let own : held.group.id ≡ id = (best_copy_has (IsEarlier id held) readings given held parts.best_is).0 in
     let copy : IsCopyOf held.text held.group held.passed = best_copy_has IsItsCopy readings are held parts.best_is in
-    let refused : DisksGive (λ disk. RefusesPlainly) readings = refused_from 0 readings (plain_refusals cs (refusals_from 0 readings) held parts.best_is p.supported) in
-    disks_weaker (λ disk r. CopyHas (IsEarlier id held) r × (CopyHas IsItsCopy r × RefusesPlainly r)) (λ disk. GivesNoLater held.group held.text) (λ disk. no_later id held own copy) readings
-    (disks_both (λ disk. CopyHas (IsEarlier id held)) (λ disk r. CopyHas IsItsCopy r × RefusesPlainly r) readings given (disks_both (λ disk. CopyHas IsItsCopy) (λ disk. RefusesPlainly) readings are refused))
+    let refused : DisksGive (λ disk. RefusesPlainly) readings =
+        refused_from 0 readings (plain_refusals cs (refusals_from 0 readings) held parts.best_is p.supported) in
+    disks_weaker (λ disk r. CopyHas (IsEarlier id held) r × (CopyHas IsItsCopy r × RefusesPlainly r))
+        (λ disk. GivesNoLater held.group held.text) (λ disk. no_later id held own copy) readings
+    (disks_both (λ disk. CopyHas (IsEarlier id held)) (λ disk r. CopyHas IsItsCopy r × RefusesPlainly r) readings given
+        (disks_both (λ disk. CopyHas IsItsCopy) (λ disk. RefusesPlainly) readings are refused))

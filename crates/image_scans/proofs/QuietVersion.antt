@@ -7,7 +7,8 @@ use Rattle.std.specs.Ordering.{nat_cmp}
 use Rattle.disk_model.specs.Steps.{Image}
 use Rattle.meta_model.specs.declared.group.Group.{Group}
 use Rattle.meta_model.specs.declared.pv.Pv.{Pv}
-use Rattle.scan_rules.specs.Decision.{AreaReading, Conflict, DuplicatePv, FoundGroup, NoCopy, NoGroup, PvShape, TwoGroups, Unsupported, GivesNoLater, HasShape as IsShaped, HoldsNone, Copy, Refused, Reading, ScanAnswer, decide_scan, first_duplicate, ids_from}
+use Rattle.scan_rules.specs.Decision.{AreaReading, Conflict, DuplicatePv, FoundGroup, NoCopy, NoGroup, PvShape, TwoGroups, Unsupported,
+    GivesNoLater, HasShape as IsShaped, HoldsNone, Copy, Refused, Reading, ScanAnswer, decide_scan, first_duplicate, ids_from}
 use Rattle.scan_rules.specs.Found.{missing_of}
 use Rattle.vg_found.specs.declared.disk.Disk.{Disk}
 use Rattle.vg_found.specs.declared.found.Found.{Found}
@@ -30,7 +31,8 @@ none_given : (group : Group) (text : List ℕ) (r : AreaReading) → IsNone r �
 none_given group text r is = subst (GivesNoLater group text) (sym is) tt
 
 -- the disks of a group's physical volumes are found by their ids
-pub disks_same : (disks there : List Disk) (pvs : List (List ℕ × Pv)) → Each (λ (pv : List ℕ × Pv). disk_with there pv.1.id ≡ disk_with disks pv.1.id) pvs
+pub disks_same : (disks there : List Disk) (pvs : List (List ℕ × Pv))
+    → Each (λ (pv : List ℕ × Pv). disk_with there pv.1.id ≡ disk_with disks pv.1.id) pvs
     → map (λ (pv : List ℕ × Pv). disk_with there pv.1.id) pvs ≡ map (λ (pv : List ℕ × Pv). disk_with disks pv.1.id) pvs
 disks_same disks there [] all = refl
 disks_same disks there (pv ∷ pvs) all = λ i. all.0 i ∷ disks_same disks there pvs all.1 i
@@ -40,11 +42,15 @@ abbrev pub SameDisks : Option Group → List Disk → List Disk → Type 0
 SameDisks None disks there = Unit {0}
 SameDisks (Some group) disks there = Each (λ (pv : List ℕ × Pv). disk_with there pv.1.id ≡ disk_with disks pv.1.id) group.pvs
 
-module _ (image : Image) (sizes : List ℕ) (found : Found) (none_missing : found.missing ≡ []) (readings : List Reading) (by : IsFoundBy (decide_scan readings) found) (unread : set.FinSet nat_cmp) (left_out : ℕ → Bool)
-    (left : (pv : ℕ) → pv < length sizes → set.contains unread pv ≡ left_out pv) (there : List Disk) (read : List Reading) (sizes_are : map (λ (d : Disk). d.sectors) there ≡ sizes) (are : AreDiskReadings image unread 0 there read)
-    (quiet : ButQuiet found.group readings read) (apart : first_duplicate (ids_from 0 read) ≡ None) (same : SameDisks found.group found.disks there) where
+module _ (image : Image) (sizes : List ℕ) (found : Found) (none_missing : found.missing ≡ []) (readings : List Reading)
+    (by : IsFoundBy (decide_scan readings) found) (unread : set.FinSet nat_cmp) (left_out : ℕ → Bool)
+    (left : (pv : ℕ) → pv < length sizes → set.contains unread pv ≡ left_out pv) (there : List Disk) (read : List Reading)
+        (sizes_are : map (λ (d : Disk). d.sectors) there ≡ sizes) (are : AreDiskReadings image unread 0 there read)
+    (quiet : ButQuiet found.group readings read) (apart : first_duplicate (ids_from 0 read) ≡ None)
+        (same : SameDisks found.group found.disks there) where
   -- no group
-  of_none : HasNothing readings → found.group ≡ None → DisksGive (λ disk. IsNone) readings → FindsVersion sizes image left_out (version_in found)
+  of_none : HasNothing readings → found.group ≡ None → DisksGive (λ disk. IsNone) readings
+      → FindsVersion sizes image left_out (version_in found)
   of_none nothing none given =
       let all : DisksGive (λ disk. IsNone) read = quiet_give IsNone (λ r is. is) found.group readings read quiet given in
       let now : HasNothing read = record { apart = apart; no_copies = copies_none read all; no_refusals = refusals_none read all } in
@@ -54,16 +60,22 @@ module _ (image : Image) (sizes : List ℕ) (found : Found) (none_missing : foun
         scan = record {
           readings = read;
           are = record { sizes_is = sizes_are; each = are };
-          answer = subst (λ (a : ScanAnswer). IsFoundBy a (record found { disks = there; areas = held_areas 0 there; unread = unread })) (sym answer) (moved_to (decide_scan readings) by);
+          answer =
+              subst (λ (a : ScanAnswer). IsFoundBy a (record found { disks = there; areas = held_areas 0 there; unread = unread }))
+                  (sym answer) (moved_to (decide_scan readings) by);
           areas = refl;
           disk_of = subst (λ (o : Option Group). IfSome o (λ group. found.disk_of ≡ disks_of group there)) (sym none) tt;
         };
         left = left;
         whole = none_missing;
-        version_is = ap (λ (o : Option Group). option_map (λ (g : Group). record { group = g; disk_of = disks_of g there }) o) none ∙ sym (ap (λ (o : Option Group). option_map (λ (g : Group). record { group = g; disk_of = disks_of g found.disks }) o) none);
+        version_is =
+            ap (λ (o : Option Group). option_map (λ (g : Group). record { group = g; disk_of = disks_of g there }) o) none
+                ∙ sym (ap (λ (o : Option Group). option_map (λ (g : Group). record { group = g; disk_of = disks_of g found.disks }) o)
+                none);
       }
     where
-      moved_to : (answer : ScanAnswer) → IsFoundBy answer found → IsFoundBy answer (record found { disks = there; areas = held_areas 0 there; unread = unread })
+      moved_to : (answer : ScanAnswer) → IsFoundBy answer found
+          → IsFoundBy answer (record found { disks = there; areas = held_areas 0 there; unread = unread })
       moved_to (FoundGroup held stale strays missing) b = b
       moved_to NoGroup b = b
       moved_to (DuplicatePv x y) b = absurd b
@@ -96,7 +108,8 @@ module _ (image : Image) (sizes : List ℕ) (found : Found) (none_missing : foun
     of_finds all_there f =
         let parts : IsFoundWith read f.held f.stale f.strays f.missing = found_parts read f.held f.stale f.strays f.missing f.is in
         let version : Group → Version = λ g. record { group = g; disk_of = disks_of g there } in
-        let disks : disks_of group there ≡ disks_of group found.disks = disks_same found.disks there group.pvs (subst (λ (o : Option Group). SameDisks o found.disks there) is_group same) in
+        let disks : disks_of group there ≡ disks_of group found.disks =
+            disks_same found.disks there group.pvs (subst (λ (o : Option Group). SameDisks o found.disks there) is_group same) in
         record {
           found = found_anew f;
           scan = record {
@@ -107,19 +120,25 @@ module _ (image : Image) (sizes : List ℕ) (found : Found) (none_missing : foun
             disk_of = refl;
           };
           left = left;
-          whole = sym parts.missing_are ∙ ap (λ (g : Group). missing_of read g.pvs) f.group_is ∙ quiet_missing group readings read but all_there;
+          whole =
+              sym parts.missing_are ∙ ap (λ (g : Group). missing_of read g.pvs) f.group_is
+                  ∙ quiet_missing group readings read but all_there;
           version_is =
               ap (λ (g : Group). Some (version g)) f.group_is ∙ ap (λ (l : List ℕ). Some (record { group = group; disk_of = l })) disks
-              ∙ sym (ap (λ (o : Option Group). option_map (λ (g : Group). record { group = g; disk_of = disks_of g found.disks }) o) is_group);
+              ∙ sym (ap (λ (o : Option Group). option_map (λ (g : Group). record { group = g; disk_of = disks_of g found.disks }) o)
+              is_group);
         }
 
   pub quiet_version : IsSettledScan readings found → FindsVersion sizes image left_out (version_in found)
   quiet_version (settled_none nothing none given) = of_none nothing none given
   quiet_version (settled_some held parts some copy given all) =
-      let shape : IsShaped held.group read = record { apart = apart; placed = quiet_placed held.group readings read (but held.group held.text some) parts.placed } in
+      let shape : IsShaped held.group read =
+          record { apart = apart; placed = quiet_placed held.group readings read (but held.group held.text some) parts.placed } in
       let no_later : DisksGive (λ disk. GivesNoLater held.group held.text) read =
       quiet_give (GivesNoLater held.group held.text) (none_given held.group held.text) found.group readings read quiet
-      (disks_weaker (λ disk. IsNoneOr held.group held.text) (λ disk. GivesNoLater held.group held.text) (λ disk. same_given held.group held.text) readings given)
+      (disks_weaker (λ disk. IsNoneOr held.group held.text) (λ disk. GivesNoLater held.group held.text)
+          (λ disk. same_given held.group held.text) readings given)
       in
       of_finds held.group held.text some (parts.missing_are ∙ none_missing)
-      (finds_newest held.group held.text read shape no_later (quiet_held held.group held.text readings read (but held.group held.text some) parts.is_held_is))
+      (finds_newest held.group held.text read shape no_later
+          (quiet_held held.group held.text readings read (but held.group held.text some) parts.is_held_is))

@@ -1,5 +1,6 @@
 -- What a scan finds while a group's disks are cleared, and nothing is committed.
-use Rattle.std.proofs.Common.{◌≡◌, ◌⊎◌, ℕ, ◌+◌, ◌&&◌, ◌||◌, Bool, true, false, List, [], ◌∷◌, Option, Some, None, inl, inr, ⊎_elim, refl, sym, ap, subst, ◌∙◌, arith}
+use Rattle.std.proofs.Common.{◌≡◌, ◌⊎◌, ℕ, ◌+◌, ◌&&◌, ◌||◌, Bool, true, false, List, [], ◌∷◌, Option, Some, None, inl, inr, ⊎_elim, refl,
+    sym, ap, subst, ◌∙◌, arith}
 use Rattle.std.specs.Prelude.{IfSome, filter_map, option_map, slice_get, unwrap_or}
 use Rattle.std.specs.List.{cons_option, list_any}
 use Rattle.std.specs.Ordering.{nat_cmp}
@@ -16,7 +17,8 @@ use Rattle.mda_header.specs.declared.header.Locn.{Locn}
 use Rattle.mda_ring.specs.declared.area.Area.{Area}
 use Rattle.meta_model.specs.declared.group.Group.{Group}
 use Rattle.extent_alloc.specs.declared.part.Part.{Part}
-use Rattle.scan_rules.specs.Decision.{Area as AreaOf, AreaReading, Copy, Found as PvOf, GivesNoLater, HasShape as IsShaped, Held, HoldsNone, NoGroup, Reading, Refused, SameHeaders, ScanAnswer, decide_scan, gives, holds, is_held, is_listed, is_something, lists}
+use Rattle.scan_rules.specs.Decision.{Area as AreaOf, AreaReading, Copy, Found as PvOf, GivesNoLater, HasShape as IsShaped, Held, HoldsNone,
+    NoGroup, Reading, Refused, SameHeaders, ScanAnswer, decide_scan, gives, holds, is_held, is_listed, is_something, lists}
 use Rattle.scan_rules.specs.Found.{missing_of}
 use Rattle.scan_rules.proofs.SameShape.{same_shape}
 use Rattle.disk_batch.specs.InTurn.{HasFirstBatches, with_batches}
@@ -43,13 +45,15 @@ use Rattle.vg_change.specs.LineBatches.{clears_of}
 use Rattle.image_scans.proofs.CommitLine.{all_written, is_state, settled}
 use Rattle.image_scans.specs.Laws.{CanCarryOut, none_out}
 use Rattle.image_scans.specs.Versions.{FindsVersion, Version, version_in}
-use Rattle.image_scans.proofs.Again.{AreasAgain, DisksAgain, Finds, GivesAgain, PvAgain, again_give, again_headers, finds_newest, missing_same}
+use Rattle.image_scans.proofs.Again.{AreasAgain, DisksAgain, Finds, GivesAgain, PvAgain, again_give, again_headers, finds_newest,
+    missing_same}
 use Rattle.image_scans.proofs.BaseEntries.{entries_shown}
 use Rattle.image_scans.proofs.ClearedAgain.{any_bare, any_pv, disk_cleared}
 use Rattle.image_scans.proofs.CommitScans.{disks_by_ids, none_unread}
 use Rattle.image_scans.proofs.Decided.{IsFoundWith, found_parts, nothing_found}
 use Rattle.image_scans.proofs.DiskAgain.{AllAgain, IsThereAt, PvMayBeRefused, all_again}
-use Rattle.image_scans.proofs.AreaReadings.{AreasGive, DisksGive, GivenHas, IsNone, IsSettled, PvGives, copies_none, disks_weaker, refusals_none}
+use Rattle.image_scans.proofs.AreaReadings.{AreasGive, DisksGive, GivenHas, IsNone, IsSettled, PvGives, copies_none, disks_weaker,
+    refusals_none}
 use Rattle.image_scans.proofs.ReadingShapes.{readings_shaped}
 use Rattle.image_scans.proofs.SettledBase.{IsNoneOr, IsSettledScan, settled_none, settled_some}
 use Rattle.image_scans.proofs.RemovalEnds.{disk_among, disk_emptied, disk_read, listed_header, none_held, pv_emptied, read_before}
@@ -74,28 +78,37 @@ module _ (group : Group) (text : List ℕ) (new : AreaReading) where
   later_false false y is = (refl, is)
 
   -- of one area
-  none_kept : (a : Reading) (x y : Option AreaReading) (rest : List AreaReading) → GivesAgain new false (λ r. true) x y → GivenHas (IsSettled group text a) x → (b : Bool) → is_listed group a ≡ b → (b && list_any (gives text) (cons_option y rest)) ≡ false → GivenHas IsNone y
+  none_kept : (a : Reading) (x y : Option AreaReading) (rest : List AreaReading) → GivesAgain new false (λ r. true) x y
+      → GivenHas (IsSettled group text a) x → (b : Bool) → is_listed group a ≡ b → (b && list_any (gives text) (cons_option y rest)) ≡ false
+      → GivenHas IsNone y
   none_kept a None y rest again given b listed none = subst (GivenHas IsNone) (sym again) tt
   none_kept a (Some r) y rest (inr (inr gone)) given b listed none = subst (GivenHas IsNone) (sym gone.0) refl
   none_kept a (Some r) y rest (inr (inl made)) given b listed none = absurd (true≢false (sym made.1))
   none_kept a (Some r) y rest (inl same) given true listed none =
-      absurd (true≢false (sym (ap (λ (o : Option AreaReading). list_any (gives text) (cons_option o rest)) same ∙ or_left (gives text r) (list_any (gives text) rest) (given.0 listed)) ∙ none))
+      absurd (true≢false (sym (ap (λ (o : Option AreaReading). list_any (gives text) (cons_option o rest)) same
+          ∙ or_left (gives text r) (list_any (gives text) rest) (given.0 listed)) ∙ none))
   none_kept a (Some r) y rest (inl same) given false listed none = subst (GivenHas IsNone) (sym same) (silent_none r (given.1 listed))
 
-  none_later : (b : Bool) (y : Option AreaReading) (rest : List AreaReading) → (b && list_any (gives text) (cons_option y rest)) ≡ false → (b && list_any (gives text) rest) ≡ false
+  none_later : (b : Bool) (y : Option AreaReading) (rest : List AreaReading) → (b && list_any (gives text) (cons_option y rest)) ≡ false
+      → (b && list_any (gives text) rest) ≡ false
   none_later false y rest none = refl
   none_later true None rest none = none
   none_later true (Some r) rest none = (later_false (gives text r) (list_any (gives text) rest) none).1
 
-  areas_kept : (a : Reading) (as' bs : List AreaOf) → AreasAgain new false (λ r. true) as' bs → AreasGive (IsSettled group text a) as' → (b : Bool) → is_listed group a ≡ b → (b && list_any (gives text) (filter_map (λ (area : AreaOf). area.reading) bs)) ≡ false → AreasGive IsNone bs
+  areas_kept : (a : Reading) (as' bs : List AreaOf) → AreasAgain new false (λ r. true) as' bs → AreasGive (IsSettled group text a) as'
+      → (b : Bool) → is_listed group a ≡ b → (b && list_any (gives text) (filter_map (λ (area : AreaOf). area.reading) bs)) ≡ false
+      → AreasGive IsNone bs
   areas_kept a [] [] again given b listed none = tt
   areas_kept a [] (y ∷ bs) again given b listed none = absurd again
   areas_kept a (x ∷ as') [] again given b listed none = absurd again
   areas_kept a (x ∷ as') (y ∷ bs) again given b listed none =
       let rest : List AreaReading = filter_map (λ (area : AreaOf). area.reading) bs in
-      (none_kept a x.reading y.reading rest again.2 given.0 b listed none, areas_kept a as' bs again.3 given.1 b listed (none_later b y.reading rest none))
+      (none_kept a x.reading y.reading rest again.2 given.0 b listed none,
+          areas_kept a as' bs again.3 given.1 b listed (none_later b y.reading rest none))
 
-  pv_kept : (a : Reading) (x y : Option PvOf) → a.pv ≡ x → PvAgain (λ id. false) any_bare new x y → PvGives (IsSettled group text a) x → (s : ℕ) → (is_listed group (record { sectors = s; pv = y }) && holds text (record { sectors = s; pv = y })) ≡ false → PvGives IsNone y
+  pv_kept : (a : Reading) (x y : Option PvOf) → a.pv ≡ x → PvAgain (λ id. false) any_bare new x y → PvGives (IsSettled group text a) x
+      → (s : ℕ) → (is_listed group (record { sectors = s; pv = y }) && holds text (record { sectors = s; pv = y })) ≡ false
+      → PvGives IsNone y
   pv_kept a None None is again given s none = tt
   pv_kept a None (Some y) is again given s none = absurd again
   pv_kept a (Some x) None is again given s none = absurd again
@@ -103,7 +116,8 @@ module _ (group : Group) (text : List ℕ) (new : AreaReading) where
       areas_kept a x.areas y.areas again.1 given (lists group y.id)
       (ap (λ (o : Option PvOf). unwrap_or (option_map (λ (pv : PvOf). lists group pv.id) o) false) is ∙ ap (lists group) again.0) none
 
-  none_left : (as' bs : List Reading) → DisksAgain (λ id. false) any_bare new as' bs → DisksGive (IsSettled group text) as' → is_held group text bs ≡ false → DisksGive (λ disk. IsNone) bs
+  none_left : (as' bs : List Reading) → DisksAgain (λ id. false) any_bare new as' bs → DisksGive (IsSettled group text) as'
+      → is_held group text bs ≡ false → DisksGive (λ disk. IsNone) bs
   none_left [] [] again given none = tt
   none_left [] (b ∷ bs) again given none = absurd again
   none_left (a ∷ as') [] again given none = absurd again
@@ -113,12 +127,16 @@ module _ (group : Group) (text : List ℕ) (new : AreaReading) where
 
 -- ---- an image while disks are cleared
 
-module _ (base : Image) (sizes : List ℕ) (found : Found) (shape : HasShape found) (whole : IsWhole found) (scan : IsScanOf base sizes found) (settled : IsSettledScan scan.readings found) (scanned : AreScanned found.disks found.areas) (cleared : set.FinSet nat_cmp) (clears : ClearsImages cleared found.disks found.areas) where
+module _ (base : Image) (sizes : List ℕ) (found : Found) (shape : HasShape found) (whole : IsWhole found) (scan : IsScanOf base sizes found)
+    (settled : IsSettledScan scan.readings found) (scanned : AreScanned found.disks found.areas) (cleared : set.FinSet nat_cmp)
+    (clears : ClearsImages cleared found.disks found.areas) where
   readings : List Reading
   readings = scan.readings
 
   shown : ShowsEntries found.areas base
-  shown = subst (λ (l : List (Area × Option Locn)). ShowsEntries l base) (sym scan.areas) (entries_shown base found.unread 0 found.disks scan.readings scan.are.each)
+  shown =
+      subst (λ (l : List (Area × Option Locn)). ShowsEntries l base) (sym scan.areas)
+          (entries_shown base found.unread 0 found.disks scan.readings scan.are.each)
 
   headers : SameHeaders (shapes found.disks) scan.readings
   headers = readings_shaped base found.unread 0 found.disks scan.readings scan.are.each
@@ -140,18 +158,21 @@ module _ (base : Image) (sizes : List ℕ) (found : Found) (shape : HasShape fou
 
   module _ (image : Image) (h : HasFirstBatches (clear_batches cleared found.disks found.areas) base image) where
     -- each disk reads again, where some text is a copy
-    module _ (bare : List ℕ → AreaReading → Bool) (any : (id : List ℕ) (r : AreaReading) → bare id r ≡ true) (text : List ℕ) (group : Group) (passed : List (List ℕ)) (copy : IsCopyOf text group passed)
+    module _ (bare : List ℕ → AreaReading → Bool) (any : (id : List ℕ) (r : AreaReading) → bare id r ≡ true) (text : List ℕ) (group : Group)
+        (passed : List (List ℕ)) (copy : IsCopyOf text group passed)
         (given : (k : ℕ) (reading : Reading) → slice_get scan.readings k ≡ Some reading → PvMayBeRefused bare reading.pv) where
       reads : AllAgain image found.unread 0 (λ id. false) bare (Copy group text passed) found.disks scan.readings
       reads =
           all_again base image found.unread 0 (λ id. false) bare (Copy group text passed) found.disks scan.readings scan.are.each
           (λ k disk reading at_disk at_reading is.
-          disk_cleared found.disks found.areas scanned cleared clears base image h base shown text group passed copy (λ id. false) bare any (0 + k) (λ sector. refl) disk
+          disk_cleared found.disks found.areas scanned cleared clears base image h base shown text group passed copy (λ id. false) bare any
+              (0 + k) (λ sector. refl) disk
           (subst (λ (n : ℕ). slice_get found.disks n ≡ Some disk) (omega arith) at_disk) reading is (given k reading at_reading))
 
     -- ---- where a copy was found
 
-    module _ (held : Held) (parts : IsFoundWith scan.readings held [] [] found.missing) (some : found.group ≡ Some held.group) (copy : IsCopyOf held.text held.group held.passed) (each : DisksGive (λ disk. IsNoneOr held.group held.text) scan.readings)
+    module _ (held : Held) (parts : IsFoundWith scan.readings held [] [] found.missing) (some : found.group ≡ Some held.group)
+        (copy : IsCopyOf held.text held.group held.passed) (each : DisksGive (λ disk. IsNoneOr held.group held.text) scan.readings)
         (all : DisksGive (IsSettled held.group held.text) scan.readings) where
       abbrev made : AreaReading
       made = Copy held.group held.text held.passed
@@ -169,11 +190,14 @@ module _ (base : Image) (sizes : List ℕ) (found : Found) (shape : HasShape fou
       still : is_held held.group held.text again.read ≡ true → FindsVersion sizes image none_out (version_in found)
       still there =
           let no_later : DisksGive (λ disk. GivesNoLater held.group held.text) again.read =
-          again_give (GivesNoLater held.group held.text) made (refl, inl (refl, refl)) tt (λ id. false) any_bare scan.readings again.read again.again
-          (disks_weaker (λ disk. IsNoneOr held.group held.text) (λ disk. GivesNoLater held.group held.text) (λ disk. same_no_later held.group held.text) scan.readings each)
+          again_give (GivesNoLater held.group held.text) made (refl, inl (refl, refl)) tt (λ id. false) any_bare scan.readings again.read
+              again.again
+          (disks_weaker (λ disk. IsNoneOr held.group held.text) (λ disk. GivesNoLater held.group held.text)
+              (λ disk. same_no_later held.group held.text) scan.readings each)
           in
           let f : Finds again.read held.group held.text = finds_newest held.group held.text again.read read_shape no_later there in
-          let own : IsFoundWith again.read f.held f.stale f.strays f.missing = found_parts again.read f.held f.stale f.strays f.missing f.is in
+          let own : IsFoundWith again.read f.held f.stale f.strays f.missing =
+              found_parts again.read f.held f.stale f.strays f.missing f.is in
           let version : Group → Version = λ g. record { group = g; disk_of = disks_of g again.there } in
           let anew : Found = record {
             group = Some f.held.group;
@@ -197,23 +221,33 @@ module _ (base : Image) (sizes : List ℕ) (found : Found) (shape : HasShape fou
               disk_of = refl;
             };
             left = λ pv within. none_unread found whole pv;
-            whole = sym own.missing_are ∙ ap (λ (g : Group). missing_of again.read g.pvs) f.group_is ∙ sym (missing_same scan.readings again.read held.group.pvs same_headers) ∙ parts.missing_are ∙ whole.there;
+            whole =
+                sym own.missing_are ∙ ap (λ (g : Group). missing_of again.read g.pvs) f.group_is
+                    ∙ sym (missing_same scan.readings again.read held.group.pvs same_headers) ∙ parts.missing_are ∙ whole.there;
             version_is =
-                ap (λ (g : Group). Some (version g)) f.group_is ∙ ap (λ (l : List ℕ). Some (record { group = held.group; disk_of = l })) (disks_by_ids held.group found.disks again.there again.ids)
-                ∙ sym (ap (λ (o : Option Group). option_map (λ (g : Group). record { group = g; disk_of = disks_of g found.disks }) o) some);
+                ap (λ (g : Group). Some (version g)) f.group_is
+                    ∙ ap (λ (l : List ℕ). Some (record { group = held.group; disk_of = l }))
+                    (disks_by_ids held.group found.disks again.there again.ids)
+                ∙ sym (ap (λ (o : Option Group). option_map (λ (g : Group). record { group = g; disk_of = disks_of g found.disks }) o)
+                some);
           }
 
       -- none does
       pub gone : is_held held.group held.text again.read ≡ false → FindsVersion sizes image none_out None
       gone none =
-          let silent : DisksGive (λ disk. IsNone) again.read = none_left held.group held.text made scan.readings again.read again.again all none in
-          let nothing : decide_scan again.read ≡ NoGroup = nothing_found again.read (record { apart = read_shape.apart; no_copies = copies_none again.read silent; no_refusals = refusals_none again.read silent }) in
+          let silent : DisksGive (λ disk. IsNone) again.read =
+              none_left held.group held.text made scan.readings again.read again.again all none in
+          let nothing : decide_scan again.read ≡ NoGroup =
+              nothing_found again.read (record { apart = read_shape.apart; no_copies = copies_none again.read silent;
+                  no_refusals = refusals_none again.read silent }) in
           record {
             found = nothing_in again.there;
             scan = record {
               readings = again.read;
               are = record { sizes_is = again.sizes_is ∙ scan.are.sizes_is; each = again.are };
-              answer = subst (λ (answer : ScanAnswer). IsFoundBy answer (nothing_in again.there)) (sym nothing) (refl, refl, refl, refl, refl, refl);
+              answer =
+                  subst (λ (answer : ScanAnswer). IsFoundBy answer (nothing_in again.there)) (sym nothing)
+                      (refl, refl, refl, refl, refl, refl);
               areas = refl;
               disk_of = tt;
             };
@@ -232,7 +266,8 @@ group_there : (o : Option Group) (vg : List ℕ) → first_refusal (rows_where_f
 group_there None vg none is = let e : ◌≡◌ {A = Option OpRefusal} (Some (UnknownGroup vg)) None = none in cc
 group_there (Some group) vg none is = cc
 
-module _ (base image : Image) (sizes : List ℕ) (found : Found) (names : List (List ℕ)) (backup : Option Backup) (line : Line) (now : ℕ) (given : List Part) (vg : List ℕ) (p : CanCarryOut base sizes found names backup line now given) (is : line.command ≡ Vgremove vg) where
+module _ (base image : Image) (sizes : List ℕ) (found : Found) (names : List (List ℕ)) (backup : Option Backup) (line : Line) (now : ℕ)
+    (given : List Part) (vg : List ℕ) (p : CanCarryOut base sizes found names backup line now given) (is : line.command ≡ Vgremove vg) where
   abbrev state : GroupState
   state = state_in found names backup
 
@@ -241,7 +276,8 @@ module _ (base image : Image) (sizes : List ℕ) (found : Found) (names : List (
 
   some_group : found.group ≡ None → ⊥
   some_group none =
-      group_there found.group vg (subst (λ (c : Command). line_refusal state (record { number = line.number; id = line.id; command = c }) now given ≡ None) is p.passes) none
+      group_there found.group vg (subst (λ (c : Command). line_refusal state (record { number = line.number; id = line.id; command = c })
+          now given ≡ None) is p.passes) none
 
   scanned_is : AreScanned found.disks found.areas
   scanned_is = state_scanned state (is_state base sizes found names backup line now given p)
@@ -249,12 +285,16 @@ module _ (base image : Image) (sizes : List ℕ) (found : Found) (names : List (
   settled_is : IsSettledScan p.scan.readings found
   settled_is = settled base sizes found names backup line now given p
 
-  pub removal_scans : HasFirstBatches (clears_of state line now given) base image → FindsVersion sizes image none_out (version_in found) ⊎ FindsVersion sizes image none_out None
+  pub removal_scans : HasFirstBatches (clears_of state line now given) base image
+      → FindsVersion sizes image none_out (version_in found) ⊎ FindsVersion sizes image none_out None
   removal_scans h = by settled_is
     where
-      by : IsSettledScan p.scan.readings found → FindsVersion sizes image none_out (version_in found) ⊎ FindsVersion sizes image none_out None
+      by : IsSettledScan p.scan.readings found
+          → FindsVersion sizes image none_out (version_in found) ⊎ FindsVersion sizes image none_out None
       by (settled_none nothing none all) = absurd (some_group none)
-      by (settled_some held parts some copy each all) = either_left base sizes found p.shape p.whole p.scan settled_is scanned_is cleared_set p.keeps.clears image h held parts some copy each all
+      by (settled_some held parts some copy each all) =
+          either_left base sizes found p.shape p.whole p.scan settled_is scanned_is cleared_set p.keeps.clears image h held parts some copy
+              each all
 
   -- ---- at the end
 
@@ -274,10 +314,14 @@ module _ (base image : Image) (sizes : List ℕ) (found : Found) (names : List (
       by : IsSettledScan p.scan.readings found → FindsVersion sizes last none_out None
       by (settled_none nothing none all) = absurd (some_group none)
       by (settled_some held parts some copy each all) =
-          let reads = again base sizes found p.shape p.whole p.scan settled_is scanned_is cleared_set p.keeps.clears last all_there held parts some copy each all in
+          let reads =
+              again base sizes found p.shape p.whole p.scan settled_is scanned_is cleared_set p.keeps.clears last all_there held parts some
+                  copy each all in
           let new : AreaReading = Copy held.group held.text held.passed in
-          let listed_are : found.disk_of ≡ disks_of held.group found.disks = subst (λ (o : Option Group). IfSome o (λ g. found.disk_of ≡ disks_of g found.disks)) some p.shape.disk_of in
-          gone base sizes found p.shape p.whole p.scan settled_is scanned_is cleared_set p.keeps.clears last all_there held parts some copy each all
+          let listed_are : found.disk_of ≡ disks_of held.group found.disks =
+              subst (λ (o : Option Group). IfSome o (λ g. found.disk_of ≡ disks_of g found.disks)) some p.shape.disk_of in
+          gone base sizes found p.shape p.whole p.scan settled_is scanned_is cleared_set p.keeps.clears last all_there held parts some copy
+              each all
           (none_held held.group held.text reads.read (λ k b there listed.
           let r = read_before (λ id. false) any_bare new p.scan.readings reads.read reads.again k b there in
           let d = disk_read base found.unread 0 found.disks p.scan.readings p.scan.are.each k r.0 r.1 in
@@ -285,8 +329,12 @@ module _ (base image : Image) (sizes : List ℕ) (found : Found) (names : List (
           let same : b ≡ t.reading = same_Some b t.reading (sym there ∙ t.at_reading) in
           let h = listed_header held.group new (0 + k) (base (0 + k)) d.0.contents r.0.pv b.pv d.2.pv_is r.2 listed in
           let at : disk_with found.disks h.0.id ≡ k = disk_with_own 0 found.disks p.shape.differ k d.0 h.0 d.1 h.1 in
-          let among : set.contains cleared_set (0 + k) ≡ true = ap (λ (s : set.FinSet nat_cmp). set.contains s (0 + k)) cleared_are ∙ disk_among held.group found.disks found.disk_of listed_are (0 + k) h.0 (at ∙ (let e : k ≡ 0 + k = omega arith in e)) h.2 in
+          let among : set.contains cleared_set (0 + k) ≡ true =
+              ap (λ (s : set.FinSet nat_cmp). set.contains s (0 + k)) cleared_are
+                  ∙ disk_among held.group found.disks found.disk_of listed_are (0 + k) h.0 (at ∙ (let e : k ≡ 0 + k = omega arith in e))
+                  h.2 in
           subst (λ (o : Reading). PvGives IsNone o.pv) (sym same)
-          (pv_emptied new (0 + k) (base (0 + k)) (last (0 + k)) t.own.sectors d.0.contents t.own.contents r.0.pv t.reading.pv d.2.pv_is t.is.pv_is t.is.contents t.own_areas
+          (pv_emptied new (0 + k) (base (0 + k)) (last (0 + k)) t.own.sectors d.0.contents t.own.contents r.0.pv t.reading.pv d.2.pv_is
+              t.is.pv_is t.is.contents t.own_areas
           (subst (λ (o : Reading). PvAgain (λ id. false) any_bare new r.0.pv o.pv) same r.2)
           (disk_emptied found.areas cleared_set last (p.keeps.clears.done base).headers found.disks p.shape.areas k d.0 d.1 among))))

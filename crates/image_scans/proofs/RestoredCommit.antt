@@ -1,5 +1,6 @@
 -- The lines that commit the group of a text in place of the one that was found (vgcfgrestore(8)).
-use Rattle.std.proofs.Common.{◌≡◌, ◌<◌, ℕ, suc, ◌+◌, Bool, true, false, ◌||◌, not, cond, List, [], ◌∷◌, length, map, Option, Some, refl, sym, ap, subst, ◌∙◌, arith}
+use Rattle.std.proofs.Common.{◌≡◌, ◌<◌, ℕ, suc, ◌+◌, Bool, true, false, ◌||◌, not, cond, List, [], ◌∷◌, length, map, Option, Some, refl,
+    sym, ap, subst, ◌∙◌, arith}
 use Rattle.std.specs.List.{AllByRecursion as Each, list_any}
 use Rattle.std.proofs.lemmas.List.Elements.{recursion_from_All}
 use Rattle.meta_model.specs.Standing.{HasTree}
@@ -33,23 +34,29 @@ or_later false b is = is
 on_held : (id : List ℕ) (disks : List Disk) → disk_with disks id < length disks → list_any (has_id id) (shapes disks) ≡ true
 on_held id [] within = absurd (omega (arith, within))
 on_held id (disk ∷ disks) within = by (on_held id disks) (has_header_id id disk) refl within where
-  by : (disk_with disks id < length disks → list_any (has_id id) (shapes disks) ≡ true) → (b : Bool) → has_header_id id disk ≡ b → cond b 0 (disk_with disks id + 1) < suc (length disks)
+  by : (disk_with disks id < length disks → list_any (has_id id) (shapes disks) ≡ true) → (b : Bool) → has_header_id id disk ≡ b
+      → cond b 0 (disk_with disks id + 1) < suc (length disks)
       → (has_id id (disk_shape disk) || list_any (has_id id) (shapes disks)) ≡ true
   by rest true here within = ap (λ (b : Bool). b || list_any (has_id id) (shapes disks)) (has_same id (header_on disk.contents) ∙ here)
   by rest false here within = or_later (has_id id (disk_shape disk)) (list_any (has_id id) (shapes disks)) (rest (omega (arith, within)))
 
 -- no physical volume of the restored group is missing
-all_present : (disks : List Disk) (pvs : List (List ℕ × Pv)) → Each (λ n. n < length disks) (map (λ (pv : List ℕ × Pv). disk_with disks pv.1.id) pvs) → Each (λ (pv : List ℕ × Pv). is_missing (shapes disks) pv ≡ false) (map found_pv pvs)
+all_present : (disks : List Disk) (pvs : List (List ℕ × Pv))
+    → Each (λ n. n < length disks) (map (λ (pv : List ℕ × Pv). disk_with disks pv.1.id) pvs)
+    → Each (λ (pv : List ℕ × Pv). is_missing (shapes disks) pv ≡ false) (map found_pv pvs)
 all_present disks [] within = tt
 all_present disks (pv ∷ pvs) within = (ap not (on_held pv.1.id disks within.0), all_present disks pvs within.1)
 
 -- and they are on the same disks
-same_disks : (disks : List Disk) (pvs : List (List ℕ × Pv)) → map (λ (pv : List ℕ × Pv). disk_with disks pv.1.id) (map found_pv pvs) ≡ map (λ (pv : List ℕ × Pv). disk_with disks pv.1.id) pvs
+same_disks : (disks : List Disk) (pvs : List (List ℕ × Pv))
+    → map (λ (pv : List ℕ × Pv). disk_with disks pv.1.id) (map found_pv pvs) ≡ map (λ (pv : List ℕ × Pv). disk_with disks pv.1.id) pvs
 same_disks disks [] = refl
 same_disks disks (pv ∷ pvs) = ap (λ (l : List ℕ). disk_with disks pv.1.id ∷ l) (same_disks disks pvs)
 
 -- it is the next version of the group that was found
-pub restores_commits : (found : Found) (state : GroupState) → IsState state → found.group ≡ state.group → (readings : List Reading) → IsSettledScan readings found → (change : Change) (now : ℕ) (made : Restores state change now) → IsAccepted made.said → HasTree made.said
+pub restores_commits : (found : Found) (state : GroupState) → IsState state → found.group ≡ state.group → (readings : List Reading)
+    → IsSettledScan readings found → (change : Change) (now : ℕ) (made : Restores state change now) → IsAccepted made.said
+    → HasTree made.said
     → Commits found state change
 unfolding extended
 restores_commits found state is same readings settled change now made accepted tree =
@@ -59,7 +66,8 @@ restores_commits found state is same readings settled change now made accepted t
     let old = old_whole readings found settled made.old there in
     let makes : MakesGroup state (change_with next disks (added_of state [])) (extended next (added_of state [])) =
     makes_group state is next disks []
-    (record { disks_is = same_disks state.disks made.said.pvs; there = all_present state.disks made.said.pvs (recursion_from_All (λ n. n < length state.disks) disks (made.listed is)) })
+    (record { disks_is = same_disks state.disks made.said.pvs;
+        there = all_present state.disks made.said.pvs (recursion_from_All (λ n. n < length state.disks) disks (made.listed is)) })
     (made.whole old.0 accepted tree)
     in
     subst (Commits found state) (sym made.change_is)

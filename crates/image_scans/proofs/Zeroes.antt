@@ -1,6 +1,7 @@
 -- The zeros of a line: they lie in free extents, so that a scan of an image on their way finds the same, and volumes have their
 -- contents; and they stay where the line's batches are written behind them.
-use Rattle.std.proofs.Common.{◌≡◌, ◌≤◌, ◌<◌, ◌⊎◌, ℕ, ◌^◌, ◌+◌, ◌-◌, ◌/◌, ◌||◌, Bool, true, false, cond, List, [], ◌∷◌, get_or, map, Option, Some, None, inl, inr, ⊎_elim, refl, sym, ap, subst, ◌∙◌, arith}
+use Rattle.std.proofs.Common.{◌≡◌, ◌≤◌, ◌<◌, ◌⊎◌, ℕ, ◌^◌, ◌+◌, ◌-◌, ◌/◌, ◌||◌, Bool, true, false, cond, List, [], ◌∷◌, get_or, map, Option,
+    Some, None, inl, inr, ⊎_elim, refl, sym, ap, subst, ◌∙◌, arith}
 use Rattle.std.specs.Prelude.{All, replicate, slice_index, unwrap_or}
 use Rattle.std.proofs.lemmas.Bool.{cases_Bool, false≢true}
 use Rattle.std.proofs.lemmas.List.{get_or-replicate}
@@ -9,7 +10,8 @@ use Rattle.sector_base.specs.Spans.{covers}
 use Rattle.sector_base.specs.declared.places.At.{At}
 use Rattle.sector_base.specs.declared.spans.Span.{Span}
 use Rattle.command_table.specs.declared.command.Command.{Command}
-use Rattle.command_table.specs.declared.command.Command.TheVariants.{Lvcreate, Lvextend, Lvreduce, Lvremove, Lvrename, Pvcreate, Vgcfgrestore, Vgcreate, Vgextend, Vgreduce, Vgremove, Vgrename}
+use Rattle.command_table.specs.declared.command.Command.TheVariants.{Lvcreate, Lvextend, Lvreduce, Lvremove, Lvrename, Pvcreate,
+    Vgcfgrestore, Vgcreate, Vgextend, Vgreduce, Vgremove, Vgrename}
 use Rattle.lvm_script.specs.declared.line.Line.{Line}
 use Rattle.disk_model.specs.Steps.{Image, value_at}
 use Rattle.mda_header.specs.declared.header.Locn.{Locn}
@@ -65,14 +67,16 @@ zero_there span pv sector is =
     get_or-replicate span.count (sector - span.first) zeros [] (omega (arith, from, to))
 
 -- in an image with them, a sector has zeros that they cover, or that has them already
-zeros_written : (spans : List Span) (image : Image) (pv sector : ℕ) → (in_spans spans pv sector ≡ true) ⊎ (image pv sector ≡ zeros) → with_writes (map zero_put spans) image pv sector ≡ zeros
+zeros_written : (spans : List Span) (image : Image) (pv sector : ℕ) → (in_spans spans pv sector ≡ true) ⊎ (image pv sector ≡ zeros)
+    → with_writes (map zero_put spans) image pv sector ≡ zeros
 zeros_written [] image pv sector (inl none) = absurd (false≢true none)
 zeros_written [] image pv sector (inr has) = has
 zeros_written (span ∷ spans) image pv sector is =
     ⊎_elim
     (λ (here : covers span pv sector ≡ true).
     zeros_written spans (written_on (zero_put span) image) pv sector
-    (inr (ap (λ (b : Bool). cond b (value_at span (replicate span.count zeros) sector) (image pv sector)) here ∙ zero_there span pv sector here)))
+    (inr (ap (λ (b : Bool). cond b (value_at span (replicate span.count zeros) sector) (image pv sector)) here
+        ∙ zero_there span pv sector here)))
     (λ (beside : covers span pv sector ≡ false).
     zeros_written spans (written_on (zero_put span) image) pv sector
     (⊎_elim
@@ -82,14 +86,16 @@ zeros_written (span ∷ spans) image pv sector is =
     (cases_Bool (covers span pv sector))
 
 -- as a batch
-batch_written : (spans : List Span) (image : Image) (pv sector : ℕ) → in_spans spans pv sector ≡ true → with_batches (batch_if (map zero_put spans)) image pv sector ≡ zeros
+batch_written : (spans : List Span) (image : Image) (pv sector : ℕ) → in_spans spans pv sector ≡ true
+    → with_batches (batch_if (map zero_put spans)) image pv sector ≡ zeros
 batch_written [] image pv sector none = absurd (false≢true none)
 batch_written (span ∷ spans) image pv sector among = zeros_written (span ∷ spans) image pv sector (inl among)
 
 -- ---- where they lie
 
 -- what the plan of a line stands on, whatever the disks hold
-pub record IsPlannedOn (found : Found) (names : List (List ℕ)) (backup : Option Backup) (line : Line) (now : ℕ) (given : List Part) : Type 0 where
+pub record IsPlannedOn (found : Found) (names : List (List ℕ)) (backup : Option Backup) (line : Line) (now : ℕ) (given : List Part) : Type 0
+    where
   pub shape : HasShape found
   pub whole : IsWhole found
   pub state : IsState (state_in found names backup)
@@ -99,7 +105,8 @@ pub record IsPlannedOn (found : Found) (names : List (List ℕ)) (backup : Optio
   pub takes : Takes (asks_of (state_in found names backup) line) given
   pub passes : refusal_of (state_in found names backup) line now given ≡ None
 
-module _ (found : Found) (names : List (List ℕ)) (backup : Option Backup) (line : Line) (now : ℕ) (given : List Part) (on : IsPlannedOn found names backup line now given) where
+module _ (found : Found) (names : List (List ℕ)) (backup : Option Backup) (line : Line) (now : ℕ) (given : List Part)
+    (on : IsPlannedOn found names backup line now given) where
   abbrev change : Change
   change = change_of (state_in found names backup) line now given
 
@@ -111,14 +118,18 @@ module _ (found : Found) (names : List (List ℕ)) (backup : Option Backup) (lin
       line_of command = record { number = line.number; id = line.id; command = command }
 
       -- a command that has none
-      none_lie : (command : Command) → IsPlanned line.id command → zeroes command ≡ false → ZeroesLie found (change_of (state_in found names backup) (line_of command) now given)
+      none_lie : (command : Command) → IsPlanned line.id command → zeroes command ≡ false
+          → ZeroesLie found (change_of (state_in found names backup) (line_of command) now given)
       none_lie command planned other disk sector is =
-          absurd (false≢true (ap (λ (spans : List Span). in_spans spans disk sector) (sym (none_zeroed (state_in found names backup) line.number line.id command now given planned other)) ∙ is))
+          absurd (false≢true (ap (λ (spans : List Span). in_spans spans disk sector)
+              (sym (none_zeroed (state_in found names backup) line.number line.id command now given planned other)) ∙ is))
 
-      zeroes_by : (command : Command) → IsPlanned line.id command → Takes (asks_of (state_in found names backup) (line_of command)) given → refusal_of (state_in found names backup) (line_of command) now given ≡ None
+      zeroes_by : (command : Command) → IsPlanned line.id command → Takes (asks_of (state_in found names backup) (line_of command)) given
+          → refusal_of (state_in found names backup) (line_of command) now given ≡ None
           → ZeroesLie found (change_of (state_in found names backup) (line_of command) now given)
       zeroes_by (Lvcreate new) planned takes passes =
-          new_lie found names backup (unwrap_or line.id []) new now given on.shape on.whole on.state on.held planned.1 on.time (drawn_is line.id planned.0) takes passes
+          new_lie found names backup (unwrap_or line.id []) new now given on.shape on.whole on.state on.held planned.1 on.time
+              (drawn_is line.id planned.0) takes passes
       zeroes_by (Pvcreate pv copies) planned takes passes = none_lie (Pvcreate pv copies) planned refl
       zeroes_by (Vgcreate vg extent_size pvs) planned takes passes = none_lie (Vgcreate vg extent_size pvs) planned refl
       zeroes_by (Vgextend vg pvs) planned takes passes = none_lie (Vgextend vg pvs) planned refl
@@ -141,7 +152,8 @@ module _ (found : Found) (names : List (List ℕ)) (backup : Option Backup) (lin
       extent_beside l.0 found.disks (found_placed found on.shape l.0 l.1) (found_there found on.shape on.whole l.0 l.1) lies.at lies.extents
       in
       subst (IsPlaceOn found.disks disk) lies.sector_is
-      (subst (λ (n : ℕ). IsPlaceOn found.disks n lies.at.sector) (ap (λ (l' : List ℕ). slice_index l' lies.at.pv) (sym (found_listed found on.shape l.0 l.1)) ∙ lies.disk_is) place)
+      (subst (λ (n : ℕ). IsPlaceOn found.disks n lies.at.sector)
+          (ap (λ (l' : List ℕ). slice_index l' lies.at.pv) (sym (found_listed found on.shape l.0 l.1)) ∙ lies.disk_is) place)
 
   -- ---- an image on their way
 
@@ -151,7 +163,8 @@ module _ (found : Found) (names : List (List ℕ)) (backup : Option Backup) (lin
     same_or_zeroed disk sector =
         ⊎_elim
         (λ same. inl same)
-        (λ by. inr (written_of disk sector zero_put change.zero (image disk sector) (any_if (map zero_put change.zero) disk sector (image disk sector) by)))
+        (λ by. inr (written_of disk sector zero_put change.zero (image disk sector)
+            (any_if (map zero_put change.zero) disk sector (image disk sector) by)))
         (front_or (zeros_of (state_in found names backup) line now given) base image disk sector h)
 
     same_or_beside : (disk sector : ℕ) → (image disk sector ≡ base disk sector) ⊎ IsPlaceOn found.disks disk sector
@@ -162,16 +175,19 @@ module _ (found : Found) (names : List (List ℕ)) (backup : Option Backup) (lin
     zeroes_show shows k d within =
         let area : Area × Option Locn = get_or found.areas k d in
         let held : IsHeldOn found.disks area =
-        subst (All (IsHeldOn found.disks)) (sym on.shape.areas) (all_held found.disks (λ pv disk there. (on.shape.disks pv disk there).0)) k d within
+        subst (All (IsHeldOn found.disks)) (sym on.shape.areas) (all_held found.disks (λ pv disk there. (on.shape.disks pv disk there).0)) k
+            d within
         in
         let first : ℕ = area.0.start / 512 + 0 in
         let ring : 1536 ≤ area.0.size = (on.shape.take k d within).0.has_ring in
         ⊎_elim
         (λ same. subst (Names area.0 area.1) (sym same) (shows k d within))
-        (λ place. absurd (beside_areas found.disks (λ pv disk there. (on.shape.disks pv disk there).0) area.0.pv first place area held refl (omega arith) (omega (arith, ring))))
+        (λ place. absurd (beside_areas found.disks (λ pv disk there. (on.shape.disks pv disk there).0) area.0.pv first place area held refl
+            (omega arith) (omega (arith, ring))))
         (same_or_beside area.0.pv first)
 
-module _ (base : Image) (sizes : List ℕ) (found : Found) (names : List (List ℕ)) (backup : Option Backup) (line : Line) (now : ℕ) (given : List Part) (p : CanCarryOut base sizes found names backup line now given) where
+module _ (base : Image) (sizes : List ℕ) (found : Found) (names : List (List ℕ)) (backup : Option Backup) (line : Line) (now : ℕ)
+    (given : List Part) (p : CanCarryOut base sizes found names backup line now given) where
   planned_on : IsPlannedOn found names backup line now given
   planned_on = record {
     shape = p.shape;
@@ -191,7 +207,8 @@ module _ (base : Image) (sizes : List ℕ) (found : Found) (names : List (List �
     pub zeroes_scan : IsScanOf image sizes found
     zeroes_scan = scan_kept base image sizes found p.shape (same_or_beside found names backup line now given planned_on base image h) p.scan
 
-    pub zeroes_keep_places : (group : Group) → found.group ≡ Some group → (lv sector : ℕ) (at : At) → primary group lv sector ≡ Some at → at_place image found.disk_of at ≡ at_place base found.disk_of at
+    pub zeroes_keep_places : (group : Group) → found.group ≡ Some group → (lv sector : ℕ) (at : At) → primary group lv sector ≡ Some at
+        → at_place image found.disk_of at ≡ at_place base found.disk_of at
     zeroes_keep_places group is lv sector at there =
         ⊎_elim
         (λ same. same)
@@ -203,16 +220,21 @@ module _ (base : Image) (sizes : List ℕ) (found : Found) (names : List (List �
 
   -- ---- one on the way of the batches behind them
 
-  module _ (image : Image) (h : HasFirstBatches (batches_of (state_in found names backup) line now given) (with_batches (zeros_of (state_in found names backup) line now given) base) image) where
-    outside : (disk sector : ℕ) → in_spans (change_of (state_in found names backup) line now given).zero disk sector ≡ true → All (KeepsSector disk sector) (batches_of (state_in found names backup) line now given)
+  module _ (image : Image) (h : HasFirstBatches (batches_of (state_in found names backup) line now given)
+      (with_batches (zeros_of (state_in found names backup) line now given) base) image) where
+    outside : (disk sector : ℕ) → in_spans (change_of (state_in found names backup) line now given).zero disk sector ≡ true
+        → All (KeepsSector disk sector) (batches_of (state_in found names backup) line now given)
     outside disk sector is =
         let l = zeroes_lie disk sector is in
         let lies : LiesInExtents l.0 found.disk_of disk sector = l.2.lies in
         subst (λ (n : ℕ). All (KeepsSector n sector) (batches_of (state_in found names backup) line now given)) lies.disk_is
-        (subst (λ (n : ℕ). All (KeepsSector (slice_index found.disk_of lies.at.pv) n) (batches_of (state_in found names backup) line now given)) lies.sector_is
+        (subst (λ (n : ℕ). All (KeepsSector (slice_index found.disk_of lies.at.pv) n)
+            (batches_of (state_in found names backup) line now given)) lies.sector_is
         (extent_outside base sizes found names backup line now given p l.0 l.1 lies.at lies.extents))
 
-    pub zeroes_kept : (disk sector : ℕ) → in_spans (change_of (state_in found names backup) line now given).zero disk sector ≡ true → image disk sector ≡ zeros
+    pub zeroes_kept : (disk sector : ℕ) → in_spans (change_of (state_in found names backup) line now given).zero disk sector ≡ true
+        → image disk sector ≡ zeros
     zeroes_kept disk sector is =
-        front_kept (batches_of (state_in found names backup) line now given) (with_batches (zeros_of (state_in found names backup) line now given) base) image disk sector (outside disk sector is) h
+        front_kept (batches_of (state_in found names backup) line now given)
+            (with_batches (zeros_of (state_in found names backup) line now given) base) image disk sector (outside disk sector is) h
         ∙ batch_written (change_of (state_in found names backup) line now given).zero base disk sector is

@@ -1,5 +1,6 @@
 -- What a scan of the disks finds in every image on the way of a line's change, and that volumes keep their contents.
-use Rattle.std.specs.Prelude.{◌≡◌, ◌≢◌, ◌≤◌, ◌<◌, ◌⊎◌, ℕ, ◌^◌, ◌+◌, ◌*◌, ◌==◌, Bool, true, false, IsTrue, if◌then◌else◌, List, [], length, take, replicate, slice_get, slice_index, filter_map, flat_map, map, option_map, All, Option, None, Some}
+use Rattle.std.specs.Prelude.{◌≡◌, ◌≢◌, ◌≤◌, ◌<◌, ◌⊎◌, ℕ, ◌^◌, ◌+◌, ◌*◌, ◌==◌, Bool, true, false, IsTrue, if◌then◌else◌, List, [], length,
+    take, replicate, slice_get, slice_index, filter_map, flat_map, map, option_map, All, Option, None, Some}
 use Rattle.std.specs.FinSet as set
 use Rattle.std.specs.List.{enumerate_from, list_any, range_with_len}
 use Rattle.sector_base.specs.Spans.{covers}
@@ -36,7 +37,8 @@ use Rattle.image_scans.specs.Versions.{FindsVersion, Version, version_in}
 -- what was found of this image is whole, and nothing is stale or stray on its disks, which have these names; the backup is what
 -- the line's text gives, if it restores a group; the line takes these parts, no row refuses it with them at this time, and it
 -- keeps images as a line does whose batches were begun
-pub record CanCarryOut (base : Image) (sizes : List ℕ) (found : Found) (names : List (List ℕ)) (backup : Option Backup) (line : Line) (now : ℕ) (given : List Part) : Type 0 where
+pub record CanCarryOut (base : Image) (sizes : List ℕ) (found : Found) (names : List (List ℕ)) (backup : Option Backup) (line : Line)
+    (now : ℕ) (given : List Part) : Type 0 where
   pub scan : IsScanOf base sizes found
   pub shape : HasShape found
   pub whole : IsWhole found
@@ -67,7 +69,8 @@ version_of group change = record { group = group; disk_of = change.disk_of }
 -- get a label
 abbrev pub FindsOnTheWay : List ℕ → Image → Found → Change → Option Group → Type 0
 FindsOnTheWay sizes image found change None = FindsVersion sizes image (is_labelled change.labels) (version_in found)
-FindsOnTheWay sizes image found change (Some group) = FindsVersion sizes image none_out (version_in found) ⊎ FindsVersion sizes image none_out (Some (version_of group change))
+FindsOnTheWay sizes image found change (Some group) =
+    FindsVersion sizes image none_out (version_in found) ⊎ FindsVersion sizes image none_out (Some (version_of group change))
 
 -- once all is written: the new version, or the one that was found where no group is committed
 abbrev pub FindsAtEnd : List ℕ → Image → Found → Change → Option Group → Type 0
@@ -79,27 +82,35 @@ FindsAtEnd sizes image found change (Some group) = FindsVersion sizes image none
 -- the image that was scanned has the version that was found
 abbrev pub BaseScans : Type 0
 BaseScans =
-    (base : Image) (sizes : List ℕ) (found : Found) → IsScanOf base sizes found → IsWhole found → FindsVersion sizes base none_out (version_in found)
+    (base : Image) (sizes : List ℕ) (found : Found) → IsScanOf base sizes found → IsWhole found
+        → FindsVersion sizes base none_out (version_in found)
 
 -- every image on the way of the line's batches
 abbrev pub ImagesScan : Type 0
 ImagesScan =
-    (base image : Image) (sizes : List ℕ) (found : Found) (names : List (List ℕ)) (backup : Option Backup) (line : Line) (now : ℕ) (given : List Part) → CanCarryOut base sizes found names backup line now given
+    (base image : Image) (sizes : List ℕ) (found : Found) (names : List (List ℕ)) (backup : Option Backup) (line : Line) (now : ℕ)
+        (given : List Part) → CanCarryOut base sizes found names backup line now given
     → HasFirstBatches (batches_of (state_in found names backup) line now given) base image
-    → FindsOnTheWay sizes image found (change_of (state_in found names backup) line now given) (change_of (state_in found names backup) line now given).group
+    → FindsOnTheWay sizes image found (change_of (state_in found names backup) line now given)
+    (change_of (state_in found names backup) line now given).group
 
 -- every image of a commit whose last batch wasn't begun has the version that was found
 abbrev pub UnpublishedScans : Type 0
 UnpublishedScans =
-    (base image : Image) (sizes : List ℕ) (found : Found) (names : List (List ℕ)) (backup : Option Backup) (line : Line) (now : ℕ) (given : List Part) (n : ℕ) (group : Group) → CanCarryOut base sizes found names backup line now given
-    → (change_of (state_in found names backup) line now given).group ≡ Some group → n < length (batches_of (state_in found names backup) line now given) → HasFirstBatches (take n (batches_of (state_in found names backup) line now given)) base image
+    (base image : Image) (sizes : List ℕ) (found : Found) (names : List (List ℕ)) (backup : Option Backup) (line : Line) (now : ℕ)
+        (given : List Part) (n : ℕ) (group : Group) → CanCarryOut base sizes found names backup line now given
+    → (change_of (state_in found names backup) line now given).group ≡ Some group
+    → n < length (batches_of (state_in found names backup) line now given)
+    → HasFirstBatches (take n (batches_of (state_in found names backup) line now given)) base image
     → FindsVersion sizes image none_out (version_in found)
 
 -- the image with all of them
 abbrev pub LastScans : Type 0
 LastScans =
-    (base : Image) (sizes : List ℕ) (found : Found) (names : List (List ℕ)) (backup : Option Backup) (line : Line) (now : ℕ) (given : List Part) → CanCarryOut base sizes found names backup line now given
-    → FindsAtEnd sizes (with_batches (batches_of (state_in found names backup) line now given) base) found (change_of (state_in found names backup) line now given) (change_of (state_in found names backup) line now given).group
+    (base : Image) (sizes : List ℕ) (found : Found) (names : List (List ℕ)) (backup : Option Backup) (line : Line) (now : ℕ)
+        (given : List Part) → CanCarryOut base sizes found names backup line now given
+    → FindsAtEnd sizes (with_batches (batches_of (state_in found names backup) line now given) base) found
+    (change_of (state_in found names backup) line now given) (change_of (state_in found names backup) line now given).group
 
 -- ---- volumes
 
@@ -110,7 +121,8 @@ place_of group disk_of lv sector = option_map (λ (at : At). (slice_index disk_o
 -- those of all sectors of the volume with this number, where it is visible
 abbrev pub places_in : Group → List ℕ → ℕ × (List ℕ × Lv) → List (ℕ × ℕ)
 places_in group disk_of lv =
-    if lv.1.1.status.visible then filter_map (place_of group disk_of lv.0) (range_with_len 0 (extents_of lv.1.1 * group.extent_size)) else []
+    if lv.1.1.status.visible then filter_map (place_of group disk_of lv.0) (range_with_len 0 (extents_of lv.1.1 * group.extent_size))
+        else []
 
 -- those of all visible volumes
 abbrev pub visible_places : Group → List ℕ → List (ℕ × ℕ)
@@ -123,21 +135,26 @@ IsOutside batch place = writes_at (map write_work batch) place.0 place.1 ≡ fal
 -- no write of the line covers a primary place of a visible volume of the group that was found
 abbrev pub PlacesAreOutside : Type 0
 PlacesAreOutside =
-    (base : Image) (sizes : List ℕ) (found : Found) (names : List (List ℕ)) (backup : Option Backup) (line : Line) (now : ℕ) (given : List Part) (group : Group) → CanCarryOut base sizes found names backup line now given → found.group ≡ Some group
-    → All (λ (batch : List Put). All (IsOutside batch) (visible_places group found.disk_of)) (batches_of (state_in found names backup) line now given)
+    (base : Image) (sizes : List ℕ) (found : Found) (names : List (List ℕ)) (backup : Option Backup) (line : Line) (now : ℕ)
+        (given : List Part) (group : Group) → CanCarryOut base sizes found names backup line now given → found.group ≡ Some group
+    → All (λ (batch : List Put). All (IsOutside batch) (visible_places group found.disk_of))
+    (batches_of (state_in found names backup) line now given)
 
 -- so in every image on the way each such place has what it has in the base
 abbrev pub PlacesAreKept : Type 0
 PlacesAreKept =
-    (base image : Image) (sizes : List ℕ) (found : Found) (names : List (List ℕ)) (backup : Option Backup) (line : Line) (now : ℕ) (given : List Part) (group : Group) → CanCarryOut base sizes found names backup line now given → found.group ≡ Some group
+    (base image : Image) (sizes : List ℕ) (found : Found) (names : List (List ℕ)) (backup : Option Backup) (line : Line) (now : ℕ)
+        (given : List Part) (group : Group) → CanCarryOut base sizes found names backup line now given → found.group ≡ Some group
     → HasFirstBatches (batches_of (state_in found names backup) line now given) base image
     → (lv sector : ℕ) (at : At) → primary group lv sector ≡ Some at → at_place image found.disk_of at ≡ at_place base found.disk_of at
 
 -- and its visible volumes have their contents
 abbrev pub ViewIsKept : Type 0
 ViewIsKept =
-    (base image : Image) (sizes : List ℕ) (found : Found) (names : List (List ℕ)) (backup : Option Backup) (line : Line) (now : ℕ) (given : List Part) (group : Group) → CanCarryOut base sizes found names backup line now given → found.group ≡ Some group
-    → HasFirstBatches (batches_of (state_in found names backup) line now given) base image → view image group found.disk_of ≡ view base group found.disk_of
+    (base image : Image) (sizes : List ℕ) (found : Found) (names : List (List ℕ)) (backup : Option Backup) (line : Line) (now : ℕ)
+        (given : List Part) (group : Group) → CanCarryOut base sizes found names backup line now given → found.group ≡ Some group
+    → HasFirstBatches (batches_of (state_in found names backup) line now given) base image
+    → view image group found.disk_of ≡ view base group found.disk_of
 
 -- ---- zeros
 
@@ -166,58 +183,73 @@ in_spans spans disk sector = list_any (λ (span : Span). covers span disk sector
 
 -- each sector that the change zeroes is free in the group that was found
 abbrev pub ZeroesLie : Found → Change → Type 0
-ZeroesLie found change = (disk sector : ℕ) → IsTrue (in_spans change.zero disk sector) → (group : Group) × (found.group ≡ Some group) × IsFree group found.disk_of disk sector
+ZeroesLie found change =
+    (disk sector : ℕ) → IsTrue (in_spans change.zero disk sector)
+        → (group : Group) × (found.group ≡ Some group) × IsFree group found.disk_of disk sector
 
 -- so it is of a line
 abbrev pub LineZeroesLie : Type 0
 LineZeroesLie =
-    (base : Image) (sizes : List ℕ) (found : Found) (names : List (List ℕ)) (backup : Option Backup) (line : Line) (now : ℕ) (given : List Part) → CanCarryOut base sizes found names backup line now given
+    (base : Image) (sizes : List ℕ) (found : Found) (names : List (List ℕ)) (backup : Option Backup) (line : Line) (now : ℕ)
+        (given : List Part) → CanCarryOut base sizes found names backup line now given
     → ZeroesLie found (change_of (state_in found names backup) line now given)
 
 -- every image on the way of the zeros: a scan finds the same as before
 abbrev pub ZeroesScan : Type 0
 ZeroesScan =
-    (base image : Image) (sizes : List ℕ) (found : Found) (names : List (List ℕ)) (backup : Option Backup) (line : Line) (now : ℕ) (given : List Part) → CanCarryOut base sizes found names backup line now given
+    (base image : Image) (sizes : List ℕ) (found : Found) (names : List (List ℕ)) (backup : Option Backup) (line : Line) (now : ℕ)
+        (given : List Part) → CanCarryOut base sizes found names backup line now given
     → HasFirstBatches (zeros_of (state_in found names backup) line now given) base image → IsScanOf image sizes found
 
 -- and each primary place of a volume has what it has in the base
 abbrev pub ZeroesKeepPlaces : Type 0
 ZeroesKeepPlaces =
-    (base image : Image) (sizes : List ℕ) (found : Found) (names : List (List ℕ)) (backup : Option Backup) (line : Line) (now : ℕ) (given : List Part) (group : Group) → CanCarryOut base sizes found names backup line now given → found.group ≡ Some group
+    (base image : Image) (sizes : List ℕ) (found : Found) (names : List (List ℕ)) (backup : Option Backup) (line : Line) (now : ℕ)
+        (given : List Part) (group : Group) → CanCarryOut base sizes found names backup line now given → found.group ≡ Some group
     → HasFirstBatches (zeros_of (state_in found names backup) line now given) base image
     → (lv sector : ℕ) (at : At) → primary group lv sector ≡ Some at → at_place image found.disk_of at ≡ at_place base found.disk_of at
 
 -- in every image on the way of the batches behind them each sector of the zeros has them
 abbrev pub ZeroesAreKept : Type 0
 ZeroesAreKept =
-    (base image : Image) (sizes : List ℕ) (found : Found) (names : List (List ℕ)) (backup : Option Backup) (line : Line) (now : ℕ) (given : List Part) → CanCarryOut base sizes found names backup line now given
-    → HasFirstBatches (batches_of (state_in found names backup) line now given) (with_batches (zeros_of (state_in found names backup) line now given) base) image
-    → (disk sector : ℕ) → IsTrue (in_spans (change_of (state_in found names backup) line now given).zero disk sector) → image disk sector ≡ replicate 512 0
+    (base image : Image) (sizes : List ℕ) (found : Found) (names : List (List ℕ)) (backup : Option Backup) (line : Line) (now : ℕ)
+        (given : List Part) → CanCarryOut base sizes found names backup line now given
+    → HasFirstBatches (batches_of (state_in found names backup) line now given)
+    (with_batches (zeros_of (state_in found names backup) line now given) base) image
+    → (disk sector : ℕ) → IsTrue (in_spans (change_of (state_in found names backup) line now given).zero disk sector)
+    → image disk sector ≡ replicate 512 0
 
 -- ---- disks that are cleared
 
 -- every image while disks are cleared behind a commit has the new version
 abbrev pub ClearsScan : Type 0
 ClearsScan =
-    (base image : Image) (sizes : List ℕ) (found : Found) (names : List (List ℕ)) (backup : Option Backup) (line : Line) (now : ℕ) (given : List Part) (group : Group) → CanCarryOut base sizes found names backup line now given
-    → (change_of (state_in found names backup) line now given).group ≡ Some group → HasFirstBatches (clears_of (state_in found names backup) line now given) (with_batches (batches_of (state_in found names backup) line now given) base) image
+    (base image : Image) (sizes : List ℕ) (found : Found) (names : List (List ℕ)) (backup : Option Backup) (line : Line) (now : ℕ)
+        (given : List Part) (group : Group) → CanCarryOut base sizes found names backup line now given
+    → (change_of (state_in found names backup) line now given).group ≡ Some group
+    → HasFirstBatches (clears_of (state_in found names backup) line now given)
+    (with_batches (batches_of (state_in found names backup) line now given) base) image
     → FindsVersion sizes image none_out (Some (version_of group (change_of (state_in found names backup) line now given)))
 
 -- and each primary place of the group that was found has what it had before, whatever that is
 abbrev pub ClearsKeepPlaces : Type 0
 ClearsKeepPlaces =
-    (base mid image : Image) (sizes : List ℕ) (found : Found) (names : List (List ℕ)) (backup : Option Backup) (line : Line) (now : ℕ) (given : List Part) (group : Group) → CanCarryOut base sizes found names backup line now given → found.group ≡ Some group
+    (base mid image : Image) (sizes : List ℕ) (found : Found) (names : List (List ℕ)) (backup : Option Backup) (line : Line) (now : ℕ)
+        (given : List Part) (group : Group) → CanCarryOut base sizes found names backup line now given → found.group ≡ Some group
     → HasFirstBatches (clears_of (state_in found names backup) line now given) mid image
     → (lv sector : ℕ) (at : At) → primary group lv sector ≡ Some at → at_place image found.disk_of at ≡ at_place mid found.disk_of at
 
 -- every image while a vgremove clears the disks of the group has the version that was found, or none
 abbrev pub RemovalScans : Type 0
 RemovalScans =
-    (base image : Image) (sizes : List ℕ) (found : Found) (names : List (List ℕ)) (backup : Option Backup) (line : Line) (now : ℕ) (given : List Part) (vg : List ℕ) → CanCarryOut base sizes found names backup line now given → line.command ≡ Vgremove vg
-    → HasFirstBatches (clears_of (state_in found names backup) line now given) base image → FindsVersion sizes image none_out (version_in found) ⊎ FindsVersion sizes image none_out None
+    (base image : Image) (sizes : List ℕ) (found : Found) (names : List (List ℕ)) (backup : Option Backup) (line : Line) (now : ℕ)
+        (given : List Part) (vg : List ℕ) → CanCarryOut base sizes found names backup line now given → line.command ≡ Vgremove vg
+    → HasFirstBatches (clears_of (state_in found names backup) line now given) base image
+    → FindsVersion sizes image none_out (version_in found) ⊎ FindsVersion sizes image none_out None
 
 -- and once all is written there is none
 abbrev pub RemovedScans : Type 0
 RemovedScans =
-    (base : Image) (sizes : List ℕ) (found : Found) (names : List (List ℕ)) (backup : Option Backup) (line : Line) (now : ℕ) (given : List Part) (vg : List ℕ) → CanCarryOut base sizes found names backup line now given → line.command ≡ Vgremove vg
+    (base : Image) (sizes : List ℕ) (found : Found) (names : List (List ℕ)) (backup : Option Backup) (line : Line) (now : ℕ)
+        (given : List Part) (vg : List ℕ) → CanCarryOut base sizes found names backup line now given → line.command ≡ Vgremove vg
     → FindsVersion sizes (with_batches (clears_of (state_in found names backup) line now given) base) none_out None

@@ -1,6 +1,7 @@
 -- Once a commit is done, and disks are cleared behind it, each copy on any disk is that of the new group, so no set of disks finds
 -- another.
-use Rattle.std.proofs.Common.{◌≡◌, ◌≢◌, ◌<◌, ℕ, ◌+◌, true, false, List, [], length, get_or, Option, Some, None, ⊎_elim, refl, sym, ap, subst, ◌∙◌, arith}
+use Rattle.std.proofs.Common.{◌≡◌, ◌≢◌, ◌<◌, ℕ, ◌+◌, true, false, List, [], length, get_or, Option, Some, None, ⊎_elim, refl, sym, ap,
+    subst, ◌∙◌, arith}
 use Rattle.std.specs.Prelude.{All, Contains, slice_get}
 use Rattle.std.specs.FinSet as set
 use Rattle.std.specs.Ordering.{nat_cmp}
@@ -60,7 +61,8 @@ use Rattle.line_history.specs.EachSet.{EachMemberFinds}
 none_given : (group : Group) (r : AreaReading) → IsNone r → GivesOnly group r
 none_given group r is = subst (GivesOnly group) (sym is) tt
 
-module _ (base : Image) (sizes : List ℕ) (found : Found) (names : List (List ℕ)) (backup : Option Backup) (line : Line) (now : ℕ) (given : List Part) (p : CanCarryOut base sizes found names backup line now given) where
+module _ (base : Image) (sizes : List ℕ) (found : Found) (names : List (List ℕ)) (backup : Option Backup) (line : Line) (now : ℕ)
+    (given : List Part) (p : CanCarryOut base sizes found names backup line now given) where
   abbrev state : GroupState
   state = state_in found names backup
 
@@ -84,8 +86,10 @@ module _ (base : Image) (sizes : List ℕ) (found : Found) (names : List (List �
   all_cleared = all_written (clears_of state line now given) committed
 
   -- on a disk that isn't cleared nothing is written behind the commit
-  uncleared_same : (image : Image) → HasFirstBatches (clears_of state line now given) committed image → (k : ℕ) → set.contains change.cleared k ≡ false → (sector : ℕ) → image k sector ≡ committed k sector
-  uncleared_same image way k uncleared sector = others_same found.disks found.areas scanned change.cleared p.keeps.clears committed image way k uncleared sector
+  uncleared_same : (image : Image) → HasFirstBatches (clears_of state line now given) committed image → (k : ℕ)
+      → set.contains change.cleared k ≡ false → (sector : ℕ) → image k sector ≡ committed k sector
+  uncleared_same image way k uncleared sector =
+      others_same found.disks found.areas scanned change.cleared p.keeps.clears committed image way k uncleared sector
 
   module _ (c : Commits found state change) where
     abbrev group : Group
@@ -107,19 +111,25 @@ module _ (base : Image) (sizes : List ℕ) (found : Found) (names : List (List �
     all_new : All IsNew state.areas
     all_new =
         of_passed (is_on (set_of change.disk_of)) (ShowsBy (new_reading text) committed) state.areas
-        (subst (λ (g : Option Group). HoldsAfter g now change state.areas committed) c.makes.made (p.keeps.found base (shown base sizes found names backup line now given p)).areas)
+        (subst (λ (g : Option Group). HoldsAfter g now change state.areas committed) c.makes.made
+            (p.keeps.found base (shown base sizes found names backup line now given p)).areas)
 
     apart : ClearsOthers change
-    apart = clears_others found names backup p.shape p.whole p.scan.readings (settled base sizes found names backup line now given p) line.number line.id now given line.command p.planned p.passes group c.makes
+    apart =
+        clears_others found names backup p.shape p.whole p.scan.readings (settled base sizes found names backup line now given p)
+            line.number line.id now given line.command p.planned p.passes group c.makes
 
-    module _ (k : ℕ) (disk : Disk) (reading : Reading) (at_disk : slice_get found.disks k ≡ Some disk) (at_reading : slice_get p.scan.readings k ≡ Some reading) (reads : IsDiskReading k (base k) disk reading) (is_read : disk.contents ≡ None → ⊥) where
+    module _ (k : ℕ) (disk : Disk) (reading : Reading) (at_disk : slice_get found.disks k ≡ Some disk)
+        (at_reading : slice_get p.scan.readings k ≡ Some reading) (reads : IsDiskReading k (base k) disk reading)
+        (is_read : disk.contents ≡ None → ⊥) where
       -- ---- a disk of the group
 
       again : DiskAgain k (committed k) (lists group) (λ id r. false) new disk reading
       again =
           let zero_less : 0 + k ≡ k = omega arith in
           subst (λ (n : ℕ). DiskAgain n (committed n) (lists group) (λ id r. false) new disk reading) zero_less
-          (disk_reads base sizes found names backup line now given p group c.makes c.next committed all_committed k disk reading at_disk at_reading (subst (λ (n : ℕ). IsDiskReading n (base n) disk reading) (sym zero_less) reads))
+          (disk_reads base sizes found names backup line now given p group c.makes c.next committed all_committed k disk reading at_disk
+              at_reading (subst (λ (n : ℕ). IsDiskReading n (base n) disk reading) (sym zero_less) reads))
 
       module _ (on : set.contains (set_of change.disk_of) k ≡ true) where
         shown_on : All (IsShown text k committed) (areas_on disk.contents)
@@ -127,21 +137,25 @@ module _ (base : Image) (sizes : List ℕ) (found : Found) (names : List (List �
             let area : AreaFound = get_or (areas_on disk.contents) n d in
             let here : held.0.pv ≡ k = ap (λ (a : Area). a.pv) (entry_kept (area_on k area.area) area.entry held is) in
             let zero_less : 0 + k ≡ k = omega arith in
-            of_held IsNew 0 found.disks (subst (All IsNew) (is_state base sizes found names backup line now given p).areas all_new) k disk at_disk n d within held (ap (λ (m : ℕ). held_area m area) zero_less ∙ is)
+            of_held IsNew 0 found.disks (subst (All IsNew) (is_state base sizes found names backup line now given p).areas all_new) k disk
+                at_disk n d within held (ap (λ (m : ℕ). held_area m area) zero_less ∙ is)
             (ap (set.contains (set_of change.disk_of)) here ∙ on)
 
         gives : PvGives (GivesOnly group) again.read.pv
         gives =
-            pv_only text group copy_is k base committed (lists group) (λ id r. false) new disk.contents again.there.contents again.there.sectors reading.pv again.read.pv reads.pv_is again.again again.areas_is again.is.contents again.is.pv_is
+            pv_only text group copy_is k base committed (lists group) (λ id r. false) new disk.contents again.there.contents
+                again.there.sectors reading.pv again.read.pv reads.pv_is again.again again.areas_is again.is.contents again.is.pv_is
             (recursion_from_All (IsShown text k committed) (areas_on disk.contents) shown_on)
 
         uncleared : set.contains change.cleared k ≡ false
         uncleared = false_from_ne_true (set.contains change.cleared k) (λ cleared. true≢false (sym on ∙ apart k cleared))
 
         -- also while others are cleared
-        on_group : (image : Image) → HasFirstBatches (clears_of state line now given) committed image → OneRead k (image k) (GivesOnly group) disk
+        on_group : (image : Image) → HasFirstBatches (clears_of state line now given) committed image
+            → OneRead k (image k) (GivesOnly group) disk
         on_group image way =
-            subst (λ (sector_at : ℕ → List ℕ). OneRead k sector_at (GivesOnly group) disk) (λ i sector. sym (uncleared_same image way k uncleared sector) i)
+            subst (λ (sector_at : ℕ → List ℕ). OneRead k sector_at (GivesOnly group) disk)
+                (λ i sector. sym (uncleared_same image way k uncleared sector) i)
             (read_again k (committed k) (GivesOnly group) (lists group) (λ id r. false) new disk reading again is_read gives)
 
       -- ---- any other
@@ -149,39 +163,56 @@ module _ (base : Image) (sizes : List ℕ) (found : Found) (names : List (List �
       module _ (off : set.contains (set_of change.disk_of) k ≡ false) where
         other_same : (sector : ℕ) → committed k sector ≡ base k sector
         other_same sector =
-            off_disk state (is_state base sizes found names backup line now given p) change group c.makes text (fits base sizes found names backup line now given p group c.makes c.next) (can base sizes found names backup line now given p).labels
-            (lies base sizes found names backup line now given p).differ base (ends base sizes found names backup line now given p group c.makes c.next) committed (front base sizes found names backup line now given p group c.makes c.next committed all_committed) k off sector
+            off_disk state (is_state base sizes found names backup line now given p) change group c.makes text
+                (fits base sizes found names backup line now given p group c.makes c.next)
+                (can base sizes found names backup line now given p).labels
+            (lies base sizes found names backup line now given p).differ base
+                (ends base sizes found names backup line now given p group c.makes c.next) committed
+                (front base sizes found names backup line now given p group c.makes c.next committed all_committed) k off sector
 
         on_cleared : set.contains change.cleared k ≡ true → OneRead k (last k) (GivesOnly group) disk
         on_cleared cleared =
-            cleared_gives found.disks found.areas scanned change.cleared p.keeps.clears base committed (shown base sizes found names backup line now given p) text group [] copy_is k other_same disk at_disk reading reads cleared (GivesOnly group) tt is_read
+            cleared_gives found.disks found.areas scanned change.cleared p.keeps.clears base committed
+                (shown base sizes found names backup line now given p) text group [] copy_is k other_same disk at_disk reading reads cleared
+                (GivesOnly group) tt is_read
 
         on_other : set.contains change.cleared k ≡ false → OneRead k (last k) (GivesOnly group) disk
         on_other uncleared =
-            read_same k (base k) (last k) (GivesOnly group) disk reading (λ sector. uncleared_same last all_cleared k uncleared sector ∙ other_same sector) reads is_read
-            (pv_weaker IsNone (GivesOnly group) (none_given group) reading.pv (nothing_off base sizes found names backup line now given p k disk reading at_disk at_reading reads group c.makes.made off uncleared))
+            read_same k (base k) (last k) (GivesOnly group) disk reading
+                (λ sector. uncleared_same last all_cleared k uncleared sector ∙ other_same sector) reads is_read
+            (pv_weaker IsNone (GivesOnly group) (none_given group) reading.pv
+                (nothing_off base sizes found names backup line now given p k disk reading at_disk at_reading reads group c.makes.made off
+                uncleared))
 
       each : OneRead k (last k) (GivesOnly group) disk
-      each = ⊎_elim (λ on. on_group on last all_cleared) (λ off. ⊎_elim (on_cleared off) (on_other off) (cases_Bool (set.contains change.cleared k))) (cases_Bool (set.contains (set_of change.disk_of) k))
+      each =
+          ⊎_elim (λ on. on_group on last all_cleared)
+              (λ off. ⊎_elim (on_cleared off) (on_other off) (cases_Bool (set.contains change.cleared k)))
+              (cases_Bool (set.contains (set_of change.disk_of) k))
 
     all_give : (unread : set.FinSet nat_cmp) → EachGives base sizes found p.whole p.scan last (λ other. other ≡ group) unread
     all_give unread k disk reading at_disk at_reading reads is_read read = each k disk reading at_disk at_reading reads is_read
 
     -- those of the group do on the way too
     members_give : (image : Image) → HasFirstBatches (clears_of state line now given) committed image → (unread : set.FinSet nat_cmp)
-        → ((k : ℕ) → k < length found.disks → set.contains unread k ≡ false → set.contains (set_of change.disk_of) k ≡ true) → EachGives base sizes found p.whole p.scan image (λ other. other ≡ group) unread
+        → ((k : ℕ) → k < length found.disks → set.contains unread k ≡ false → set.contains (set_of change.disk_of) k ≡ true)
+        → EachGives base sizes found p.whole p.scan image (λ other. other ≡ group) unread
     members_give image way unread members k disk reading at_disk at_reading reads is_read read =
         on_group k disk reading at_disk at_reading reads is_read (members k (slice_get_within found.disks k disk at_disk) read) image way
 
 -- a line that commits a group
-pub commit_finds : OneReading → (base : Image) (sizes : List ℕ) (found : Found) (names : List (List ℕ)) (backup : Option Backup) (line : Line) (now : ℕ) (given : List Part) → CanCarryOut base sizes found names backup line now given → (group : Group)
+pub commit_finds : OneReading → (base : Image) (sizes : List ℕ) (found : Found) (names : List (List ℕ)) (backup : Option Backup)
+    (line : Line) (now : ℕ) (given : List Part) → CanCarryOut base sizes found names backup line now given → (group : Group)
     → (change_of (state_in found names backup) line now given).group ≡ Some group → (some : Found) (other : Group)
-    → IsScanOf (with_batches (clears_of (state_in found names backup) line now given) (with_batches (batches_of (state_in found names backup) line now given) base)) sizes some → some.group ≡ Some other → other ≡ group
-commit_finds one_reading base sizes found names backup line now given p group is some other scan finds = by (line_makes base sizes found names backup line now given p)
+    → IsScanOf (with_batches (clears_of (state_in found names backup) line now given)
+    (with_batches (batches_of (state_in found names backup) line now given) base)) sizes some → some.group ≡ Some other → other ≡ group
+commit_finds one_reading base sizes found names backup line now given p group is some other scan finds =
+    by (line_makes base sizes found names backup line now given p)
   where
     by : LineMakes found (state_in found names backup) (change_of (state_in found names backup) line now given) → other ≡ group
     by (makes_version c) =
-        set_finds base sizes found p.whole p.scan (last base sizes found names backup line now given p) (λ own. own ≡ c.group) one_reading some other (all_give base sizes found names backup line now given p c some.unread) scan finds
+        set_finds base sizes found p.whole p.scan (last base sizes found names backup line now given p) (λ own. own ≡ c.group) one_reading
+            some other (all_give base sizes found names backup line now given p c some.unread) scan finds
         ∙ same_Some c.group group (sym c.makes.made ∙ is)
     by (makes_pv m) = absurd (let e : ◌≡◌ {A = Option Group} None (Some group) = sym m.none ∙ is in cc)
     by (makes_nothing none labels) = absurd (let e : ◌≡◌ {A = Option Group} None (Some group) = sym none ∙ is in cc)
@@ -190,19 +221,22 @@ commit_finds one_reading base sizes found names backup line now given p group is
 member_there : (numbers : List ℕ) (k : ℕ) → Contains numbers k → set.contains (set_of numbers) k ≡ true
 member_there numbers k has =
     ⊎_elim (λ there. there)
-    (λ off. absurd (All-contains (λ n. n ≢ k) numbers k (All-from_recursion (λ n. n ≢ k) numbers (absent set.empty numbers k off).1) has refl))
+    (λ off. absurd (All-contains (λ n. n ≢ k) numbers k (All-from_recursion (λ n. n ≢ k) numbers (absent set.empty numbers k off).1) has
+        refl))
     (cases_Bool (set.contains (set_of numbers) k))
 
 -- the disks of the group, also while others are cleared
 pub members_find : OneReading → EachMemberFinds
-members_find one_reading base image sizes found names backup line now given group p is way some other scan members finds = by (line_makes base sizes found names backup line now given p)
+members_find one_reading base image sizes found names backup line now given group p is way some other scan members finds =
+    by (line_makes base sizes found names backup line now given p)
   where
     change : Change
     change = change_of (state_in found names backup) line now given
 
     are_members : (k : ℕ) → k < length found.disks → set.contains some.unread k ≡ false → set.contains (set_of change.disk_of) k ≡ true
     are_members k within read =
-        let many : length found.disks ≡ length sizes = sym (length-map found.disks (λ (d : Disk). d.sectors)) ∙ ap (λ (l : List ℕ). length l) p.scan.are.sizes_is in
+        let many : length found.disks ≡ length sizes =
+            sym (length-map found.disks (λ (d : Disk). d.sectors)) ∙ ap (λ (l : List ℕ). length l) p.scan.are.sizes_is in
         member_there change.disk_of k (members k (omega (arith, within, many)) read)
 
     by : LineMakes found (state_in found names backup) change → other ≡ group

@@ -31,12 +31,14 @@ one_image a b same = fun_ext (λ pv. fun_ext (λ sector. same pv sector))
 
 -- where each sector has one possible value an image is that
 pub image_of_base : (told : Record) (base image : Image) → IsBase told base → IsImage told image → image ≡ base
-image_of_base told base image base_is is = one_image image base (λ pv sector. let left = is pv sector in (base_is pv sector).each left.0 (image pv sector) left.1)
+image_of_base told base image base_is is =
+    one_image image base (λ pv sector. let left = is pv sector in (base_is pv sector).each left.0 (image pv sector) left.1)
 
 -- the places of the volumes of the group that was found have what they have in the base
 abbrev pub KeepsPlaces : Given → Image → Type 0
 KeepsPlaces g image =
-    (group : Group) → g.found.group ≡ Some group → (lv sector : ℕ) (at : At) → primary group lv sector ≡ Some at → at_place image g.found.disk_of at ≡ at_place g.base g.found.disk_of at
+    (group : Group) → g.found.group ≡ Some group → (lv sector : ℕ) (at : At) → primary group lv sector ≡ Some at
+        → at_place image g.found.disk_of at ≡ at_place g.base g.found.disk_of at
 
 -- the base and all of the repair
 abbrev pub repaired_base : Given → Image
@@ -51,7 +53,8 @@ module _ (scans : RepairedScans) (g : Given) (stage : Stage) (start ended : Reco
   found_before = base_scans g.base g.sizes g.found r.given.scan r.given.whole
 
   can_repair : repair_begun stage ≡ true → CanRepair g.base g.sizes g.found
-  can_repair begun = record { scan = r.given.scan; shape = r.given.shape; whole = r.given.whole; fits = r.fits begun; keeps = r.repair_keeps begun }
+  can_repair begun =
+      record { scan = r.given.scan; shape = r.given.shape; whole = r.given.whole; fits = r.fits begun; keeps = r.repair_keeps begun }
 
   pub finds_before : (image : Image) → IsBefore g stage start ended r image → FindsVersion g.sizes image none_out (version_in g.found)
   finds_before image is =
@@ -86,12 +89,14 @@ module _ (scans : RepairedScans) (g : Given) (stage : Stage) (start ended : Reco
     same_version = version_kept g.found
 
     kept_start : KeepsPlaces g (repaired_base g)
-    kept_start group there lv sector at is_at = repair_keeps g.base g.sizes g.found (can_repair begun) group there lv sector at is_at (repaired_base g) all_repaired
+    kept_start group there lv sector at is_at =
+        repair_keeps g.base g.sizes g.found (can_repair begun) group there lv sector at is_at (repaired_base g) all_repaired
 
     -- ---- and its zeros were begun
     module _ (zeros : zeros_begun stage ≡ true) where
       -- the line can be carried out on any base of which a scan finds that
-      can_on : (base : Image) → IsScanOf base g.sizes (repaired_of g.found) → CanCarryOut base g.sizes (repaired_of g.found) g.names g.backup g.line g.clock g.given
+      can_on : (base : Image) → IsScanOf base g.sizes (repaired_of g.found)
+          → CanCarryOut base g.sizes (repaired_of g.found) g.names g.backup g.line g.clock g.given
       can_on base scan = record {
         scan = scan;
         shape = r.repaired_shape repaired;
@@ -113,7 +118,8 @@ module _ (scans : RepairedScans) (g : Given) (stage : Stage) (start ended : Reco
 
       -- on their way the same is found
       scan_zeroing : (image : Image) → HasFirstBatches (zeros_in g) (repaired_base g) image → IsScanOf image g.sizes (repaired_of g.found)
-      scan_zeroing image way = zeroes_scan (repaired_base g) g.sizes (repaired_of g.found) g.names g.backup g.line g.clock g.given can_start image way
+      scan_zeroing image way =
+          zeroes_scan (repaired_base g) g.sizes (repaired_of g.found) g.names g.backup g.line g.clock g.given can_start image way
 
       all_zeroed : HasFirstBatches (zeros_in g) (repaired_base g) (zeroed_base g)
       all_zeroed = all_written (zeros_in g) (repaired_base g)
@@ -125,33 +131,40 @@ module _ (scans : RepairedScans) (g : Given) (stage : Stage) (start ended : Reco
       pub can_carry_out : CanCarryOut (zeroed_base g) g.sizes (repaired_of g.found) g.names g.backup g.line g.clock g.given
       can_carry_out = can_on (zeroed_base g) scan_zeroed
 
-      finds_scanned : (image : Image) → IsScanOf image g.sizes (repaired_of g.found) → FindsVersion g.sizes image none_out (version_in g.found)
-      finds_scanned image scan = subst (λ (v : Option Version). FindsVersion g.sizes image none_out v) same_version (base_scans image g.sizes (repaired_of g.found) scan (r.repaired_whole repaired))
+      finds_scanned : (image : Image) → IsScanOf image g.sizes (repaired_of g.found)
+          → FindsVersion g.sizes image none_out (version_in g.found)
+      finds_scanned image scan =
+          subst (λ (v : Option Version). FindsVersion g.sizes image none_out v) same_version
+              (base_scans image g.sizes (repaired_of g.found) scan (r.repaired_whole repaired))
 
       pub finds_zeroed : FindsVersion g.sizes (zeroed_base g) none_out (version_in g.found)
       finds_zeroed = finds_scanned (zeroed_base g) scan_zeroed
 
       kept_on_way : (image : Image) → HasFirstBatches (zeros_in g) (repaired_base g) image → KeepsPlaces g image
       kept_on_way image way group there lv sector at is_at =
-          zeroes_keep_places (repaired_base g) g.sizes (repaired_of g.found) g.names g.backup g.line g.clock g.given can_start image way group there lv sector at is_at ∙ kept_start group there lv sector at is_at
+          zeroes_keep_places (repaired_base g) g.sizes (repaired_of g.found) g.names g.backup g.line g.clock g.given can_start image way
+              group there lv sector at is_at ∙ kept_start group there lv sector at is_at
 
       -- behind the zeros an image on the way of the line keeps the places too
       pub kept_after : (image : Image) → IsAfter g stage start ended r image → KeepsPlaces g image
       kept_after image way group there lv sector at is_at =
-          place_kept (zeroed_base g) g.sizes (repaired_of g.found) g.names g.backup g.line g.clock g.given can_carry_out group there image way lv sector at is_at
+          place_kept (zeroed_base g) g.sizes (repaired_of g.found) g.names g.backup g.line g.clock g.given can_carry_out group there image
+              way lv sector at is_at
           ∙ kept_on_way (zeroed_base g) all_zeroed group there lv sector at is_at
 
     -- until the zeros are written
     pub finds_zeroing : (image : Image) → IsZeroing g stage start ended r image → FindsVersion g.sizes image none_out (version_in g.found)
     finds_zeroing image is =
         ⊎_elim
-        (λ same. subst (λ (i : Image). FindsVersion g.sizes i none_out (version_in g.found)) (sym (one_image image (repaired_base g) same)) finds_start)
+        (λ same. subst (λ (i : Image). FindsVersion g.sizes i none_out (version_in g.found)) (sym (one_image image (repaired_base g) same))
+            finds_start)
         (λ way. finds_scanned way.0 image (scan_zeroing way.0 image way.1))
         is
 
     pub kept_zeroing : (image : Image) → IsZeroing g stage start ended r image → KeepsPlaces g image
     kept_zeroing image is group there lv sector at is_at =
         ⊎_elim
-        (λ same. ap (λ (i : Image). at_place i g.found.disk_of at) (one_image image (repaired_base g) same) ∙ kept_start group there lv sector at is_at)
+        (λ same. ap (λ (i : Image). at_place i g.found.disk_of at) (one_image image (repaired_base g) same)
+            ∙ kept_start group there lv sector at is_at)
         (λ way. kept_on_way way.0 image way.1 group there lv sector at is_at)
         is

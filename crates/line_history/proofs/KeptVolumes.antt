@@ -24,14 +24,18 @@ StandFrom group number rows = (k : ℕ) (row : List ℕ × Lv) → slice_get row
 pub all_stand : (group : Group) → StandFrom group 0 group.lvs
 all_stand group k row is = subst (λ (n : ℕ). slice_get group.lvs n ≡ Some row) (omega arith) is
 
-pub first_stands : (group : Group) (number : ℕ) (row : List ℕ × Lv) (rows : List (List ℕ × Lv)) → StandFrom group number (row ∷ rows) → slice_get group.lvs number ≡ Some row
+pub first_stands : (group : Group) (number : ℕ) (row : List ℕ × Lv) (rows : List (List ℕ × Lv)) → StandFrom group number (row ∷ rows)
+    → slice_get group.lvs number ≡ Some row
 first_stands group number row rows stand = subst (λ (n : ℕ). slice_get group.lvs n ≡ Some row) (omega arith) (stand zero row refl)
 
-pub rest_stand : (group : Group) (number : ℕ) (row : List ℕ × Lv) (rows : List (List ℕ × Lv)) → StandFrom group number (row ∷ rows) → StandFrom group (number + 1) rows
-rest_stand group number row rows stand k other is = subst (λ (n : ℕ). slice_get group.lvs n ≡ Some other) (omega arith) (stand (suc k) other is)
+pub rest_stand : (group : Group) (number : ℕ) (row : List ℕ × Lv) (rows : List (List ℕ × Lv)) → StandFrom group number (row ∷ rows)
+    → StandFrom group (number + 1) rows
+rest_stand group number row rows stand k other is =
+    subst (λ (n : ℕ). slice_get group.lvs n ≡ Some other) (omega arith) (stand (suc k) other is)
 
 -- functions that are equal on a range
-pub map_same : (f g : ℕ → Place) (from count : ℕ) → ((k : ℕ) → k < from + count → f k ≡ g k) → map f (range_with_len from count) ≡ map g (range_with_len from count)
+pub map_same : (f g : ℕ → Place) (from count : ℕ) → ((k : ℕ) → k < from + count → f k ≡ g k)
+    → map f (range_with_len from count) ≡ map g (range_with_len from count)
 map_same f g from zero same = refl
 map_same f g from (suc count) same =
     ap (λ (x : Place). x ∷ map f (range_with_len (from + 1) count)) (same from (omega arith))
@@ -41,10 +45,13 @@ map_same f g from (suc count) same =
 
 -- each physical volume of the version has its disk in the other one
 abbrev pub KeepsDisks : Version → Version → Type 0
-KeepsDisks old new = (k : ℕ) (pv : List ℕ × Pv) → slice_get old.group.pvs k ≡ Some pv → slice_index new.disk_of k ≡ slice_index old.disk_of k
+KeepsDisks old new =
+    (k : ℕ) (pv : List ℕ × Pv) → slice_get old.group.pvs k ≡ Some pv → slice_index new.disk_of k ≡ slice_index old.disk_of k
 
-module _ (old new : Version) (accepted : IsAccepted old.group) (disks : KeepsDisks old new) (size : new.group.extent_size ≡ old.group.extent_size) where
-  pub place_kept : (lv other sector : ℕ) (at : At) → primary old.group lv sector ≡ Some at → primary new.group other sector ≡ Some at → place_of new other sector ≡ place_of old lv sector
+module _ (old new : Version) (accepted : IsAccepted old.group) (disks : KeepsDisks old new)
+    (size : new.group.extent_size ≡ old.group.extent_size) where
+  pub place_kept : (lv other sector : ℕ) (at : At) → primary old.group lv sector ≡ Some at → primary new.group other sector ≡ Some at
+      → place_of new other sector ≡ place_of old lv sector
   unfolding place_of
   place_kept lv other sector at is there =
       let e : IsInExtents old.group at = primary_in_extents old.group accepted lv sector at is in
@@ -53,23 +60,32 @@ module _ (old new : Version) (accepted : IsAccepted old.group) (disks : KeepsDis
       ∙ sym (ap (λ (o : Option At). unwrap_or (option_map (on_disk old.disk_of) o) no_place) is)
 
   -- a volume of as many extents, whatever its number
-  pub places_kept : (lv other : ℕ) (row : List ℕ × Lv) (copy : Lv) → slice_get old.group.lvs lv ≡ Some row → extents_of copy ≡ extents_of row.1
-      → ((sector : ℕ) (at : At) → primary old.group lv sector ≡ Some at → primary new.group other sector ≡ Some at) → places_of new other copy ≡ places_of old lv row.1
+  pub places_kept : (lv other : ℕ) (row : List ℕ × Lv) (copy : Lv) → slice_get old.group.lvs lv ≡ Some row
+      → extents_of copy ≡ extents_of row.1
+      → ((sector : ℕ) (at : At) → primary old.group lv sector ≡ Some at → primary new.group other sector ≡ Some at)
+      → places_of new other copy ≡ places_of old lv row.1
   places_kept lv other row copy there extents kept =
       ap (λ (n : ℕ). map (place_of new other) (range_with_len 0 (n * new.group.extent_size))) extents
       ∙ ap (λ (n : ℕ). map (place_of new other) (range_with_len 0 (extents_of row.1 * n))) size
       ∙ map_same (place_of new other) (place_of old lv) 0 (extents_of row.1 * old.group.extent_size)
-      (λ sector less. let at = primary_stands old.group lv sector row accepted there (omega (arith, less)) in place_kept lv other sector at.0 at.1 (kept sector at.0 at.1))
+      (λ sector less. let at = primary_stands old.group lv sector row accepted there (omega (arith, less)) in place_kept lv other sector
+          at.0 at.1 (kept sector at.0 at.1))
 
   module _ (kept : (lv sector : ℕ) (at : At) → primary old.group lv sector ≡ Some at → primary new.group lv sector ≡ Some at) where
     -- those of rows of the group
-    pub volumes_from : (number : ℕ) (rows : List (List ℕ × Lv)) → StandFrom old.group number rows → placed_from new number rows ≡ placed_from old number rows
+    pub volumes_from : (number : ℕ) (rows : List (List ℕ × Lv)) → StandFrom old.group number rows
+        → placed_from new number rows ≡ placed_from old number rows
     volumes_from number [] stand = refl
     volumes_from number (row ∷ rows) stand =
-        let places : places_of new number row.1 ≡ places_of old number row.1 = places_kept number number row row.1 (first_stands old.group number row rows stand) refl (kept number) in
-        let later : placed_from new (number + 1) rows ≡ placed_from old (number + 1) rows = volumes_from (number + 1) rows (rest_stand old.group number row rows stand) in
-        ap (λ (l : List Place). cond row.1.status.visible (record { id = row.1.id; name = row.0; places = l } ∷ placed_from new (number + 1) rows) (placed_from new (number + 1) rows)) places
-        ∙ ap (λ (l : List PlacedVolume). cond row.1.status.visible (record { id = row.1.id; name = row.0; places = places_of old number row.1 } ∷ l) l) later
+        let places : places_of new number row.1 ≡ places_of old number row.1 =
+            places_kept number number row row.1 (first_stands old.group number row rows stand) refl (kept number) in
+        let later : placed_from new (number + 1) rows ≡ placed_from old (number + 1) rows =
+            volumes_from (number + 1) rows (rest_stand old.group number row rows stand) in
+        ap (λ (l : List Place). cond row.1.status.visible
+            (record { id = row.1.id; name = row.0; places = l } ∷ placed_from new (number + 1) rows) (placed_from new (number + 1) rows))
+            places
+        ∙ ap (λ (l : List PlacedVolume). cond row.1.status.visible
+        (record { id = row.1.id; name = row.0; places = places_of old number row.1 } ∷ l) l) later
 
     -- all of them, where it has the same rows
     pub volumes_kept : new.group.lvs ≡ old.group.lvs → volumes_of (Some new) ≡ volumes_of (Some old)

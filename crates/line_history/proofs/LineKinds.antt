@@ -1,5 +1,6 @@
 -- What a line makes: a version of the group, or none in its place, or a new physical volume on the disk that it names.
-use Rattle.std.proofs.Common.{◌≡◌, ◌<◌, ℕ, zero, suc, ◌+◌, ◌/◌, ◌==◌, ◌&&◌, ◌||◌, nat_lt, Bool, true, false, if◌then◌else◌, List, [], ◌∷◌, length, Option, Some, None, refl, ap, ◌∙◌, arith}
+use Rattle.std.proofs.Common.{◌≡◌, ◌<◌, ℕ, zero, suc, ◌+◌, ◌/◌, ◌==◌, ◌&&◌, ◌||◌, nat_lt, Bool, true, false, if◌then◌else◌, List, [], ◌∷◌,
+    length, Option, Some, None, refl, ap, ◌∙◌, arith}
 use Rattle.std.specs.Prelude.{option_map, slice_get, unwrap_or}
 use Rattle.std.specs.List.{list_any, AllByRecursion as Each}
 use Rattle.std.specs.Option.{option_and_then, option_map_or}
@@ -7,7 +8,8 @@ use Rattle.std.specs.Str.{bytes_eq}
 use Rattle.std.proofs.lemmas.Option.{same_Some}
 use Rattle.command_table.specs.Options.{Word, number_named}
 use Rattle.command_table.specs.declared.command.Command.{Command}
-use Rattle.command_table.specs.declared.command.Command.TheVariants.{Lvcreate, Lvextend, Lvreduce, Lvremove, Lvrename, Pvcreate, Vgcfgrestore, Vgcreate, Vgextend, Vgreduce, Vgremove, Vgrename}
+use Rattle.command_table.specs.declared.command.Command.TheVariants.{Lvcreate, Lvextend, Lvreduce, Lvremove, Lvrename, Pvcreate,
+    Vgcfgrestore, Vgcreate, Vgextend, Vgreduce, Vgremove, Vgrename}
 use Rattle.line_answers.specs.declared.op_refusal.OpRefusal.{OpRefusal}
 use Rattle.line_answers.specs.declared.op_refusal.OpRefusal.TheVariants.{UnknownGroup, UnknownPv}
 use Rattle.lvm_script.specs.declared.line.Line.{Line}
@@ -43,14 +45,17 @@ use Rattle.line_history.proofs.ReadBackups.{some_backup}
 -- the label, and the headers of the areas behind it, stand where the command may create a physical volume on the disk
 abbrev pub IsCreated : Command → ℕ → NewLabel → Type 0
 IsCreated command disk label =
-    (is_created_at command disk (one_sector label.disk label.sector) ≡ true) × Each (λ (area : Extent). is_created_at command disk (one_sector label.disk (area.offset / 512)) ≡ true) label.header.areas
+    (is_created_at command disk (one_sector label.disk label.sector) ≡ true)
+        × Each (λ (area : Extent). is_created_at command disk (one_sector label.disk (area.offset / 512)) ≡ true) label.header.areas
 
 -- a line with this change: one that creates a physical volume or removes the group zeroes nothing, and one that removes it
 -- writes nothing but what clears its disks
 pub data Kind (names : List Word) (command : Command) (change : Change) : Type 0 where
   commits_group : (group : Group) → change.group ≡ Some group → Kind names command change
-  creates : (disk : ℕ) (label : NewLabel) → change.group ≡ None → created_disk names command ≡ Some disk → change.labels ≡ label ∷ [] → label.disk ≡ disk → change.zero ≡ [] → IsCreated command disk label → Kind names command change
-  removes_group : (vg : Word) → command ≡ Vgremove vg → change.group ≡ None → change.labels ≡ [] → change.zero ≡ [] → Kind names command change
+  creates : (disk : ℕ) (label : NewLabel) → change.group ≡ None → created_disk names command ≡ Some disk → change.labels ≡ label ∷ []
+      → label.disk ≡ disk → change.zero ≡ [] → IsCreated command disk label → Kind names command change
+  removes_group : (vg : Word) → command ≡ Vgremove vg → change.group ≡ None → change.labels ≡ [] → change.zero ≡ []
+      → Kind names command change
 
 -- ---- pvcreate
 
@@ -58,12 +63,15 @@ pub data Kind (names : List Word) (command : Command) (change : Change) : Type 0
 named_within : (names : List Word) (name : Word) (n : ℕ) → number_named names name ≡ Some n → n < length names
 unfolding number_named
 named_within [] name n is = cc
-named_within (first ∷ names) name n is = step (λ k later. named_within names name k later) (bytes_eq first name) (number_named names name) refl is
+named_within (first ∷ names) name n is =
+    step (λ k later. named_within names name k later) (bytes_eq first name) (number_named names name) refl is
   where
-    step : ((k : ℕ) → number_named names name ≡ Some k → k < length names) → (b : Bool) (o : Option ℕ) → number_named names name ≡ o → (if b then Some 0 else option_map (λ n. n + 1) o) ≡ Some n → n < length (first ∷ names)
+    step : ((k : ℕ) → number_named names name ≡ Some k → k < length names) → (b : Bool) (o : Option ℕ) → number_named names name ≡ o
+        → (if b then Some 0 else option_map (λ n. n + 1) o) ≡ Some n → n < length (first ∷ names)
     step rest true o later e = let z : 0 ≡ n = same_Some 0 n e in omega (arith, z)
     step rest false None later e = cc
-    step rest false (Some k) later e = let z : k + 1 ≡ n = same_Some (k + 1) n e in let w : k < length names = rest k later in omega (arith, z, w)
+    step rest false (Some k) later e =
+        let z : k + 1 ≡ n = same_Some (k + 1) n e in let w : k < length names = rest k later in omega (arith, z, w)
 
 there_at : {X : Type 0} (xs : List X) (n : ℕ) → n < length xs → (x : X) × (slice_get xs n ≡ Some x)
 there_at [] n within = absurd (omega (arith, within))
@@ -85,62 +93,95 @@ label_low pv disk is = by disk.contents is.contents
     by (Some (Whole label header areas)) stands = stands.0
 
 -- what a pvcreate writes stands where it may
-created_at : (pv id : List ℕ) (copies number : ℕ) (disk : Disk) → label_sector disk < 4 → IsCreated (Pvcreate pv copies) number (new_label id copies number disk)
+created_at : (pv id : List ℕ) (copies number : ℕ) (disk : Disk) → label_sector disk < 4
+    → IsCreated (Pvcreate pv copies) number (new_label id copies number disk)
 created_at pv id copies number disk low = (
-  own (label_sector disk) (ap (λ (b : Bool). b || list_any (λ (area : Extent). label_sector disk == area.offset / 512) (new_areas copies)) (lt_true (label_sector disk) 4 low)),
+  own (label_sector disk) (ap (λ (b : Bool). b || list_any (λ (area : Extent). label_sector disk == area.offset / 512) (new_areas copies))
+      (lt_true (label_sector disk) 4 low)),
   areas (copies == 0),
 )
   where
-    own : (sector : ℕ) → is_created_sector (Pvcreate pv copies) sector ≡ true → is_created_at (Pvcreate pv copies) number (one_sector number sector) ≡ true
+    own : (sector : ℕ) → is_created_sector (Pvcreate pv copies) sector ≡ true
+        → is_created_at (Pvcreate pv copies) number (one_sector number sector) ≡ true
     own sector is = and_both (number == number) (is_created_sector (Pvcreate pv copies) sector) (eq_to number number refl) is
 
     areas : (none : Bool)
-        → Each (λ (area : Extent). ((number == number) && (nat_lt (area.offset / 512) 4 || list_any (λ (x : Extent). area.offset / 512 == x.offset / 512) (if none then [] else record { offset = 4096; size = 1044480 } ∷ []))) ≡ true)
+        → Each (λ (area : Extent). ((number == number)
+        && (nat_lt (area.offset / 512) 4 || list_any (λ (x : Extent). area.offset / 512 == x.offset / 512)
+        (if none then [] else record { offset = 4096; size = 1044480 } ∷ []))) ≡ true)
         (if none then [] else record { offset = 4096; size = 1044480 } ∷ [])
     areas true = tt
     areas false = (ap (λ (b : Bool). b && true) (eq_to number number refl), tt)
 
-create_kind : (state : GroupState) (id pv : List ℕ) (copies : ℕ) (o : Option ℕ) → number_named state.names pv ≡ o → length state.names ≡ length state.disks → ((k : ℕ) (disk : Disk) → slice_get state.disks k ≡ Some disk → IsDisk k disk)
+create_kind : (state : GroupState) (id pv : List ℕ) (copies : ℕ) (o : Option ℕ) → number_named state.names pv ≡ o
+    → length state.names ≡ length state.disks → ((k : ℕ) (disk : Disk) → slice_get state.disks k ≡ Some disk → IsDisk k disk)
     → first_refusal (rows_by state id pv o) ≡ None
     → Kind state.names (Pvcreate pv copies) (pvcreate_change state id pv copies)
 create_kind state id pv copies None is many stand none = absurd cc
 create_kind state id pv copies (Some number) is many stand none =
-    let within : number < length state.disks = let w : number < length state.names = named_within state.names pv number is in omega (arith, w, many) in
+    let within : number < length state.disks =
+        let w : number < length state.names = named_within state.names pv number is in omega (arith, w, many) in
     let disk = there_at state.disks number within in
     creates number (new_label id copies number disk.0) refl is
-    (ap (λ (o : Option ℕ). option_map_or (λ number. option_map_or (λ disk. new_label id copies number disk ∷ []) (slice_get state.disks number) []) o []) is
+    (ap (λ (o : Option ℕ). option_map_or (λ number. option_map_or (λ disk. new_label id copies number disk ∷ [])
+        (slice_get state.disks number) []) o []) is
     ∙ ap (λ (o : Option Disk). option_map_or (λ disk. new_label id copies number disk ∷ []) o []) disk.1)
     refl refl (created_at pv id copies number disk.0 (label_low number disk.0 (stand number disk.0 disk.1)))
 
 -- ---- any line
 
 extend_kind : (state : GroupState) (vg : List ℕ) (pvs : List (List ℕ)) (now : ℕ) (command : Command) (o : Option Group)
-    → first_refusal (option_map_or (found_rows state vg pvs now) o (Some (UnknownGroup vg) ∷ [])) ≡ None → Kind state.names command (extend_by state o pvs)
+    → first_refusal (option_map_or (found_rows state vg pvs now) o (Some (UnknownGroup vg) ∷ [])) ≡ None
+    → Kind state.names command (extend_by state o pvs)
 extend_kind state vg pvs now command None none = absurd cc
 extend_kind state vg pvs now command (Some group) none = commits_group (extended (next_version group) (added_of state pvs)) refl
 
-next_kind : (state : GroupState) (number : ℕ) (id : Option (List ℕ)) (command : Command) (now : ℕ) (given : List Part) → IsPlanned id command → is_next command ≡ true
-    → Takes (asks_of state (record { number = number; id = id; command = command })) given → refusal_of state (record { number = number; id = id; command = command }) now given ≡ None → Kind state.names command (change_of state (record { number = number; id = id; command = command }) now given)
+next_kind : (state : GroupState) (number : ℕ) (id : Option (List ℕ)) (command : Command) (now : ℕ) (given : List Part)
+    → IsPlanned id command → is_next command ≡ true
+    → Takes (asks_of state (record { number = number; id = id; command = command })) given
+    → refusal_of state (record { number = number; id = id; command = command }) now given ≡ None
+    → Kind state.names command (change_of state (record { number = number; id = id; command = command }) now given)
 next_kind state number id command now given planned is takes none =
-    let made = commits_next state number id command now given planned is takes none in commits_group made.next (ap (λ (c : Change). c.group) made.change_is)
+    let made = commits_next state number id command now given planned is takes none in
+    commits_group made.next (ap (λ (c : Change). c.group) made.change_is)
 
-kind_by : (state : GroupState) → length state.names ≡ length state.disks → ((k : ℕ) (disk : Disk) → slice_get state.disks k ≡ Some disk → IsDisk k disk) → (number : ℕ) (id : Option (List ℕ)) (command : Command) (now : ℕ) (given : List Part) → IsPlanned id command → IsBackupOf command state.backup
-    → Takes (asks_of state (record { number = number; id = id; command = command })) given → refusal_of state (record { number = number; id = id; command = command }) now given ≡ None → Kind state.names command (change_of state (record { number = number; id = id; command = command }) now given)
-kind_by state many stand number id (Pvcreate pv copies) now given planned gives_back takes none = create_kind state (unwrap_or id []) pv copies (number_named state.names pv) refl many stand none
-kind_by state many stand number id (Vgcreate vg extent_size pvs) now given planned gives_back takes none = commits_group (extended (empty_group (unwrap_or id []) vg extent_size) (added_of state pvs)) refl
-kind_by state many stand number id (Vgextend vg pvs) now given planned gives_back takes none = extend_kind state vg pvs now (Vgextend vg pvs) state.group none
+kind_by : (state : GroupState) → length state.names ≡ length state.disks
+    → ((k : ℕ) (disk : Disk) → slice_get state.disks k ≡ Some disk → IsDisk k disk)
+    → (number : ℕ) (id : Option (List ℕ)) (command : Command) (now : ℕ) (given : List Part) → IsPlanned id command
+    → IsBackupOf command state.backup
+    → Takes (asks_of state (record { number = number; id = id; command = command })) given
+    → refusal_of state (record { number = number; id = id; command = command }) now given ≡ None
+    → Kind state.names command (change_of state (record { number = number; id = id; command = command }) now given)
+kind_by state many stand number id (Pvcreate pv copies) now given planned gives_back takes none =
+    create_kind state (unwrap_or id []) pv copies (number_named state.names pv) refl many stand none
+kind_by state many stand number id (Vgcreate vg extent_size pvs) now given planned gives_back takes none =
+    commits_group (extended (empty_group (unwrap_or id []) vg extent_size) (added_of state pvs)) refl
+kind_by state many stand number id (Vgextend vg pvs) now given planned gives_back takes none =
+    extend_kind state vg pvs now (Vgextend vg pvs) state.group none
 kind_by state many stand number id (Vgreduce vg pv) now given planned gives_back takes none =
-    let left = leaves_next state vg pv now none in commits_group (without_pv left.old left.number) (ap (λ (c : Change). c.group) left.change_is)
+    let left = leaves_next state vg pv now none in
+    commits_group (without_pv left.old left.number) (ap (λ (c : Change). c.group) left.change_is)
 kind_by state many stand number id (Vgremove vg) now given planned gives_back takes none = removes_group vg refl refl refl refl
 kind_by state many stand number id (Vgcfgrestore vg text) now given planned gives_back takes none =
-    let made = restores state vg now (some_backup vg text state.backup gives_back) none in commits_group (restored_group made.old made.said) (ap (λ (c : Change). c.group) made.change_is)
-kind_by state many stand number id (Vgrename vg new) now given planned gives_back takes none = next_kind state number id (Vgrename vg new) now given planned refl takes none
-kind_by state many stand number id (Lvcreate new) now given planned gives_back takes none = next_kind state number id (Lvcreate new) now given planned refl takes none
-kind_by state many stand number id (Lvextend path growth pvs) now given planned gives_back takes none = next_kind state number id (Lvextend path growth pvs) now given planned refl takes none
-kind_by state many stand number id (Lvreduce path amount) now given planned gives_back takes none = next_kind state number id (Lvreduce path amount) now given planned refl takes none
-kind_by state many stand number id (Lvremove path) now given planned gives_back takes none = next_kind state number id (Lvremove path) now given planned refl takes none
-kind_by state many stand number id (Lvrename vg old new) now given planned gives_back takes none = next_kind state number id (Lvrename vg old new) now given planned refl takes none
+    let made = restores state vg now (some_backup vg text state.backup gives_back) none in
+    commits_group (restored_group made.old made.said) (ap (λ (c : Change). c.group) made.change_is)
+kind_by state many stand number id (Vgrename vg new) now given planned gives_back takes none =
+    next_kind state number id (Vgrename vg new) now given planned refl takes none
+kind_by state many stand number id (Lvcreate new) now given planned gives_back takes none =
+    next_kind state number id (Lvcreate new) now given planned refl takes none
+kind_by state many stand number id (Lvextend path growth pvs) now given planned gives_back takes none =
+    next_kind state number id (Lvextend path growth pvs) now given planned refl takes none
+kind_by state many stand number id (Lvreduce path amount) now given planned gives_back takes none =
+    next_kind state number id (Lvreduce path amount) now given planned refl takes none
+kind_by state many stand number id (Lvremove path) now given planned gives_back takes none =
+    next_kind state number id (Lvremove path) now given planned refl takes none
+kind_by state many stand number id (Lvrename vg old new) now given planned gives_back takes none =
+    next_kind state number id (Lvrename vg old new) now given planned refl takes none
 kind_by state many stand number id command now given planned gives_back takes none = absurd planned
 
-pub kind_of : (state : GroupState) → length state.names ≡ length state.disks → ((k : ℕ) (disk : Disk) → slice_get state.disks k ≡ Some disk → IsDisk k disk) → (line : Line) (now : ℕ) (given : List Part) → IsPlanned line.id line.command → IsBackupOf line.command state.backup → Takes (asks_of state line) given → refusal_of state line now given ≡ None → Kind state.names line.command (change_of state line now given)
-kind_of state many stand line now given planned gives_back takes none = kind_by state many stand line.number line.id line.command now given planned gives_back takes none
+pub kind_of : (state : GroupState) → length state.names ≡ length state.disks
+    → ((k : ℕ) (disk : Disk) → slice_get state.disks k ≡ Some disk → IsDisk k disk) → (line : Line) (now : ℕ) (given : List Part)
+    → IsPlanned line.id line.command → IsBackupOf line.command state.backup → Takes (asks_of state line) given
+    → refusal_of state line now given ≡ None → Kind state.names line.command (change_of state line now given)
+kind_of state many stand line now given planned gives_back takes none =
+    kind_by state many stand line.number line.id line.command now given planned gives_back takes none

@@ -1,5 +1,6 @@
 -- A line that makes a new physical volume: its disk is left out once it was written, until the line is done.
-use Rattle.std.proofs.Common.{◌≡◌, ◌≤◌, ℕ, ◌+◌, ◌-◌, ◌==◌, ◌&&◌, ◌||◌, Bool, true, false, List, [], ◌∷◌, ◌++◌, length, map, take, Option, Some, None, refl, sym, ap, subst, ◌∙◌, arith}
+use Rattle.std.proofs.Common.{◌≡◌, ◌≤◌, ℕ, ◌+◌, ◌-◌, ◌==◌, ◌&&◌, ◌||◌, Bool, true, false, List, [], ◌∷◌, ◌++◌, length, map, take, Option,
+    Some, None, refl, sym, ap, subst, ◌∙◌, arith}
 use Rattle.sector_base.specs.declared.spans.Span.{Span}
 use Rattle.disk_model.specs.CrashValues.{IsImage}
 use Rattle.disk_model.specs.Durability.{IsBase}
@@ -50,9 +51,12 @@ or_false : (b : Bool) → (b || false) ≡ b
 or_false true = refl
 or_false false = refl
 
-module _ (scans : RepairedScans) (g : Given) (stage : Stage) (start ended : Record) (r : RunsLine g stage start ended) (repaired : is_repaired stage ≡ true) (zeroed : is_zeroed stage ≡ true)
-    (disk : ℕ) (label : NewLabel) (none : (change scans g stage start ended r repaired).group ≡ None) (created : created_disk g.names g.line.command ≡ Some disk)
-    (labels : (change scans g stage start ended r repaired).labels ≡ label ∷ []) (on : label.disk ≡ disk) (no_zeros : (change scans g stage start ended r repaired).zero ≡ []) (places : IsCreated g.line.command disk label) where
+module _ (scans : RepairedScans) (g : Given) (stage : Stage) (start ended : Record) (r : RunsLine g stage start ended)
+    (repaired : is_repaired stage ≡ true) (zeroed : is_zeroed stage ≡ true)
+    (disk : ℕ) (label : NewLabel) (none : (change scans g stage start ended r repaired).group ≡ None)
+        (created : created_disk g.names g.line.command ≡ Some disk)
+    (labels : (change scans g stage start ended r repaired).labels ≡ label ∷ []) (on : label.disk ≡ disk)
+        (no_zeros : (change scans g stage start ended r repaired).zero ≡ []) (places : IsCreated g.line.command disk label) where
   -- what it may write there
   abbrev own : Span → Bool
   own = is_created_at g.line.command disk
@@ -64,7 +68,8 @@ module _ (scans : RepairedScans) (g : Given) (stage : Stage) (start ended : Reco
   line : WritesInTurn start (batches_in g) (is_done stage) ended
   line =
       subst (λ (l : List (List Put)). WritesInTurn start l (is_done stage) ended) all_batches
-      (turns_both start r.zeroed ended (zeros_in g) (batches_in g) (is_done stage) (all_zeros g stage start ended r repaired zeroed) (line_of g stage start ended r repaired zeroed))
+      (turns_both start r.zeroed ended (zeros_in g) (batches_in g) (is_done stage) (all_zeros g stage start ended r repaired zeroed)
+          (line_of g stage start ended r repaired zeroed))
 
   abbrev version : Option Version
   version = version_in g.found
@@ -85,10 +90,13 @@ module _ (scans : RepairedScans) (g : Given) (stage : Stage) (start ended : Reco
 
   -- an image from the start on is one on their way
   new_way : (m : ℕ) → length start.steps ≤ m → m ≤ length ended.steps → (image : Image) → IsImage (at_moment m ended) image
-      → FindsOnTheWay g.sizes image (repaired_of g.found) (change scans g stage start ended r repaired) (change scans g stage start ended r repaired).group
+      → FindsOnTheWay g.sizes image (repaired_of g.found) (change scans g stage start ended r repaired)
+      (change scans g stage start ended r repaired).group
   new_way m ge le image is =
-      images_scan (repaired_base g) g.sizes (repaired_of g.found) g.names g.backup g.line g.clock g.given (can_start scans g stage start ended r repaired (begun_zeros stage zeroed)) image
-      (of_submitted line.submitted (batches_in g) (repaired_base g) image (line.every_image (repaired_base g) (start_base g stage start ended r repaired) m ge le image is))
+      images_scan (repaired_base g) g.sizes (repaired_of g.found) g.names g.backup g.line g.clock g.given
+          (can_start scans g stage start ended r repaired (begun_zeros stage zeroed)) image
+      (of_submitted line.submitted (batches_in g) (repaired_base g) image
+          (line.every_image (repaired_base g) (start_base g stage start ended r repaired) m ge le image is))
 
   -- ---- at a moment from the start on
   module _ (m : ℕ) (ge : length start.steps ≤ m) (le : m ≤ length ended.steps) where
@@ -99,9 +107,11 @@ module _ (scans : RepairedScans) (g : Given) (stage : Stage) (start ended : Reco
     part_is : take (m - length start.steps) (steps_upto (origin_repaired scans g stage start ended r repaired) m) ≡ steps
     part_is = part_then start ended line.since line.steps m ge le
 
-    half_made : (w : Bool) → has_written own steps ≡ w → (pv : ℕ) → is_half_made (origin_repaired scans g stage start ended r repaired) g.line disk m pv ≡ ((disk == pv) && w)
+    half_made : (w : Bool) → has_written own steps ≡ w → (pv : ℕ)
+        → is_half_made (origin_repaired scans g stage start ended r repaired) g.line disk m pv ≡ ((disk == pv) && w)
     half_made w is pv =
-        ap (λ (l : List Step). (disk == pv) && has_written (is_created_at g.line.command pv) l) part_is ∙ at_disk disk pv (λ k. has_written (is_created_at g.line.command k) steps) w is
+        ap (λ (l : List Step). (disk == pv) && has_written (is_created_at g.line.command pv) l) part_is
+            ∙ at_disk disk pv (λ k. has_written (is_created_at g.line.command k) steps) w is
 
     labelled : (pv : ℕ) → is_labelled (change scans g stage start ended r repaired).labels pv ≡ (disk == pv)
     labelled pv = ap (λ (all : List NewLabel). is_labelled all pv) labels ∙ or_false (label.disk == pv) ∙ ap (λ (k : ℕ). k == pv) on
@@ -109,31 +119,43 @@ module _ (scans : RepairedScans) (g : Given) (stage : Stage) (start ended : Reco
     finds_then : (w : Bool) → has_written own steps ≡ w → (image : Image) → IsImage (at_moment m ended) image
         → FindsVersion g.sizes image (is_half_made (origin_repaired scans g stage start ended r repaired) g.line disk m) version
     finds_then true is image im =
-        finds_with g.sizes image (is_labelled (change scans g stage start ended r repaired).labels) (is_half_made (origin_repaired scans g stage start ended r repaired) g.line disk m) version
+        finds_with g.sizes image (is_labelled (change scans g stage start ended r repaired).labels)
+            (is_half_made (origin_repaired scans g stage start ended r repaired) g.line disk m) version
         (λ pv. labelled pv ∙ sym (half_made true is pv ∙ and_true (disk == pv)))
-        (subst (λ (v : Option Version). FindsVersion g.sizes image (is_labelled (change scans g stage start ended r repaired).labels) v) (same_version scans g stage start ended r repaired)
-        (subst (λ (o : Option Group). FindsOnTheWay g.sizes image (repaired_of g.found) (change scans g stage start ended r repaired) o) none (new_way m ge le image im)))
+        (subst (λ (v : Option Version). FindsVersion g.sizes image (is_labelled (change scans g stage start ended r repaired).labels) v)
+            (same_version scans g stage start ended r repaired)
+        (subst (λ (o : Option Group). FindsOnTheWay g.sizes image (repaired_of g.found) (change scans g stage start ended r repaired) o)
+            none (new_way m ge le image im)))
     finds_then false is image im =
         let nothing : WritesNothing steps = unwritten own steps (older_on own (length ended.steps - m) line.since since_on) is in
-        let stays : IsBase (steps_on steps start) (repaired_base g) = quiet_base start (steps_on steps start) steps refl nothing (repaired_base g) (start_base g stage start ended r repaired) in
+        let stays : IsBase (steps_on steps start) (repaired_base g) =
+            quiet_base start (steps_on steps start) steps refl nothing (repaired_base g) (start_base g stage start ended r repaired) in
         let same : image ≡ repaired_base g =
-        image_of_base (steps_on steps start) (repaired_base g) image stays (subst (λ (t : Record). IsImage t image) (told_then start ended line.since line.steps m ge le) im) in
-        finds_with g.sizes image none_out (is_half_made (origin_repaired scans g stage start ended r repaired) g.line disk m) version (λ pv. sym (half_made false is pv ∙ and_false (disk == pv)))
+        image_of_base (steps_on steps start) (repaired_base g) image stays
+            (subst (λ (t : Record). IsImage t image) (told_then start ended line.since line.steps m ge le) im) in
+        finds_with g.sizes image none_out (is_half_made (origin_repaired scans g stage start ended r repaired) g.line disk m) version
+            (λ pv. sym (half_made false is pv ∙ and_false (disk == pv)))
         (subst (λ (i : Image). FindsVersion g.sizes i none_out version) (sym same) (finds_start scans g stage start ended r repaired))
 
   -- ---- the laws
 
-  pub create_law : (before : ℕ) → before ≤ length ended.steps + 1 → CreateLaw (origin_repaired scans g stage start ended r repaired) g.line disk before
+  pub create_law : (before : ℕ) → before ≤ length ended.steps + 1
+      → CreateLaw (origin_repaired scans g stage start ended r repaired) g.line disk before
   create_law before by = record {
     still = is_still scans g stage start ended r repaired;
     names = created;
-    between = λ m ge lt image im. finds_then m ge (omega (arith, lt, by)) (has_written own (steps m ge (omega (arith, lt, by)))) refl image im;
+    between =
+        λ m ge lt image im. finds_then m ge (omega (arith, lt, by)) (has_written own (steps m ge (omega (arith, lt, by)))) refl image im;
   }
 
-  pub created_law : IsBase ended (done_image scans g stage start ended r repaired zeroed) → CreatedLaw (origin_repaired scans g stage start ended r repaired)
+  pub created_law : IsBase ended (done_image scans g stage start ended r repaired zeroed)
+      → CreatedLaw (origin_repaired scans g stage start ended r repaired)
   created_law base_is = record {
     after = λ image im.
-        subst (λ (i : Image). FindsVersion g.sizes i none_out version) (sym (image_of_base ended (done_image scans g stage start ended r repaired zeroed) image base_is im))
-        (subst (λ (v : Option Version). FindsVersion g.sizes (done_image scans g stage start ended r repaired zeroed) none_out v) (same_version scans g stage start ended r repaired)
-        (subst (λ (o : Option Group). FindsAtEnd g.sizes (done_image scans g stage start ended r repaired zeroed) (repaired_of g.found) (change scans g stage start ended r repaired) o) none (done_finds scans g stage start ended r repaired zeroed)));
+        subst (λ (i : Image). FindsVersion g.sizes i none_out version)
+            (sym (image_of_base ended (done_image scans g stage start ended r repaired zeroed) image base_is im))
+        (subst (λ (v : Option Version). FindsVersion g.sizes (done_image scans g stage start ended r repaired zeroed) none_out v)
+            (same_version scans g stage start ended r repaired)
+        (subst (λ (o : Option Group). FindsAtEnd g.sizes (done_image scans g stage start ended r repaired zeroed) (repaired_of g.found)
+            (change scans g stage start ended r repaired) o) none (done_finds scans g stage start ended r repaired zeroed)));
   }

@@ -1,5 +1,6 @@
 -- The first sectors of the volume that an lvcreate makes are those that it zeroes.
-use Rattle.std.proofs.Common.{◌≡◌, ◌<◌, ◌⊎◌, ℕ, zero, suc, ◌+◌, ◌*◌, ◌^◌, ◌||◌, Bool, true, false, List, [], ◌∷◌, ◌++◌, length, drop, map, Option, Some, None, inl, inr, refl, sym, ap, subst, ◌∙◌, arith}
+use Rattle.std.proofs.Common.{◌≡◌, ◌<◌, ◌⊎◌, ℕ, zero, suc, ◌+◌, ◌*◌, ◌^◌, ◌||◌, Bool, true, false, List, [], ◌∷◌, ◌++◌, length, drop, map,
+    Option, Some, None, inl, inr, refl, sym, ap, subst, ◌∙◌, arith}
 use Rattle.std.specs.Prelude.{IfSome, option_map, slice_index, unwrap_or}
 use Rattle.std.specs.List.{range_with_len}
 use Rattle.std.proofs.lemmas.Option.{same_Some}
@@ -45,19 +46,22 @@ last_same : {X : Type 0} (xs : List X) (a b : X) → xs ++ a ∷ [] ≡ xs ++ b 
 last_same [] a b is = cc
 last_same (x ∷ xs) a b is = last_same xs a b (ap (drop 1) is)
 
-at_range : (f : ℕ → Place) (from count x : ℕ) → x < length (map f (range_with_len from count)) → place_at (map f (range_with_len from count)) x ≡ f (from + x)
+at_range : (f : ℕ → Place) (from count x : ℕ) → x < length (map f (range_with_len from count))
+    → place_at (map f (range_with_len from count)) x ≡ f (from + x)
 at_range f from zero x lt = absurd (omega (arith, lt))
 at_range f from (suc count) zero lt = ap f (omega arith)
 at_range f from (suc count) (suc x) lt = at_range f (from + 1) count x (omega (arith, lt)) ∙ ap f (omega arith)
 
 -- ---- the volume in its group
 
-module _ (old : Group) (disk_of : List ℕ) (accepted : IsAccepted old) (id : List ℕ) (new : NewVolume) (now : ℕ) (given : List Part) (may : MayHave old id (kind_for new) given now) where
+module _ (old : Group) (disk_of : List ℕ) (accepted : IsAccepted old) (id : List ℕ) (new : NewVolume) (now : ℕ) (given : List Part)
+    (may : MayHave old id (kind_for new) given now) where
   abbrev after : Version
   after = record { group = created_group id new now given old; disk_of = disk_of }
 
   -- its first sectors are zeroed
-  first_zeroed : (x : ℕ) → x < 8 → in_spans (zeroed_at disk_of old given) (place_of after (length old.lvs) x).disk (place_of after (length old.lvs) x).sector ≡ true
+  first_zeroed : (x : ℕ) → x < 8 → in_spans (zeroed_at disk_of old given) (place_of after (length old.lvs) x).disk
+      (place_of after (length old.lvs) x).sector ≡ true
   unfolding place_of
   first_zeroed x low =
       let b : Beginning old given = beginning old new.lv id (kind_for new) given now may accepted in
@@ -66,8 +70,10 @@ module _ (old : Group) (disk_of : List ℕ) (accepted : IsAccepted old) (id : Li
       let is : primary (created_group id new now given old) (length old.lvs) x ≡ Some (record { pv = b.run.pv; sector = start + x }) =
       first_sectors old new.lv id (kind_for new) given now may accepted b.part b.is_part b.run b.is_run b.pv b.is_pv x low
       in
-      let place : Place = unwrap_or (option_map (on_disk disk_of) (primary (created_group id new now given old) (length old.lvs) x)) no_place in
-      let there : place ≡ record { disk = slice_index disk_of b.run.pv; sector = start + x } = ap (λ (o : Option At). unwrap_or (option_map (on_disk disk_of) o) no_place) is in
+      let place : Place =
+          unwrap_or (option_map (on_disk disk_of) (primary (created_group id new now given old) (length old.lvs) x)) no_place in
+      let there : place ≡ record { disk = slice_index disk_of b.run.pv; sector = start + x } =
+          ap (λ (o : Option At). unwrap_or (option_map (on_disk disk_of) o) no_place) is in
       ap (λ (spans : List Span). in_spans spans place.disk place.sector) (zeroed_is disk_of old given b)
       ∙ ap (λ (p : Place). in_spans (span ∷ []) p.disk p.sector) there
       ∙ ap (λ (c : Bool). c || false) (covers_from span (slice_index disk_of b.run.pv) (start + x) refl (omega arith) (omega (arith, low)))
@@ -77,12 +83,16 @@ module _ (old : Group) (disk_of : List ℕ) (accepted : IsAccepted old) (id : Li
     abbrev before : Version
     before = record { group = old; disk_of = disks_before }
 
-    last_zeroed : KeepsDisks before after → (volume : PlacedVolume) → volumes_of (Some after) ≡ volumes_of (Some before) ++ volume ∷ [] → (x : ℕ) → x < length volume.places → x < 8
+    last_zeroed : KeepsDisks before after → (volume : PlacedVolume) → volumes_of (Some after) ≡ volumes_of (Some before) ++ volume ∷ []
+        → (x : ℕ) → x < length volume.places → x < 8
         → in_spans (zeroed_at disk_of old given) (place_at volume.places x).disk (place_at volume.places x).sector ≡ true
     last_zeroed disks volume is x within low =
-        subst (λ (v : PlacedVolume). x < length v.places → in_spans (zeroed_at disk_of old given) (place_at v.places x).disk (place_at v.places x).sector ≡ true)
+        subst (λ (v : PlacedVolume). x < length v.places
+            → in_spans (zeroed_at disk_of old given) (place_at v.places x).disk (place_at v.places x).sector ≡ true)
         (sym (last_same (volumes_of (Some before)) volume own (sym is ∙ volumes_more (new.lv, lv) before disk_of accepted disks refl)))
-        (λ within. subst (λ (p : Place). in_spans (zeroed_at disk_of old given) p.disk p.sector ≡ true) (sym (at_range (place_of after (length old.lvs)) 0 (extents_of lv * old.extent_size) x within ∙ ap (place_of after (length old.lvs)) (omega arith))) (first_zeroed x low))
+        (λ within. subst (λ (p : Place). in_spans (zeroed_at disk_of old given) p.disk p.sector ≡ true)
+            (sym (at_range (place_of after (length old.lvs)) 0 (extents_of lv * old.extent_size) x within
+            ∙ ap (place_of after (length old.lvs)) (omega arith))) (first_zeroed x low))
         within
       where
         lv : Lv
@@ -93,23 +103,32 @@ module _ (old : Group) (disk_of : List ℕ) (accepted : IsAccepted old) (id : Li
 
 -- ---- the line
 
-module _ (found : Found) (names : List (List ℕ)) (backup : Option Backup) (now : ℕ) (given : List Part) (shape : HasShape found) (state_is : IsState (state_in found names backup)) (accepted : (group : Group) → found.group ≡ Some group → IsAccepted group) (time : now < 2 ^ 48) where
+module _ (found : Found) (names : List (List ℕ)) (backup : Option Backup) (now : ℕ) (given : List Part) (shape : HasShape found)
+    (state_is : IsState (state_in found names backup)) (accepted : (group : Group) → found.group ≡ Some group → IsAccepted group)
+    (time : now < 2 ^ 48) where
   abbrev state : GroupState
   state = state_in found names backup
 
   -- the volume that the change puts behind the others of this version
   abbrev ZeroesLast : Option Version → Change → Type 0
   ZeroesLast before change =
-      (group : Group) → change.group ≡ Some group → (volume : PlacedVolume) → volumes_of (Some (version_of group change)) ≡ volumes_of before ++ volume ∷ [] → (x : ℕ) → x < length volume.places → x < 8
+      (group : Group) → change.group ≡ Some group → (volume : PlacedVolume)
+          → volumes_of (Some (version_of group change)) ≡ volumes_of before ++ volume ∷ [] → (x : ℕ) → x < length volume.places → x < 8
       → in_spans change.zero (place_at volume.places x).disk (place_at volume.places x).sector ≡ true
 
-  new_zeroed : (number : ℕ) (id : Option (List ℕ)) (new : NewVolume) → IsPlanned id (Lvcreate new) → Takes (asks_of state (record { number = number; id = id; command = Lvcreate new })) given
-      → refusal_of state (record { number = number; id = id; command = Lvcreate new }) now given ≡ None → ZeroesLast (version_in found) (change_of state (record { number = number; id = id; command = Lvcreate new }) now given)
+  new_zeroed : (number : ℕ) (id : Option (List ℕ)) (new : NewVolume) → IsPlanned id (Lvcreate new)
+      → Takes (asks_of state (record { number = number; id = id; command = Lvcreate new })) given
+      → refusal_of state (record { number = number; id = id; command = Lvcreate new }) now given ≡ None
+      → ZeroesLast (version_in found) (change_of state (record { number = number; id = id; command = Lvcreate new }) now given)
   new_zeroed number id new planned takes passes =
       subst (ZeroesLast (version_in found)) (sym made.change_is)
       (λ group is volume last.
-      last_zeroed made.old found.disk_of (accepted made.old made.there) drawn new now given (made.may state_is (accepted made.old made.there) time) (disks_of made.old found.disks) (λ k pv there. ap (λ (l : List ℕ). slice_index l k) listed) volume
-      (ap (λ (g : Group). volumes_of (Some (record { group = g; disk_of = found.disk_of }))) (same_Some (created_group drawn new now given made.old) group is) ∙ last ∙ ap (λ (v : Option Version). volumes_of v ++ volume ∷ []) was))
+      last_zeroed made.old found.disk_of (accepted made.old made.there) drawn new now given
+          (made.may state_is (accepted made.old made.there) time) (disks_of made.old found.disks)
+          (λ k pv there. ap (λ (l : List ℕ). slice_index l k) listed) volume
+      (ap (λ (g : Group). volumes_of (Some (record { group = g; disk_of = found.disk_of })))
+          (same_Some (created_group drawn new now given made.old) group is) ∙ last
+          ∙ ap (λ (v : Option Version). volumes_of v ++ volume ∷ []) was))
     where
       drawn : List ℕ
       drawn = unwrap_or id []
@@ -124,10 +143,14 @@ module _ (found : Found) (names : List (List ℕ)) (backup : Option Backup) (now
       was = ap (λ (o : Option Group). option_map (λ (g : Group). record { group = g; disk_of = disks_of g found.disks }) o) made.there
 
   -- of a line with this command
-  pub line_zeroed : (line : Line) (new : NewVolume) → Lvcreate new ≡ line.command → IsPlanned line.id line.command → Takes (asks_of state line) given → refusal_of state line now given ≡ None → ZeroesLast (version_in found) (change_of state line now given)
+  pub line_zeroed : (line : Line) (new : NewVolume) → Lvcreate new ≡ line.command → IsPlanned line.id line.command
+      → Takes (asks_of state line) given → refusal_of state line now given ≡ None
+      → ZeroesLast (version_in found) (change_of state line now given)
   line_zeroed line new is =
       subst
-      (λ (command : Command). IsPlanned line.id command → Takes (asks_of state (record { number = line.number; id = line.id; command = command })) given → refusal_of state (record { number = line.number; id = line.id; command = command }) now given ≡ None
+      (λ (command : Command). IsPlanned line.id command
+          → Takes (asks_of state (record { number = line.number; id = line.id; command = command })) given
+          → refusal_of state (record { number = line.number; id = line.id; command = command }) now given ≡ None
       → ZeroesLast (version_in found) (change_of state (record { number = line.number; id = line.id; command = command }) now given))
       is (new_zeroed line.number line.id new)
 

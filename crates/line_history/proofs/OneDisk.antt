@@ -36,17 +36,20 @@ module _ (own : Span → Bool) where
   if_on [] on = tt
   if_on (put ∷ puts) on = (on, tt)
 
-  areas_on : (disk : ℕ) (areas : List Extent) → Each (λ (area : Extent). own (one_sector disk (area.offset / 512)) ≡ true) areas → AreOn (map (area_put disk) areas)
+  areas_on : (disk : ℕ) (areas : List Extent) → Each (λ (area : Extent). own (one_sector disk (area.offset / 512)) ≡ true) areas
+      → AreOn (map (area_put disk) areas)
   areas_on disk [] each = tt
   areas_on disk (area ∷ areas) each = (each.0, areas_on disk areas each.1)
 
   -- those of a new physical volume, where its label and the headers of its areas are
-  pub label_on : (label : NewLabel) → own (one_sector label.disk label.sector) ≡ true → Each (λ (area : Extent). own (one_sector label.disk (area.offset / 512)) ≡ true) label.header.areas
+  pub label_on : (label : NewLabel) → own (one_sector label.disk label.sector) ≡ true
+      → Each (λ (area : Extent). own (one_sector label.disk (area.offset / 512)) ≡ true) label.header.areas
       → BatchesAreOn (batch_if (flat_map area_puts (label ∷ [])) ++ batch_if (map label_put (label ∷ [])) ++ [])
   label_on label on areas_are =
       let areas : AreOn (area_puts label) = areas_on label.disk label.header.areas areas_are in
       batches_both (batch_if (flat_map area_puts (label ∷ [])) ++ batch_if (map label_put (label ∷ []))) []
-      (batches_both (batch_if (flat_map area_puts (label ∷ []))) (batch_if (map label_put (label ∷ []))) (if_on (area_puts label ++ []) (both_on (area_puts label) [] areas tt)) ((on, tt), tt))
+      (batches_both (batch_if (flat_map area_puts (label ∷ []))) (batch_if (map label_put (label ∷ [])))
+          (if_on (area_puts label ++ []) (both_on (area_puts label) [] areas tt)) ((on, tt), tt))
       tt
 
   -- the writes of the first of the batches
@@ -81,7 +84,8 @@ module _ (own : Span → Bool) where
   pub unwritten : (steps : List Step) → AreOn (writes_submitted steps) → has_written own steps ≡ false → WritesNothing steps
   unwritten [] on none = tt
   unwritten (Submitted tag (Writing span sectors) ∷ steps) on none =
-      absurd (true≢false (sym (ap (λ (b : Bool). b || has_written own steps) (the_last (writes_submitted steps) (span, sectors) on)) ∙ none))
+      absurd (true≢false (sym (ap (λ (b : Bool). b || has_written own steps) (the_last (writes_submitted steps) (span, sectors) on))
+          ∙ none))
   unwritten (Submitted tag (Reading span) ∷ steps) on none = unwritten steps on none
   unwritten (Submitted tag (Flushing pv) ∷ steps) on none = unwritten steps on none
   unwritten (Completed tag work well fresh ∷ steps) on none = unwritten steps on none

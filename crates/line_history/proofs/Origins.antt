@@ -23,8 +23,10 @@ abbrev pub origin_of : Record → ℕ → List ℕ → List Word → ℕ → Opt
 origin_of handed start sizes names clock version ended =
     record { told = ended; first = length handed.steps; start = start; sizes = sizes; names = names; clock = clock; version = version }
 
-module _ (handed at_start ended : Record) (first later : List Step) (is_start : at_start ≡ steps_on first handed) (is_end : ended ≡ steps_on later at_start) (record_is : IsRecord ended.steps)
-    (base start_base : Image) (base_is : IsBase handed base) (start_is : IsBase at_start start_base) (sizes : List ℕ) (names : List Word) (clock : ℕ) (version : Option Version) where
+module _ (handed at_start ended : Record) (first later : List Step) (is_start : at_start ≡ steps_on first handed)
+    (is_end : ended ≡ steps_on later at_start) (record_is : IsRecord ended.steps)
+    (base start_base : Image) (base_is : IsBase handed base) (start_is : IsBase at_start start_base) (sizes : List ℕ) (names : List Word)
+        (clock : ℕ) (version : Option Version) where
   abbrev pub origin : Origin
   origin = origin_of handed (length at_start.steps) sizes names clock version ended
 
@@ -33,7 +35,9 @@ module _ (handed at_start ended : Record) (first later : List Step) (is_start : 
 
   -- what a read gave at the hand-in, and at the start
   pub now_start : now_at origin (length at_start.steps) ≡ start_base
-  now_start = now_seen at_start ended later is_end ∙ one_image (now_after at_start.opened at_start.steps) start_base (now_base at_start start_base record_start start_is)
+  now_start =
+      now_seen at_start ended later is_end ∙ one_image (now_after at_start.opened at_start.steps) start_base
+          (now_base at_start start_base record_start start_is)
 
   is_handed : ended ≡ steps_on (later ++ first) handed
   is_handed = steps_joined handed at_start ended first later is_start is_end
@@ -41,7 +45,8 @@ module _ (handed at_start ended : Record) (first later : List Step) (is_start : 
   pub now_first : now_at origin (length handed.steps) ≡ base
   now_first =
       now_seen handed ended (later ++ first) is_handed
-      ∙ one_image (now_after handed.opened handed.steps) base (now_base handed base (record_before handed at_start first is_start record_start) base_is)
+      ∙ one_image (now_after handed.opened handed.steps) base
+      (now_base handed base (record_before handed at_start first is_start record_start) base_is)
 
   starts_later : length handed.steps ≤ length at_start.steps
   starts_later = steps_more handed at_start first is_start
@@ -49,9 +54,11 @@ module _ (handed at_start ended : Record) (first later : List Step) (is_start : 
   ends_later : length at_start.steps ≤ length ended.steps
   ends_later = steps_more at_start ended later is_end
 
-  found_start : FindsVersion sizes start_base none_out version → FindsVersion sizes (now_at (origin_at (length at_start.steps) origin) (length at_start.steps)) none_out version
+  found_start : FindsVersion sizes start_base none_out version
+      → FindsVersion sizes (now_at (origin_at (length at_start.steps) origin) (length at_start.steps)) none_out version
   found_start finds =
-      subst (λ (i : Image). FindsVersion sizes i none_out version) (sym (now_before origin (length at_start.steps) (length at_start.steps) (omega arith) ends_later ∙ now_start)) finds
+      subst (λ (i : Image). FindsVersion sizes i none_out version)
+          (sym (now_before origin (length at_start.steps) (length at_start.steps) (omega arith) ends_later ∙ now_start)) finds
 
   -- until the start every image shows the version in force, and no place of its volumes is touched at any moment
   pub still : ((m : ℕ) → length handed.steps ≤ m → m ≤ length at_start.steps → AllFind sizes none_out version (at_moment m ended))
@@ -61,6 +68,9 @@ module _ (handed at_start ended : Record) (first later : List Step) (is_start : 
     from = starts_later;
     until = ends_later;
     before = before;
-    untouched = λ m ge le. subst (λ (i : Image). AllUntouched i (volumes_of version) (at_moment m ended)) (sym now_first) (untouched m ge le);
-    found = finds_with sizes (now_at (origin_at (length at_start.steps) origin) (length at_start.steps)) none_out (left_out (origin_at (length at_start.steps) origin) [] (length at_start.steps)) version (λ pv. refl) (found_start finds);
+    untouched =
+        λ m ge le. subst (λ (i : Image). AllUntouched i (volumes_of version) (at_moment m ended)) (sym now_first) (untouched m ge le);
+    found =
+        finds_with sizes (now_at (origin_at (length at_start.steps) origin) (length at_start.steps)) none_out
+            (left_out (origin_at (length at_start.steps) origin) [] (length at_start.steps)) version (λ pv. refl) (found_start finds);
   }

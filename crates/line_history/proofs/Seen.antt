@@ -1,5 +1,6 @@
 -- What was told of the disks by an earlier moment.
-use Rattle.std.proofs.Common.{◌≡◌, ◌≤◌, ℕ, zero, suc, ◌+◌, ◌-◌, List, [], ◌∷◌, ◌++◌, length, drop, take, refl, sym, ap, subst, ◌∙◌, arith, length-append}
+use Rattle.std.proofs.Common.{◌≡◌, ◌≤◌, ℕ, zero, suc, ◌+◌, ◌-◌, List, [], ◌∷◌, ◌++◌, length, drop, take, refl, sym, ap, subst, ◌∙◌, arith,
+    length-append}
 use Rattle.std.proofs.lemmas.List.{length-drop}
 use Rattle.disk_model.proofs.EveryMoment.{drop_newer}
 use Rattle.disk_model.specs.Moments.{at_moment}
@@ -23,21 +24,26 @@ record_drop (suc k) (Submitted tag work ∷ steps) is = record_drop k steps is.1
 record_drop (suc k) (Completed tag work well fresh ∷ steps) is = record_drop k steps is.1
 
 pub steps_more : (old new : Record) (newer : List Step) → new ≡ steps_on newer old → length old.steps ≤ length new.steps
-steps_more old new newer is = subst (λ (t : Record). length old.steps ≤ length t.steps) (sym is) (let long = length-append newer old.steps in omega (arith, long))
+steps_more old new newer is =
+    subst (λ (t : Record). length old.steps ≤ length t.steps) (sym is) (let long = length-append newer old.steps in omega (arith, long))
 
 -- by a moment of the older record the newer one told the same
-pub moment_seen : (old new : Record) (newer : List Step) → new ≡ steps_on newer old → (m : ℕ) → m ≤ length old.steps → at_moment m new ≡ at_moment m old
+pub moment_seen : (old new : Record) (newer : List Step) → new ≡ steps_on newer old → (m : ℕ) → m ≤ length old.steps
+    → at_moment m new ≡ at_moment m old
 moment_seen old new newer is m le =
     let long = length-append newer old.steps in
     let e : length (newer ++ old.steps) - m ≡ length newer + (length old.steps - m) = omega (arith, long, le) in
     ap (λ (t : Record). at_moment m t) is
-    ∙ ap (λ (l : List Step). record { opened = old.opened; steps = l }) (ap (λ (n : ℕ). drop n (newer ++ old.steps)) e ∙ drop_newer newer old.steps (length old.steps - m))
+    ∙ ap (λ (l : List Step). record { opened = old.opened; steps = l })
+    (ap (λ (n : ℕ). drop n (newer ++ old.steps)) e ∙ drop_newer newer old.steps (length old.steps - m))
 
 -- and a read gave the same then
-pub now_seen : (old new : Record) (newer : List Step) → new ≡ steps_on newer old → now_after new.opened (drop (length new.steps - length old.steps) new.steps) ≡ now_after old.opened old.steps
+pub now_seen : (old new : Record) (newer : List Step) → new ≡ steps_on newer old
+    → now_after new.opened (drop (length new.steps - length old.steps) new.steps) ≡ now_after old.opened old.steps
 now_seen old new newer is =
     let e : length old.steps - length old.steps ≡ 0 = omega arith in
-    let m : at_moment (length old.steps) new ≡ at_moment (length old.steps) old = moment_seen old new newer is (length old.steps) (omega arith) in
+    let m : at_moment (length old.steps) new ≡ at_moment (length old.steps) old =
+        moment_seen old new newer is (length old.steps) (omega arith) in
     ap (λ (t : Record). now_after t.opened t.steps) m ∙ ap (λ (n : ℕ). now_after old.opened (drop n old.steps)) e
 
 -- ---- by a moment of the newer steps
@@ -53,7 +59,8 @@ take_front zero (x ∷ xs) ys is = absurd (omega (arith, is))
 take_front (suc n) [] ys is = absurd (omega (arith, is))
 take_front (suc n) (x ∷ xs) ys is = ap (λ l. x ∷ l) (take_front n xs ys (omega (arith, is)))
 
-module _ (old new : Record) (newer : List Step) (is : new ≡ steps_on newer old) (m : ℕ) (ge : length old.steps ≤ m) (le : m ≤ length new.steps) where
+module _ (old new : Record) (newer : List Step) (is : new ≡ steps_on newer old) (m : ℕ) (ge : length old.steps ≤ m)
+    (le : m ≤ length new.steps) where
   -- the newer steps by then
   abbrev pub part : List Step
   part = drop (length new.steps - m) newer
@@ -65,12 +72,15 @@ module _ (old new : Record) (newer : List Step) (is : new ≡ steps_on newer old
   long = ap length new_steps ∙ length-append newer old.steps
 
   pub steps_then : drop (length new.steps - m) new.steps ≡ part ++ old.steps
-  steps_then = ap (λ (l : List Step). drop (length new.steps - m) l) new_steps ∙ drop_front (length new.steps - m) newer old.steps (let l = long in omega (arith, l, ge, le))
+  steps_then =
+      ap (λ (l : List Step). drop (length new.steps - m) l) new_steps
+          ∙ drop_front (length new.steps - m) newer old.steps (let l = long in omega (arith, l, ge, le))
 
   pub part_then : take (m - length old.steps) (drop (length new.steps - m) new.steps) ≡ part
   part_then =
       ap (λ (l : List Step). take (m - length old.steps) l) steps_then
-      ∙ take_front (m - length old.steps) part old.steps (let d = length-drop (length new.steps - m) newer in let l = long in omega (arith, d, l, ge, le))
+      ∙ take_front (m - length old.steps) part old.steps
+      (let d = length-drop (length new.steps - m) newer in let l = long in omega (arith, d, l, ge, le))
 
   pub told_then : at_moment m new ≡ steps_on part old
   told_then =

@@ -11,8 +11,10 @@ use Rattle.volume_history.specs.Runs.{journal_of, lines_of}
 use Rattle.line_history.proofs.Origins.{origin_of}
 use Rattle.line_history.specs.Histories.{HasRunHistory}
 
-pub none_pending : (handed : Record) (base : Image) (sizes : List ℕ) (names : List Word) (clock : ℕ) (ended : Record) (start : ℕ) (version : Option Version) (es : List ChronicleEntry)
-    → Tells (origin_of handed start sizes names clock version ended) es → is_some (pending es) ≡ false → HasRunHistory handed base sizes names clock ended (journal_of es) (lines_of es es)
+pub none_pending : (handed : Record) (base : Image) (sizes : List ℕ) (names : List Word) (clock : ℕ) (ended : Record) (start : ℕ)
+    (version : Option Version) (es : List ChronicleEntry)
+    → Tells (origin_of handed start sizes names clock version ended) es → is_some (pending es) ≡ false
+    → HasRunHistory handed base sizes names clock ended (journal_of es) (lines_of es es)
 none_pending handed base sizes names clock ended start version es told none = record {
   history = told.history;
   last = λ some. absurd (true≢false (sym some ∙ (ap (λ (l : List ChronicleEntry). is_some (pending l)) told.entries_is ∙ none)));

@@ -60,7 +60,8 @@ none_written own (Submitted tag (Flushing disk) ∷ steps) nothing = none_writte
 none_written own (Completed tag work well fresh ∷ steps) nothing = none_written own steps nothing
 
 -- the newest steps of a record, as many as were told since an older one, are those
-pub newest : (old new : Record) (newer : List Step) → new ≡ steps_on newer old → take (length new.steps - length old.steps) new.steps ≡ newer
+pub newest : (old new : Record) (newer : List Step) → new ≡ steps_on newer old
+    → take (length new.steps - length old.steps) new.steps ≡ newer
 newest old new newer is =
     let more = steps_more old new newer is in
     let e : length new.steps - length new.steps ≡ 0 = omega arith in

@@ -1,5 +1,6 @@
 -- A sector that batches write, by which of their writes, and that it is one of a list.
-use Rattle.std.proofs.Common.{◌≡◌, ◌<◌, ◌⊎◌, ℕ, zero, suc, Bool, true, IsTrue, List, [], ◌∷◌, ◌++◌, length, get_or, map, Option, inl, inr, ⊎_elim, refl, sym, arith}
+use Rattle.std.proofs.Common.{◌≡◌, ◌<◌, ◌⊎◌, ℕ, zero, suc, Bool, true, IsTrue, List, [], ◌∷◌, ◌++◌, length, get_or, map, Option, inl, inr,
+    ⊎_elim, refl, sym, arith}
 use Rattle.std.specs.Prelude.{flat_map}
 use Rattle.std.specs.List.{list_any}
 use Rattle.std.proofs.lemmas.Bool.{or_cases, or_left, or_right, true≢false}
@@ -21,7 +22,8 @@ module _ (pv sector : ℕ) where
   -- ---- which value is written
 
   -- a batch writes a value to the sector, or those behind it write it
-  in_batch : (puts rest : List Put) → IsTrue (writes_at (map write_work (puts ++ rest)) pv sector) → ((value : List ℕ) × IsWrittenBy puts pv sector value) ⊎ IsTrue (writes_at (map write_work rest) pv sector)
+  in_batch : (puts rest : List Put) → IsTrue (writes_at (map write_work (puts ++ rest)) pv sector)
+      → ((value : List ℕ) × IsWrittenBy puts pv sector value) ⊎ IsTrue (writes_at (map write_work rest) pv sector)
   in_batch [] rest is = inr is
   in_batch (put ∷ puts) rest is =
       ⊎_elim
@@ -39,13 +41,16 @@ module _ (pv sector : ℕ) where
 
   -- ---- of which of a list the write is
 
-  written_append : (first more : List Put) (value : List ℕ) → IsWrittenBy (first ++ more) pv sector value → IsWrittenBy first pv sector value ⊎ IsWrittenBy more pv sector value
+  written_append : (first more : List Put) (value : List ℕ) → IsWrittenBy (first ++ more) pv sector value
+      → IsWrittenBy first pv sector value ⊎ IsWrittenBy more pv sector value
   written_append [] more value by = inr by
   written_append (put ∷ first) more value (inl here) = inl (inl here)
   written_append (put ∷ first) more value (inr later) = ⊎_elim (λ x. inl (inr x)) (λ y. inr y) (written_append first more value later)
 
   -- where each of a list has several
-  pub written_of_flat : {X : Type 0} (puts : X → List Put) (is : X → Bool) → ((x : X) (value : List ℕ) → IsWrittenBy (puts x) pv sector value → is x ≡ true) → (xs : List X) (value : List ℕ) → IsWrittenBy (flat_map puts xs) pv sector value → list_any is xs ≡ true
+  pub written_of_flat : {X : Type 0} (puts : X → List Put) (is : X → Bool)
+      → ((x : X) (value : List ℕ) → IsWrittenBy (puts x) pv sector value → is x ≡ true) → (xs : List X) (value : List ℕ)
+      → IsWrittenBy (flat_map puts xs) pv sector value → list_any is xs ≡ true
   written_of_flat puts is each [] value by = absurd by
   written_of_flat puts is each (x ∷ xs) value by =
       ⊎_elim
@@ -55,10 +60,14 @@ module _ (pv sector : ℕ) where
 
   -- ---- a write of a commit
 
-  in_one : (areas : List (Area × Option Locn)) (d : Area × Option Locn) (k : ℕ) → k < length areas → covers (area_span (get_or areas k d).0) pv sector ≡ true → in_areas areas pv sector ≡ true
+  in_one : (areas : List (Area × Option Locn)) (d : Area × Option Locn) (k : ℕ) → k < length areas
+      → covers (area_span (get_or areas k d).0) pv sector ≡ true → in_areas areas pv sector ≡ true
   in_one [] d k within is = absurd (omega (arith, within))
   in_one (a ∷ areas) d zero within is = or_left (covers (area_span a.0) pv sector) (in_areas areas pv sector) is
-  in_one (a ∷ areas) d (suc k) within is = or_right (covers (area_span a.0) pv sector) (in_areas areas pv sector) (in_one areas d k (omega (arith, within)) is)
+  in_one (a ∷ areas) d (suc k) within is =
+      or_right (covers (area_span a.0) pv sector) (in_areas areas pv sector) (in_one areas d k (omega (arith, within)) is)
 
-  pub area_write : (text : List ℕ) (areas : List (Area × Option Locn)) (value : List ℕ) → IsAreaWrite text areas pv sector value → in_areas areas pv sector ≡ true
-  area_write text areas value w = in_one areas no_area w.number w.among (covers_from (area_span (get_or areas w.number no_area).0) pv sector w.disk w.from w.to)
+  pub area_write : (text : List ℕ) (areas : List (Area × Option Locn)) (value : List ℕ) → IsAreaWrite text areas pv sector value
+      → in_areas areas pv sector ≡ true
+  area_write text areas value w =
+      in_one areas no_area w.number w.among (covers_from (area_span (get_or areas w.number no_area).0) pv sector w.disk w.from w.to)

@@ -13,7 +13,9 @@ use Rattle.image_scans.proofs.Front.{any_append, any_if, written_of}
 use Rattle.line_history.specs.Places.{AtCleared, AtUnused, BatchesWrite, IsClearPlace}
 use Rattle.line_history.proofs.WritesLieAny.{any_writes}
 
-pub clear_writes_lie : (state : GroupState) (line : Line) (now : ℕ) (given : List Part) (pv sector : ℕ) → BatchesWrite (clears_of state line now given) pv sector → IsClearPlace (change_of state line now given).cleared state.disks state.areas pv sector
+pub clear_writes_lie : (state : GroupState) (line : Line) (now : ℕ) (given : List Part) (pv sector : ℕ)
+    → BatchesWrite (clears_of state line now given) pv sector
+    → IsClearPlace (change_of state line now given).cleared state.disks state.areas pv sector
 clear_writes_lie state line now given pv sector is =
     let cleared : FinSet nat_cmp = (change_of state line now given).cleared in
     let labels = unused_labels cleared state.disks in

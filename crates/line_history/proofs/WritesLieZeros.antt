@@ -17,9 +17,12 @@ use Rattle.image_scans.proofs.Zeroes.{zeroes_lie}
 use Rattle.line_history.specs.Places.{BatchesWrite}
 use Rattle.line_history.proofs.WritesLieAny.{any_writes}
 
-pub zero_writes_lie : (base : Image) (sizes : List ℕ) (found : Found) (names : List (List ℕ)) (backup : Option Backup) (line : Line) (now : ℕ) (given : List Part) → CanCarryOut base sizes found names backup line now given
-    → (pv sector : ℕ) → BatchesWrite (zeros_of (state_in found names backup) line now given) pv sector → (group : Group) × (found.group ≡ Some group) × IsFree group found.disk_of pv sector
+pub zero_writes_lie : (base : Image) (sizes : List ℕ) (found : Found) (names : List (List ℕ)) (backup : Option Backup) (line : Line)
+    (now : ℕ) (given : List Part) → CanCarryOut base sizes found names backup line now given
+    → (pv sector : ℕ) → BatchesWrite (zeros_of (state_in found names backup) line now given) pv sector
+    → (group : Group) × (found.group ≡ Some group) × IsFree group found.disk_of pv sector
 zero_writes_lie base sizes found names backup line now given p pv sector is =
     let change : Change = change_of (state_in found names backup) line now given in
     let w = any_writes pv sector (zeros_of (state_in found names backup) line now given) is in
-    zeroes_lie base sizes found names backup line now given p pv sector (written_of pv sector zero_put change.zero w.0 (any_if (map zero_put change.zero) pv sector w.0 w.1))
+    zeroes_lie base sizes found names backup line now given p pv sector
+        (written_of pv sector zero_put change.zero w.0 (any_if (map zero_put change.zero) pv sector w.0 w.1))

@@ -24,14 +24,18 @@ use Rattle.line_history.specs.LineRun.{ClearsLine, Given}
 -- empty, finds no group or the one that was committed
 abbrev pub EachSetFinds : Type 0
 EachSetFinds =
-    (base : Image) (sizes : List ℕ) (found : Found) (names : List (List ℕ)) (backup : Option Backup) (line : Line) (now : ℕ) (given : List Part) (group : Group) → CanCarryOut base sizes found names backup line now given
+    (base : Image) (sizes : List ℕ) (found : Found) (names : List (List ℕ)) (backup : Option Backup) (line : Line) (now : ℕ)
+        (given : List Part) (group : Group) → CanCarryOut base sizes found names backup line now given
     → (change_of (state_in found names backup) line now given).group ≡ Some group
-    → (some : Found) (other : Group) → IsScanOf (with_batches (clears_of (state_in found names backup) line now given) (with_batches (batches_of (state_in found names backup) line now given) base)) sizes some → some.group ≡ Some other → other ≡ group
+    → (some : Found) (other : Group) → IsScanOf
+    (with_batches (clears_of (state_in found names backup) line now given)
+    (with_batches (batches_of (state_in found names backup) line now given) base)) sizes some → some.group ≡ Some other → other ≡ group
 
 -- and once a vgremove has cleared its disks, it finds none
 abbrev pub EachSetRemoved : Type 0
 EachSetRemoved =
-    (base : Image) (sizes : List ℕ) (found : Found) (names : List (List ℕ)) (backup : Option Backup) (line : Line) (now : ℕ) (given : List Part) (vg : List ℕ) → CanCarryOut base sizes found names backup line now given → line.command ≡ Vgremove vg
+    (base : Image) (sizes : List ℕ) (found : Found) (names : List (List ℕ)) (backup : Option Backup) (line : Line) (now : ℕ)
+        (given : List Part) (vg : List ℕ) → CanCarryOut base sizes found names backup line now given → line.command ≡ Vgremove vg
     → (some : Found) → IsScanOf (with_batches (clears_of (state_in found names backup) line now given) base) sizes some → some.group ≡ None
 
 -- each of the disks that were read is one of these
@@ -41,24 +45,29 @@ AreMembers sizes disks some = (pv : ℕ) → pv < length sizes → set.contains 
 -- and while disks are cleared, or where that failed, a scan of any of the disks of the group that was committed finds none or that
 abbrev pub EachMemberFinds : Type 0
 EachMemberFinds =
-    (base image : Image) (sizes : List ℕ) (found : Found) (names : List (List ℕ)) (backup : Option Backup) (line : Line) (now : ℕ) (given : List Part) (group : Group) → CanCarryOut base sizes found names backup line now given
+    (base image : Image) (sizes : List ℕ) (found : Found) (names : List (List ℕ)) (backup : Option Backup) (line : Line) (now : ℕ)
+        (given : List Part) (group : Group) → CanCarryOut base sizes found names backup line now given
     → (change_of (state_in found names backup) line now given).group ≡ Some group
-    → HasFirstBatches (clears_of (state_in found names backup) line now given) (with_batches (batches_of (state_in found names backup) line now given) base) image
-    → (some : Found) (other : Group) → IsScanOf image sizes some → AreMembers sizes (change_of (state_in found names backup) line now given).disk_of some → some.group ≡ Some other → other ≡ group
+    → HasFirstBatches (clears_of (state_in found names backup) line now given)
+    (with_batches (batches_of (state_in found names backup) line now given) base) image
+    → (some : Found) (other : Group) → IsScanOf image sizes some
+    → AreMembers sizes (change_of (state_in found names backup) line now given).disk_of some → some.group ≡ Some other → other ≡ group
 
 -- in every image that a crash may leave then, a scan of any of the disks finds no group or that of the version which a scan of
 -- all of them finds
 abbrev pub SetsAgree : List ℕ → Record → Type 0
 SetsAgree sizes told =
     (image : Image) → IsImage told image → (version : Option Version) → FindsVersion sizes image none_out version
-    → (some : Found) (group : Group) → IsScanOf image sizes some → some.group ≡ Some group → option_map (λ (v : Version). v.group) version ≡ Some group
+    → (some : Found) (group : Group) → IsScanOf image sizes some → some.group ≡ Some group
+    → option_map (λ (v : Version). v.group) version ≡ Some group
 
 -- in every image that a crash may leave then, where a scan of all disks finds a version, a scan of any of those of its physical
 -- volumes finds no group or that of the version
 abbrev pub MembersAgree : List ℕ → Record → Type 0
 MembersAgree sizes told =
     (image : Image) → IsImage told image → (version : Version) → FindsVersion sizes image none_out (Some version)
-    → (some : Found) (group : Group) → IsScanOf image sizes some → AreMembers sizes version.disk_of some → some.group ≡ Some group → group ≡ version.group
+    → (some : Found) (group : Group) → IsScanOf image sizes some → AreMembers sizes version.disk_of some → some.group ≡ Some group
+    → group ≡ version.group
 
 -- so it is at the end of a run whose line has committed a group, or removed it
 abbrev pub DoneSetsAgree : Type 0
@@ -67,4 +76,5 @@ DoneSetsAgree = (g : Given) (start ended : Record) → ClearsLine g true start e
 -- and so it is of the disks of the group at the end of one whose line has committed it, whether or not the disks could be cleared that it
 -- lets go
 abbrev pub MadeMembersAgree : Type 0
-MadeMembersAgree = (g : Given) (well : Bool) (start ended : Record) → ClearsLine g well start ended → commits_in g ≡ true → MembersAgree g.sizes ended
+MadeMembersAgree =
+    (g : Given) (well : Bool) (start ended : Record) → ClearsLine g well start ended → commits_in g ≡ true → MembersAgree g.sizes ended

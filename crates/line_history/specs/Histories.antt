@@ -77,7 +77,8 @@ making false count batches clears = batches ++ take count clears
 
 -- all was submitted that the repair of what a scan of the base finds and this line write until the group is committed, or the clearing
 -- of its disks was begun, where the line removes it
-pub record HasSubmittedAll (handed : Record) (base : Image) (sizes : List ℕ) (names : List Word) (clock : ℕ) (line : Line) (ended : Record) : Type 0 where
+pub record HasSubmittedAll (handed : Record) (base : Image) (sizes : List ℕ) (names : List Word) (clock : ℕ) (line : Line)
+    (ended : Record) : Type 0 where
   pub found : Found
   pub scan : IsScanOf base sizes found
   pub since : List Step
@@ -88,8 +89,11 @@ pub record HasSubmittedAll (handed : Record) (base : Image) (sizes : List ℕ) (
   pub takes : Takes (asks_of (state_in (repaired_of found) names backup) line) given
   pub count : ℕ
   pub some : 1 ≤ count
-  pub writes : writes_submitted since ≡ flat_map (λ batch. batch) (repair_batches found ++ zeros_of (state_in (repaired_of found) names backup) line clock given ++
-      making (is_some (change_of (state_in (repaired_of found) names backup) line clock given).group) count (batches_of (state_in (repaired_of found) names backup) line clock given) (clears_of (state_in (repaired_of found) names backup) line clock given))
+  pub writes : writes_submitted since ≡ flat_map (λ batch. batch)
+      (repair_batches found ++ zeros_of (state_in (repaired_of found) names backup) line clock given ++
+      making (is_some (change_of (state_in (repaired_of found) names backup) line clock given).group) count
+          (batches_of (state_in (repaired_of found) names backup) line clock given)
+          (clears_of (state_in (repaired_of found) names backup) line clock given))
 
 -- a run of one line had come so far
 abbrev pub IsAtLast : Record → Image → List ℕ → List Word → ℕ → List (Line × Option Answer) → Record → Type 0
@@ -99,7 +103,8 @@ IsAtLast handed base sizes names clock lines ended = ⊥
 -- A run has its history, where each sector had one possible value when the disks were handed in, that of the base. A command is
 -- pending at its end only where the run had come to its commit's last batch, or to the first of those that clear the disks of a group
 -- that is removed: one that failed earlier has changed nothing, and the version that stood is in force.
-pub record HasRunHistory (handed : Record) (base : Image) (sizes : List ℕ) (names : List Word) (clock : ℕ) (ended : Record) (journal : List JournalEntry) (lines : List (Line × Option Answer)) : Type 0 where
+pub record HasRunHistory (handed : Record) (base : Image) (sizes : List ℕ) (names : List Word) (clock : ℕ) (ended : Record)
+    (journal : List JournalEntry) (lines : List (Line × Option Answer)) : Type 0 where
   pub history : HasHistory (run_from handed sizes names clock ended) journal lines
   pub last : is_some (pending history.chronicle.entries) ≡ true → IsAtLast handed base sizes names clock lines ended
 
@@ -117,7 +122,8 @@ LinesHaveHistories =
 abbrev pub ClearsHaveHistories : Type 0
 ClearsHaveHistories =
     (g : Given) (well : Bool) (start ended : Record) (said : Answer) (c : ClearsLine g well start ended) → MayEnd well said
-    → HasHistoryOf g ended (journal_of_line (length start.steps) (took_of (commits_in g) well (length c.made.steps) (length ended.steps)) (length ended.steps)) ((g.line, Some said) ∷ [])
+    → HasHistoryOf g ended (journal_of_line (length start.steps) (took_of (commits_in g) well (length c.made.steps) (length ended.steps))
+    (length ended.steps)) ((g.line, Some said) ∷ [])
 
 -- nothing of the line was written
 abbrev pub IsBeforeLine : Stage → Type 0
@@ -148,7 +154,8 @@ pub record LooksAlone (handed : Record) (sizes : List ℕ) (start ended : Record
 -- a run that only looked at its disks, and began no line, has its history
 abbrev pub LooksHaveHistories : Type 0
 LooksHaveHistories =
-    (handed : Record) (sizes : List ℕ) (names : List Word) (clock : ℕ) (start ended : Record) (l : LooksAlone handed sizes start ended) → HasRunHistory handed l.base sizes names clock ended [] []
+    (handed : Record) (sizes : List ℕ) (names : List Word) (clock : ℕ) (start ended : Record) (l : LooksAlone handed sizes start ended)
+        → HasRunHistory handed l.base sizes names clock ended [] []
 
 -- the answer is ok, or none that is given for something done
 abbrev pub IsFineOrBad : Answer → Type 0
@@ -163,6 +170,8 @@ took_if _ ended = None
 -- so has one whose line commits nothing
 abbrev pub ReportsHaveHistories : Type 0
 ReportsHaveHistories =
-    (handed : Record) (sizes : List ℕ) (names : List Word) (clock : ℕ) (start ended : Record) (line : Line) (said : Answer) (l : LooksAlone handed sizes start ended)
+    (handed : Record) (sizes : List ℕ) (names : List Word) (clock : ℕ) (start ended : Record) (line : Line) (said : Answer)
+        (l : LooksAlone handed sizes start ended)
     → is_quiet line.command ≡ true → commits line.command ≡ false → IsFineOrBad said → may_say line.command said ≡ true
-    → HasRunHistory handed l.base sizes names clock ended (journal_of_line (length start.steps) (took_if said (length ended.steps)) (length ended.steps)) ((line, Some said) ∷ [])
+    → HasRunHistory handed l.base sizes names clock ended
+    (journal_of_line (length start.steps) (took_if said (length ended.steps)) (length ended.steps)) ((line, Some said) ∷ [])

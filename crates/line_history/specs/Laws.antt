@@ -24,7 +24,8 @@ use Rattle.volume_history.specs.Changing.{ChangesVolumes}
 -- the version that a line commits has the volumes that its command makes of those that were found
 abbrev pub CommitChangesVolumes : Type 0
 CommitChangesVolumes =
-    (base : Image) (sizes : List ℕ) (found : Found) (names : List (List ℕ)) (backup : Option Backup) (line : Line) (now : ℕ) (given : List Part) (group : Group) → CanCarryOut base sizes found names backup line now given
+    (base : Image) (sizes : List ℕ) (found : Found) (names : List (List ℕ)) (backup : Option Backup) (line : Line) (now : ℕ)
+        (given : List Part) (group : Group) → CanCarryOut base sizes found names backup line now given
     → (change_of (state_in found names backup) line now given).group ≡ Some group
     → ChangesVolumes line.command (version_in found) (Some (version_of group (change_of (state_in found names backup) line now given)))
 
@@ -33,5 +34,6 @@ CommitChangesVolumes =
 abbrev pub PlacesUntouched : Type 0
 PlacesUntouched =
     (base : Image) (sizes : List ℕ) (found : Found) (told : Record) → IsScanOf base sizes found → HasShape found → IsRecord told.steps
-    → ((image : Image) → IsImage told image → (group : Group) → found.group ≡ Some group → (lv sector : ℕ) (at : At) → primary group lv sector ≡ Some at → at_place image found.disk_of at ≡ at_place base found.disk_of at)
+    → ((image : Image) → IsImage told image → (group : Group) → found.group ≡ Some group → (lv sector : ℕ) (at : At)
+    → primary group lv sector ≡ Some at → at_place image found.disk_of at ≡ at_place base found.disk_of at)
     → AllUntouched base (volumes_of (version_in found)) told

@@ -47,12 +47,14 @@ in_headers areas pv sector = list_any (λ (area : Area × Option Locn). covers (
 -- whether it is that of the header of an area that stands behind one of the labels
 abbrev pub in_new_headers : List NewLabel → ℕ → ℕ → Bool
 in_new_headers labels pv sector =
-    list_any (λ (label : NewLabel). list_any (λ (area : Extent). covers (one_sector label.disk (area.offset / 512)) pv sector) label.header.areas) labels
+    list_any (λ (label : NewLabel). list_any (λ (area : Extent). covers (one_sector label.disk (area.offset / 512)) pv sector)
+        label.header.areas) labels
 
 -- where a line may write that makes this change, on disks with these areas
 pub data IsLinePlace (change : Change) (areas : List (Area × Option Locn)) (pv sector : ℕ) : Type 0 where
   -- a metadata area of a physical volume of the group that it commits
-  InArea : (group : Group) → change.group ≡ Some group → IsTrue (in_areas (areas_of change areas) pv sector) → IsLinePlace change areas pv sector
+  InArea : (group : Group) → change.group ≡ Some group → IsTrue (in_areas (areas_of change areas) pv sector)
+      → IsLinePlace change areas pv sector
   -- the label sector of a physical volume that it creates or adds
   AtLabel : IsTrue (in_labels change.labels pv sector) → IsLinePlace change areas pv sector
   -- the header of a metadata area of a physical volume that it creates, where it commits no group
@@ -77,24 +79,29 @@ pub data IsClearPlace (cleared : set.FinSet nat_cmp) (disks : List Disk) (areas 
 -- each write of a line behind its zeros lies where a line may write
 abbrev pub LineWritesLie : Type 0
 LineWritesLie =
-    (base : Image) (sizes : List ℕ) (found : Found) (names : List (List ℕ)) (backup : Option Backup) (line : Line) (now : ℕ) (given : List Part) → CanCarryOut base sizes found names backup line now given
+    (base : Image) (sizes : List ℕ) (found : Found) (names : List (List ℕ)) (backup : Option Backup) (line : Line) (now : ℕ)
+        (given : List Part) → CanCarryOut base sizes found names backup line now given
     → (pv sector : ℕ) → BatchesWrite (batches_of (state_in found names backup) line now given) pv sector
     → IsLinePlace (change_of (state_in found names backup) line now given) (state_in found names backup).areas pv sector
 
 -- each write of its zeros lies in the extents of the group that was found, at no primary place of a volume
 abbrev pub ZeroWritesLie : Type 0
 ZeroWritesLie =
-    (base : Image) (sizes : List ℕ) (found : Found) (names : List (List ℕ)) (backup : Option Backup) (line : Line) (now : ℕ) (given : List Part) → CanCarryOut base sizes found names backup line now given
-    → (pv sector : ℕ) → BatchesWrite (zeros_of (state_in found names backup) line now given) pv sector → (group : Group) × (found.group ≡ Some group) × IsFree group found.disk_of pv sector
+    (base : Image) (sizes : List ℕ) (found : Found) (names : List (List ℕ)) (backup : Option Backup) (line : Line) (now : ℕ)
+        (given : List Part) → CanCarryOut base sizes found names backup line now given
+    → (pv sector : ℕ) → BatchesWrite (zeros_of (state_in found names backup) line now given) pv sector
+    → (group : Group) × (found.group ≡ Some group) × IsFree group found.disk_of pv sector
 
 -- each write that clears a disk lies on one that the group lets go
 abbrev pub ClearWritesLie : Type 0
 ClearWritesLie =
-    (state : GroupState) (line : Line) (now : ℕ) (given : List Part) (pv sector : ℕ) → BatchesWrite (clears_of state line now given) pv sector
+    (state : GroupState) (line : Line) (now : ℕ) (given : List Part) (pv sector : ℕ)
+        → BatchesWrite (clears_of state line now given) pv sector
     → IsClearPlace (change_of state line now given).cleared state.disks state.areas pv sector
 
 -- each write of a repair lies where a repair may write
 abbrev pub RepairWritesLie : Type 0
 RepairWritesLie =
-    (base : Image) (sizes : List ℕ) (found : Found) → CanRepair base sizes found → (pv sector : ℕ) → BatchesWrite (repair_batches found) pv sector
+    (base : Image) (sizes : List ℕ) (found : Found) → CanRepair base sizes found → (pv sector : ℕ)
+        → BatchesWrite (repair_batches found) pv sector
     → IsRepairPlace found pv sector

@@ -1,5 +1,6 @@
 -- How many lines are open.
-use Rattle.std.proofs.Common.{◌≡◌, ◌≤◌, ℕ, zero, suc, ◌-◌, Bool, true, false, cond, not, ◌||◌, nat_eq, slice_set, List, [], ◌∷◌, length, Option, refl, arith}
+use Rattle.std.proofs.Common.{◌≡◌, ◌≤◌, ℕ, zero, suc, ◌-◌, Bool, true, false, cond, not, ◌||◌, nat_eq, slice_set, List, [], ◌∷◌, length,
+    Option, refl, arith}
 use Rattle.std.proofs.lemmas.Bool.Decides.{nat_tests}
 use Rattle.std.specs.Prelude.{filter, slice_get}
 use Rattle.std.specs.Option.{option_map_or}
@@ -52,7 +53,8 @@ one_open (x ∷ xs) (suc at) open_at = later (is_open x) (one_open xs at open_at
     later false le = le
 
 -- once it is answered there is one less
-pub open_less : (xs : List (ℕ × Option Answer)) (at : ℕ) (y : ℕ × Option Answer) → is_open_at xs at ≡ true → is_open y ≡ false → open_count (slice_set xs at y) ≡ open_count xs - 1
+pub open_less : (xs : List (ℕ × Option Answer)) (at : ℕ) (y : ℕ × Option Answer) → is_open_at xs at ≡ true → is_open y ≡ false
+    → open_count (slice_set xs at y) ≡ open_count xs - 1
 open_less [] at y open_at closed = cc
 open_less (x ∷ xs) zero y open_at closed = first (is_open x) (is_open y) open_at closed
   where
@@ -62,6 +64,7 @@ open_less (x ∷ xs) zero y open_at closed = first (is_open x) (is_open y) open_
     first false c e f = cc
 open_less (x ∷ xs) (suc at) y open_at closed = later (is_open x) (open_less xs at y open_at closed) (one_open xs at open_at)
   where
-    later : (b : Bool) → open_count (slice_set xs at y) ≡ open_count xs - 1 → 1 ≤ open_count xs → and_more b x (slice_set xs at y) ≡ and_more b x xs - 1
+    later : (b : Bool) → open_count (slice_set xs at y) ≡ open_count xs - 1 → 1 ≤ open_count xs
+        → and_more b x (slice_set xs at y) ≡ and_more b x xs - 1
     later true e le = omega (arith, e, le)
     later false e le = e

@@ -25,10 +25,13 @@ use Rattle.lv_plans.specs.Volumes.{locked_row, taken_row}
 
 -- ---- the volume of a name
 
-pub plans_on : (o : Option (ℕ × Lv)) (number : ℕ) (rows : ℕ × Lv → List (Option OpRefusal)) (others : List (Option OpRefusal)) (wanted : Change) (result : Result Change PlanRefusal)
-    → Some number ≡ option_map (λ (v : ℕ × Lv). v.0) o → ((lv : Lv) → Plans (rows (number, lv)) wanted result) → Plans (option_map_or rows o others) wanted result
+pub plans_on : (o : Option (ℕ × Lv)) (number : ℕ) (rows : ℕ × Lv → List (Option OpRefusal)) (others : List (Option OpRefusal))
+    (wanted : Change) (result : Result Change PlanRefusal)
+    → Some number ≡ option_map (λ (v : ℕ × Lv). v.0) o → ((lv : Lv) → Plans (rows (number, lv)) wanted result)
+    → Plans (option_map_or rows o others) wanted result
 plans_on None number rows others wanted result is plans = absurd cc
-plans_on (Some v) number rows others wanted result is plans = subst (λ (n : ℕ). Plans (rows (n, v.1)) wanted result) (same_Some number v.0 is) (plans v.1)
+plans_on (Some v) number rows others wanted result is plans =
+    subst (λ (n : ℕ). Plans (rows (n, v.1)) wanted result) (same_Some number v.0 is) (plans v.1)
 
 pub unknown_on : (o : Option (ℕ × Lv)) (rows : ℕ × Lv → List (Option OpRefusal)) (name : List ℕ) → None ≡ option_map (λ (v : ℕ × Lv). v.0) o
     → first_refusal (option_map_or rows o (Some (UnknownVolume name) ∷ [])) ≡ Some (UnknownVolume name)
@@ -40,9 +43,12 @@ named_is_some None number is = absurd cc
 named_is_some (Some v) number is = refl
 
 -- the change of an lvremove, where the volume has this number
-pub removes_on : (state : GroupState) (group : Group) (number : ℕ) (o : Option (ℕ × Lv)) (rows : ℕ × Lv → List (Option OpRefusal)) (others : List (Option OpRefusal)) (result : Result Change PlanRefusal)
-    → Some number ≡ option_map (λ (v : ℕ × Lv). v.0) o → ((lv : Lv) → Plans (rows (number, lv)) (version_change state (without_volume group number)) result)
-    → Plans (option_map_or rows o others) (option_map_or (λ (v : ℕ × Lv). version_change state (without_volume group v.0)) o (no_change state)) result
+pub removes_on : (state : GroupState) (group : Group) (number : ℕ) (o : Option (ℕ × Lv)) (rows : ℕ × Lv → List (Option OpRefusal))
+    (others : List (Option OpRefusal)) (result : Result Change PlanRefusal)
+    → Some number ≡ option_map (λ (v : ℕ × Lv). v.0) o
+    → ((lv : Lv) → Plans (rows (number, lv)) (version_change state (without_volume group number)) result)
+    → Plans (option_map_or rows o others) (option_map_or (λ (v : ℕ × Lv). version_change state (without_volume group v.0)) o
+    (no_change state)) result
 removes_on state group number None rows others result is plans = absurd cc
 removes_on state group number (Some v) rows others result is plans =
     subst (λ (n : ℕ). Plans (rows (n, v.1)) (version_change state (without_volume group n)) result) (same_Some number v.0 is) (plans v.1)
@@ -72,22 +78,30 @@ three_pass : (a b c : Option OpRefusal) → a ≡ None → b ≡ None → c ≡ 
 three_pass a b c first second third = rw (first, second, third) refl
 
 -- the rows of an lvrename, where none before the text's refuses
-pub rename_plans : (state : GroupState) (old name new : List ℕ) (now number : ℕ) (found group next : Group) (result : Result Change PlanRefusal) → found ≡ group → name ≡ new → next ≡ renamed_volume old name group
-    → taken_row found name ≡ None → locked_row found old number ≡ None → no_area_row state ≡ None → seqno_row found ≡ None → Plans (length_row state next now ∷ []) (version_change state next) result
+pub rename_plans : (state : GroupState) (old name new : List ℕ) (now number : ℕ) (found group next : Group)
+    (result : Result Change PlanRefusal) → found ≡ group → name ≡ new → next ≡ renamed_volume old name group
+    → taken_row found name ≡ None → locked_row found old number ≡ None → no_area_row state ≡ None → seqno_row found ≡ None
+    → Plans (length_row state next now ∷ []) (version_change state next) result
     → (lv : Lv) → Plans (rename_lv_rows state old new now group (number, lv)) (version_change state (renamed_volume old new group)) result
 rename_plans state old name new now number found group next result same named is free unlocked area seqno plans lv =
-    subst (λ (n : List ℕ). Plans (rename_lv_rows state old n now group (number, lv)) (version_change state (renamed_volume old n group)) result) named
-    (plans_back (taken_row group name ∷ locked_row group old number ∷ no_area_row state ∷ seqno_row group ∷ []) (length_row state (renamed_volume old name group) now ∷ []) (version_change state (renamed_volume old name group)) result
+    subst (λ (n : List ℕ). Plans (rename_lv_rows state old n now group (number, lv)) (version_change state (renamed_volume old n group))
+        result) named
+    (plans_back (taken_row group name ∷ locked_row group old number ∷ no_area_row state ∷ seqno_row group ∷ [])
+        (length_row state (renamed_volume old name group) now ∷ []) (version_change state (renamed_volume old name group)) result
     (four_pass (taken_row group name) (locked_row group old number) (no_area_row state) (seqno_row group)
-    (subst (λ (g : Group). taken_row g name ≡ None) same free) (subst (λ (g : Group). locked_row g old number ≡ None) same unlocked) area (subst (λ (g : Group). seqno_row g ≡ None) same seqno))
+    (subst (λ (g : Group). taken_row g name ≡ None) same free) (subst (λ (g : Group). locked_row g old number ≡ None) same unlocked) area
+        (subst (λ (g : Group). seqno_row g ≡ None) same seqno))
     (subst (λ (g : Group). Plans (length_row state g now ∷ []) (version_change state g) result) is plans))
 
 -- those of an lvremove
-pub remove_plans : (state : GroupState) (name : List ℕ) (now number : ℕ) (found group next : Group) (result : Result Change PlanRefusal) → found ≡ group → next ≡ without_volume group number
-    → locked_row found name number ≡ None → no_area_row state ≡ None → seqno_row found ≡ None → Plans (length_row state next now ∷ []) (version_change state next) result
+pub remove_plans : (state : GroupState) (name : List ℕ) (now number : ℕ) (found group next : Group) (result : Result Change PlanRefusal)
+    → found ≡ group → next ≡ without_volume group number
+    → locked_row found name number ≡ None → no_area_row state ≡ None → seqno_row found ≡ None
+    → Plans (length_row state next now ∷ []) (version_change state next) result
     → (lv : Lv) → Plans (remove_lv_rows state name now group (number, lv)) (version_change state (without_volume group number)) result
 remove_plans state name now number found group next result same is unlocked area seqno plans lv =
-    plans_back (locked_row group name number ∷ no_area_row state ∷ seqno_row group ∷ []) (length_row state (without_volume group number) now ∷ []) (version_change state (without_volume group number)) result
+    plans_back (locked_row group name number ∷ no_area_row state ∷ seqno_row group ∷ [])
+        (length_row state (without_volume group number) now ∷ []) (version_change state (without_volume group number)) result
     (three_pass (locked_row group name number) (no_area_row state) (seqno_row group)
     (subst (λ (g : Group). locked_row g name number ≡ None) same unlocked) area (subst (λ (g : Group). seqno_row g ≡ None) same seqno))
     (subst (λ (g : Group). Plans (length_row state g now ∷ []) (version_change state g) result) is plans)

@@ -18,13 +18,16 @@ unfolding space_row
 space_none state group want none = ap (option_and_then (shown_refusal state.disk_of)) none
 
 module _ (state : GroupState) (group : Group) (want : Request) (disk_of : List ℕ) (same : disk_of ≡ state.disk_of) where
-  by_reason : (refusal : AllocRefusal) (e : PlanRefusal) → refusal_of group want ≡ Some refusal → IsRefusedBy (shown_refusal disk_of refusal) e → IsRefusedBy (space_row state group want) e
+  by_reason : (refusal : AllocRefusal) (e : PlanRefusal) → refusal_of group want ≡ Some refusal
+      → IsRefusedBy (shown_refusal disk_of refusal) e → IsRefusedBy (space_row state group want) e
   unfolding space_row
   by_reason refusal e reason is =
-      subst (λ (o : Option AllocRefusal). IsRefusedBy (option_and_then (shown_refusal state.disk_of) o) e) (sym reason) (subst (λ (l : List ℕ). IsRefusedBy (shown_refusal l refusal) e) same is)
+      subst (λ (o : Option AllocRefusal). IsRefusedBy (option_and_then (shown_refusal state.disk_of) o) e) (sym reason)
+          (subst (λ (l : List ℕ). IsRefusedBy (shown_refusal l refusal) e) same is)
 
   -- memory was wanting, or this is its first reason
-  pub space_refused : (refusal : AllocRefusal) (e : PlanRefusal) → IsReason (refusal_of group want) refusal → IsRefusedBy (shown_refusal disk_of refusal) e → IsRefusedBy (space_row state group want) e
+  pub space_refused : (refusal : AllocRefusal) (e : PlanRefusal) → IsReason (refusal_of group want) refusal
+      → IsRefusedBy (shown_refusal disk_of refusal) e → IsRefusedBy (space_row state group want) e
   space_refused alloc.NoMemory NoMemory reason is = tt
   space_refused alloc.NoMemory (Refused refusal) reason is = absurd cc
   space_refused (alloc.NotAllocatable pv) e reason is = by_reason (alloc.NotAllocatable pv) e reason is

@@ -1,5 +1,6 @@
 -- The first sectors of a new volume lie in their disk.
-use Rattle.std.proofs.Common.{◌≡◌, ◌≤◌, ◌<◌, ℕ, zero, suc, ◌+◌, ◌*◌, Bool, true, false, ◌&&◌, ◌||◌, cond, ltb, List, [], ◌∷◌, length, map, Option, Some, None, refl, sym, ap, subst, ◌∙◌, arith}
+use Rattle.std.proofs.Common.{◌≡◌, ◌≤◌, ◌<◌, ℕ, zero, suc, ◌+◌, ◌*◌, Bool, true, false, ◌&&◌, ◌||◌, cond, ltb, List, [], ◌∷◌, length, map,
+    Option, Some, None, refl, sym, ap, subst, ◌∙◌, arith}
 use Rattle.std.specs.Prelude.{option_map, slice_get, slice_index, unwrap_or, All, Contains, IfSome}
 use Rattle.std.specs.List.{AllByRecursion as Each, list_any}
 use Rattle.std.proofs.lemmas.Bool.{false≢true}
@@ -38,19 +39,23 @@ Row = List ℕ × Pv
 record EndsOn (group : Group) (disks : List Disk) (pv : Row) (number : ℕ) : Type 0 where
   disk : Disk
   there : slice_get disks number ≡ Some disk
-  ends : pv.1.pe_start < pv.1.pe_start + pv.1.pe_count * group.extent_size → pv.1.pe_start + pv.1.pe_count * group.extent_size ≤ disk.sectors
+  ends : pv.1.pe_start < pv.1.pe_start + pv.1.pe_count * group.extent_size
+      → pv.1.pe_start + pv.1.pe_count * group.extent_size ≤ disk.sectors
 
 module _ (group : Group) (pv : Row) (among : Contains group.pvs pv) where
   abbrev end : ℕ
   end = pv.1.pe_start + pv.1.pe_count * group.extent_size
 
-  own_ends : (reading : Reading) (header : PvHeader) → same_bytes pv.1.id header.id ≡ true → is_this_misplaced group.extent_size reading (pv_shape header) pv ≡ false → pv.1.pe_start < end → end ≤ reading.sectors
+  own_ends : (reading : Reading) (header : PvHeader) → same_bytes pv.1.id header.id ≡ true
+      → is_this_misplaced group.extent_size reading (pv_shape header) pv ≡ false → pv.1.pe_start < end → end ≤ reading.sectors
   own_ends reading header same placed some =
       ends_on pv.1.pe_start end reading.sectors (ltb pv.1.pe_start 8 || list_any (meets_area pv.1.pe_start end) (pv_shape header).areas)
       (sym (ap (λ (b : Bool). b && is_misplaced pv.1.pe_start end reading (pv_shape header)) same) ∙ placed) some
 
   -- where the disk's header has its id
-  here : (disk : Disk) (header : Option PvHeader) → header_on disk.contents ≡ header → unwrap_or (option_map (λ (h : PvHeader). same_bytes h.id pv.1.id) header) false ≡ true → IsPlacedOn group (disk_shape disk) → pv.1.pe_start < end → end ≤ disk.sectors
+  here : (disk : Disk) (header : Option PvHeader) → header_on disk.contents ≡ header
+      → unwrap_or (option_map (λ (h : PvHeader). same_bytes h.id pv.1.id) header) false ≡ true → IsPlacedOn group (disk_shape disk)
+      → pv.1.pe_start < end → end ≤ disk.sectors
   here disk None there has placed some = absurd (false≢true has)
   here disk (Some header) there has placed some =
       own_ends (disk_shape disk) header (same_bytes_to pv.1.id header.id (sym (same_bytes_tells header.id pv.1.id has)))
@@ -61,10 +66,12 @@ module _ (group : Group) (pv : Row) (among : Contains group.pvs pv) where
       among)
       some
 
-  on_own : (disks : List Disk) → Each (IsPlacedOn group) (shapes disks) → disk_with disks pv.1.id < length disks → EndsOn group disks pv (disk_with disks pv.1.id)
+  on_own : (disks : List Disk) → Each (IsPlacedOn group) (shapes disks) → disk_with disks pv.1.id < length disks
+      → EndsOn group disks pv (disk_with disks pv.1.id)
   on_own [] placed within = absurd (omega (arith, within))
   on_own (disk ∷ disks) placed within = by (has_header_id pv.1.id disk) refl within (λ later. on_own disks placed.1 later) where
-    by : (b : Bool) → has_header_id pv.1.id disk ≡ b → cond b 0 (disk_with disks pv.1.id + 1) < suc (length disks) → (disk_with disks pv.1.id < length disks → EndsOn group disks pv (disk_with disks pv.1.id))
+    by : (b : Bool) → has_header_id pv.1.id disk ≡ b → cond b 0 (disk_with disks pv.1.id + 1) < suc (length disks)
+        → (disk_with disks pv.1.id < length disks → EndsOn group disks pv (disk_with disks pv.1.id))
         → EndsOn group (disk ∷ disks) pv (cond b 0 (disk_with disks pv.1.id + 1))
     by true has within later = record { disk = disk; there = refl; ends = here disk (header_on disk.contents) refl has placed.0 }
     by false other within later =
@@ -83,7 +90,8 @@ below_length (y ∷ xs) zero x there = omega arith
 below_length (y ∷ xs) (suc k) x there = let less = below_length xs k x there in omega (arith, less)
 
 -- of each physical volume of the group
-pv_ends : (state : GroupState) → IsState state → (group : Group) → state.group ≡ Some group → (k : ℕ) (pv : Row) → slice_get group.pvs k ≡ Some pv → EndsOn group state.disks pv (slice_index state.disk_of k)
+pv_ends : (state : GroupState) → IsState state → (group : Group) → state.group ≡ Some group → (k : ℕ) (pv : Row)
+    → slice_get group.pvs k ≡ Some pv → EndsOn group state.disks pv (slice_index state.disk_of k)
 pv_ends state is group found k pv at =
     subst (EndsOn group state.disks pv) (sym number)
     (on_own group pv (contains_at group.pvs k pv at) state.disks placed (subst (λ (n : ℕ). n < length state.disks) number within))
@@ -95,16 +103,21 @@ pv_ends state is group found k pv at =
     number = ap (λ (l : List ℕ). slice_index l k) listed ∙ index_at (λ (p : Row). disk_with state.disks p.1.id) group.pvs k pv at
 
     placed : Each (IsPlacedOn group) (shapes state.disks)
-    placed = each_placed group 0 (shapes state.disks) (subst (λ (o : Option Group). IfSome o (λ g. first_misplaced g (shapes state.disks) ≡ None)) found is.placed)
+    placed =
+        each_placed group 0 (shapes state.disks)
+            (subst (λ (o : Option Group). IfSome o (λ g. first_misplaced g (shapes state.disks) ≡ None)) found is.placed)
 
     within : slice_index state.disk_of k < length state.disks
     within =
         let less = below_length group.pvs k pv at in
-        let count : length state.disk_of ≡ length group.pvs = ap length listed ∙ length-map group.pvs (λ (p : Row). disk_with state.disks p.1.id) in
-        subst (λ (o : Option Group). IfSome o (λ g. All (λ n. n < length state.disks) state.disk_of)) found is.there k 0 (omega (arith, less, count))
+        let count : length state.disk_of ≡ length group.pvs =
+            ap length listed ∙ length-map group.pvs (λ (p : Row). disk_with state.disks p.1.id) in
+        subst (λ (o : Option Group). IfSome o (λ g. All (λ n. n < length state.disks) state.disk_of)) found is.there k 0
+            (omega (arith, less, count))
 
 -- the first eight sectors of the volume that the group may have
-pub new_within : (state : GroupState) → IsState state → (group : Group) → state.group ≡ Some group → (name id : List ℕ) (kind : SegKind) (given : List Part) (now : ℕ) → MayHave group id kind given now → IsAccepted group
+pub new_within : (state : GroupState) → IsState state → (group : Group) → state.group ≡ Some group
+    → (name id : List ℕ) (kind : SegKind) (given : List Part) (now : ℕ) → MayHave group id kind given now → IsAccepted group
     → AreWithin state.disks (zeroed_at state.disk_of group given)
 new_within state is group found name id kind given now may accepted =
     let b : Beginning group given = beginning group name id kind given now may accepted in
@@ -115,8 +128,12 @@ new_within state is group found name id kind given now may accepted =
     (record { disk = on.disk; there = on.there; some = omega arith; within = omega (arith, room, ends) })
 
 -- so do these spans
-pub zeroed_within : (state : GroupState) → IsState state → (found group : Group) → found ≡ group → state.group ≡ Some group → (name id : List ℕ) (kind : SegKind) (given parts : List Part) → parts ≡ given → (now : ℕ) → MayHave group id kind given now → IsAccepted found
-    → (disk_of : List ℕ) → disk_of ≡ state.disk_of → (spans : List Span) → spans ≡ zeroed_at disk_of found parts → AreWithin state.disks spans
+pub zeroed_within : (state : GroupState) → IsState state → (found group : Group) → found ≡ group → state.group ≡ Some group
+    → (name id : List ℕ) (kind : SegKind) (given parts : List Part) → parts ≡ given → (now : ℕ) → MayHave group id kind given now
+    → IsAccepted found
+    → (disk_of : List ℕ) → disk_of ≡ state.disk_of → (spans : List Span) → spans ≡ zeroed_at disk_of found parts
+    → AreWithin state.disks spans
 zeroed_within state is found group same there name id kind given parts slice now may accepted disk_of listed spans at =
-    subst (AreWithin state.disks) (sym (at ∙ ap (λ (l : List ℕ). zeroed_at l found parts) listed ∙ ap (λ (g : Group). zeroed_at state.disk_of g parts) same ∙ ap (zeroed_at state.disk_of group) slice))
+    subst (AreWithin state.disks) (sym (at ∙ ap (λ (l : List ℕ). zeroed_at l found parts) listed
+        ∙ ap (λ (g : Group). zeroed_at state.disk_of g parts) same ∙ ap (zeroed_at state.disk_of group) slice))
     (new_within state is group there name id kind given now may (subst IsAccepted same accepted))

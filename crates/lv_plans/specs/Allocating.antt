@@ -30,7 +30,8 @@ pub record Asking : Type 0 where
 -- takes none
 abbrev pub Takes : Option Asking → List Part → Type 0
 Takes None given = given ≡ []
-Takes (Some asking) given = first_refusal asking.rows ≡ None → IsGiven asking.group asking.want given × AreFew asking.group asking.want given
+Takes (Some asking) given =
+    first_refusal asking.rows ≡ None → IsGiven asking.group asking.want given × AreFew asking.group asking.want given
 
 -- the allocator's refusal as the line's, where the physical volumes are on these disks
 abbrev pub shown_refusal : List ℕ → AllocRefusal → Option OpRefusal

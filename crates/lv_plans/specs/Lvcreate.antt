@@ -1,5 +1,6 @@
 -- lvcreate(8): the rows of its refusals, and its change.
-use Rattle.std.specs.Prelude.{◌≡◌, ◌≤◌, ◌<◌, ℕ, ◌+◌, ◌*◌, ◌^◌, ◌||◌, nat_lt, if◌then◌else◌, List, [], ◌∷◌, ◌++◌, length, Option, None, Some, option_map, slice_get, slice_index}
+use Rattle.std.specs.Prelude.{◌≡◌, ◌≤◌, ◌<◌, ℕ, ◌+◌, ◌*◌, ◌^◌, ◌||◌, nat_lt, if◌then◌else◌, List, [], ◌∷◌, ◌++◌, length, Option, None, Some,
+    option_map, slice_get, slice_index}
 use Rattle.std.specs.FinSet as set
 use Rattle.std.specs.Option.{option_and_then, option_map_or}
 use Rattle.std.specs.Ordering.{nat_cmp}
@@ -18,7 +19,8 @@ use Rattle.extent_alloc.specs.declared.part.PartRun.{PartRun}
 use Rattle.extent_alloc.specs.declared.request.Request.{Request}
 use Rattle.group_edits.specs.NewVolume.{new_lv, with_volume}
 use Rattle.group_edits.specs.ShortenedVolume.{parts_of}
-use Rattle.group_plan.specs.Committing.{change_where_found, length_row, named_rows, no_area_row, rows_where_found, seqno_row, zeroing_change}
+use Rattle.group_plan.specs.Committing.{change_where_found, length_row, named_rows, no_area_row, rows_where_found, seqno_row,
+    zeroing_change}
 use Rattle.group_plan.specs.Ids.{has_any_id}
 use Rattle.group_plan.specs.Judging.{many_row, refused_if, stands_on_disk, unknown_row}
 use Rattle.group_plan.specs.Members.{outside_row, pvs_named}
@@ -55,7 +57,8 @@ kind_for new = if nat_lt 0 new.mirrors then Mirror 1024 None [] else Striped (if
 
 -- what it asks of these physical volumes, with extents of so many sectors
 abbrev pub want_on : set.FinSet nat_cmp → ℕ → NewVolume → Request
-want_on pvs extent_size new = record { extents = share_for extent_size new; legs = legs_for new; contiguous = new.contiguous; on = pvs; avoid = set.empty }
+want_on pvs extent_size new =
+    record { extents = share_for extent_size new; legs = legs_for new; contiguous = new.contiguous; on = pvs; avoid = set.empty }
 
 -- what it asks of those on the disks that it names
 abbrev pub want_for : GroupState → Group → NewVolume → Request
@@ -83,7 +86,8 @@ limit_rows state id new group =
 
 -- all up to the allocator's
 abbrev pub new_lv_rows : GroupState → List ℕ → NewVolume → Group → List (Option OpRefusal)
-new_lv_rows state id new group = name_rows state new group ++ limit_rows state id new group ++ space_row state group (want_for state group new) ∷ []
+new_lv_rows state id new group =
+    name_rows state new group ++ limit_rows state id new group ++ space_row state group (want_for state group new) ∷ []
 
 -- the group with the volume, of these parts
 abbrev pub created_group : List ℕ → NewVolume → ℕ → List Part → Group → Group
@@ -121,7 +125,9 @@ eight_from disk extent_size pv run = record { pv = disk; first = pv.pe_start + r
 
 -- those of a leg on a physical volume of the group, on these disks
 abbrev pub leg_zeroed : List ℕ → Group → PartRun → List Span
-leg_zeroed disk_of group run = option_map_or (λ (row : List ℕ × Pv). eight_from (slice_index disk_of run.pv) group.extent_size row.1 run ∷ []) (slice_get group.pvs run.pv) []
+leg_zeroed disk_of group run =
+    option_map_or (λ (row : List ℕ × Pv). eight_from (slice_index disk_of run.pv) group.extent_size row.1 run ∷ [])
+        (slice_get group.pvs run.pv) []
 
 -- the first eight sectors of a volume of these parts, at its first leg
 abbrev pub zeroed_at : List ℕ → Group → List Part → List Span
@@ -135,7 +141,8 @@ pub record Begins (group : Group) (run : PartRun) : Type 0 where
 
 -- the group in force has one more volume, whose first eight sectors are to hold zeros before
 abbrev pub create_change : GroupState → List ℕ → NewVolume → ℕ → Group → List Part → Change
-create_change state id new now group given = zeroing_change state (zeroed_at state.disk_of group given) (created_group id new now given group)
+create_change state id new now group given =
+    zeroing_change state (zeroed_at state.disk_of group given) (created_group id new now given group)
 
 -- it is that which was found
 abbrev pub lvcreate_change : GroupState → List ℕ → NewVolume → ℕ → List Part → Change

@@ -10,7 +10,8 @@ use Rattle.meta_model.specs.declared.lv.Lv.{Lv}
 use Rattle.volume_rules.specs.Extents.{extents_of}
 use Rattle.group_edits.specs.ShortenedVolume.{shortened_volume}
 use Rattle.group_edits.specs.Visible.{visible_named}
-use Rattle.group_plan.specs.Committing.{change_where_found, length_row, named_rows, no_area_row, no_change, rows_where_found, seqno_row, version_change}
+use Rattle.group_plan.specs.Committing.{change_where_found, length_row, named_rows, no_area_row, no_change, rows_where_found, seqno_row,
+    version_change}
 use Rattle.group_plan.specs.Judging.{refused_if}
 use Rattle.group_plan.specs.declared.state.Change.{Change}
 use Rattle.group_plan.specs.declared.state.GroupState.{GroupState}
@@ -38,7 +39,8 @@ reduce_lv_rows state name amount now group volume =
 
 -- the rows where this group was found
 abbrev pub reduce_in_rows : GroupState → Path → Amount → ℕ → Group → List (Option OpRefusal)
-reduce_in_rows state path amount now group = named_rows group path.vg ++ rows_on group path.lv (reduce_lv_rows state path.lv amount now group)
+reduce_in_rows state path amount now group =
+    named_rows group path.vg ++ rows_on group path.lv (reduce_lv_rows state path.lv amount now group)
 
 -- all rows
 abbrev pub lvreduce_rows : GroupState → Path → Amount → ℕ → List (Option OpRefusal)
@@ -47,7 +49,8 @@ lvreduce_rows state path amount now = rows_where_found state.group path.vg (redu
 -- the visible volume of this name, where this group has one, keeps so much
 abbrev pub reduce_change : GroupState → List ℕ → Amount → Group → Change
 reduce_change state name amount group =
-    option_map_or (λ (volume : ℕ × Lv). version_change state (reduced_group name amount group volume.1)) (visible_named group name) (no_change state)
+    option_map_or (λ (volume : ℕ × Lv). version_change state (reduced_group name amount group volume.1)) (visible_named group name)
+        (no_change state)
 
 -- so it does in the group that was found
 abbrev pub lvreduce_change : GroupState → List ℕ → Amount → Change

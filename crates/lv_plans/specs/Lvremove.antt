@@ -7,7 +7,8 @@ use Rattle.meta_model.specs.declared.group.Group.{Group}
 use Rattle.meta_model.specs.declared.lv.Lv.{Lv}
 use Rattle.group_edits.specs.Removing.{without_volume}
 use Rattle.group_edits.specs.Visible.{visible_named}
-use Rattle.group_plan.specs.Committing.{change_where_found, length_row, named_rows, no_area_row, no_change, rows_where_found, seqno_row, version_change}
+use Rattle.group_plan.specs.Committing.{change_where_found, length_row, named_rows, no_area_row, no_change, rows_where_found, seqno_row,
+    version_change}
 use Rattle.group_plan.specs.declared.state.Change.{Change}
 use Rattle.group_plan.specs.declared.state.GroupState.{GroupState}
 use Rattle.lv_plans.specs.Volumes.{locked_row, rows_on}
@@ -31,7 +32,8 @@ lvremove_rows state path now = rows_where_found state.group path.vg (remove_in_r
 
 -- this group is without the visible volume of this name, where it has one
 abbrev pub remove_change : GroupState → List ℕ → Group → Change
-remove_change state name group = option_map_or (λ (volume : ℕ × Lv). version_change state (without_volume group volume.0)) (visible_named group name) (no_change state)
+remove_change state name group =
+    option_map_or (λ (volume : ℕ × Lv). version_change state (without_volume group volume.0)) (visible_named group name) (no_change state)
 
 -- so is the group that was found
 abbrev pub lvremove_change : GroupState → List ℕ → Change

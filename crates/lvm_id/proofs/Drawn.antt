@@ -30,19 +30,28 @@ length-four a b c d = refl
 pub IsId-four : (a b c d : ℕ) → IsId (id_of_words (a ∷ b ∷ c ∷ d ∷ []))
 IsId-four a b c d = record {
   length_is = length-four a b c d;
-  in_alphabet = All-append IsIdChar _ _ (All-word_chars a) (All-append IsIdChar _ _ (All-word_chars b) (All-append IsIdChar _ _ (All-word_chars c) (All-append IsIdChar _ _ (All-word_chars d) (All-nil IsIdChar))));
+  in_alphabet =
+      All-append IsIdChar _ _ (All-word_chars a)
+          (All-append IsIdChar _ _ (All-word_chars b)
+          (All-append IsIdChar _ _ (All-word_chars c) (All-append IsIdChar _ _ (All-word_chars d) (All-nil IsIdChar))));
 }
 
 -- the characters of four numbers, put behind one another
-pub four_put : (a b c d : ℕ) → with_bytes (with_bytes (with_bytes (with_bytes (replicate 32 0) 0 (word_chars a)) 8 (word_chars b)) 16 (word_chars c)) 24 (word_chars d) ≡ id_of_words (a ∷ b ∷ c ∷ d ∷ [])
+pub four_put : (a b c d : ℕ) → with_bytes
+    (with_bytes (with_bytes (with_bytes (replicate 32 0) 0 (word_chars a)) 8 (word_chars b)) 16 (word_chars c)) 24 (word_chars d)
+    ≡ id_of_words (a ∷ b ∷ c ∷ d ∷ [])
 unfolding word_chars
 four_put a b c d = refl
 
 -- four draws, from each state to the next
-module _ {S : Type 0} (upcoming : S → ℕ → List ℕ) (s0 s1 s2 s3 s4 : S) (a b c d : ℕ) (first : (n : ℕ) → upcoming s0 (n + 1) ≡ a ∷ upcoming s1 n) (second : (n : ℕ) → upcoming s1 (n + 1) ≡ b ∷ upcoming s2 n) (third : (n : ℕ) → upcoming s2 (n + 1) ≡ c ∷ upcoming s3 n) (fourth : (n : ℕ) → upcoming s3 (n + 1) ≡ d ∷ upcoming s4 n) (counted : (n : ℕ) → length (upcoming s4 n) ≡ n) where
+module _ {S : Type 0} (upcoming : S → ℕ → List ℕ) (s0 s1 s2 s3 s4 : S) (a b c d : ℕ)
+    (first : (n : ℕ) → upcoming s0 (n + 1) ≡ a ∷ upcoming s1 n) (second : (n : ℕ) → upcoming s1 (n + 1) ≡ b ∷ upcoming s2 n)
+    (third : (n : ℕ) → upcoming s2 (n + 1) ≡ c ∷ upcoming s3 n) (fourth : (n : ℕ) → upcoming s3 (n + 1) ≡ d ∷ upcoming s4 n)
+    (counted : (n : ℕ) → length (upcoming s4 n) ≡ n) where
   four_and_more : (n : ℕ) → upcoming s0 (4 + n) ≡ a ∷ b ∷ c ∷ d ∷ upcoming s4 n
   four_and_more n =
-      ap (upcoming s0) (omega arith) ∙ first (n + 1 + 1 + 1) ∙ ap (λ xs. a ∷ xs) (second (n + 1 + 1) ∙ ap (λ xs. b ∷ xs) (third (n + 1) ∙ ap (λ xs. c ∷ xs) (fourth n)))
+      ap (upcoming s0) (omega arith) ∙ first (n + 1 + 1 + 1)
+          ∙ ap (λ xs. a ∷ xs) (second (n + 1 + 1) ∙ ap (λ xs. b ∷ xs) (third (n + 1) ∙ ap (λ xs. c ∷ xs) (fourth n)))
 
   pub four_drawn : upcoming s0 4 ≡ a ∷ b ∷ c ∷ d ∷ []
   four_drawn = four_and_more 0 ∙ ap (λ xs. a ∷ b ∷ c ∷ d ∷ xs) (nil_from_length _ (counted 0))

@@ -32,15 +32,24 @@ written_out P n each =
 
 each_of : (P : ℕ → Type 0) (n : ℕ) → AllByRecursion P (range_with_len 0 n) → (k : ℕ) → k < n → P k
 each_of P n all k below =
-    subst P (get_or-range_with_len 0 n k 0 below ∙ omega arith) (All-get_or P (range_with_len 0 n) k 0 (omega (arith, length-range_with_len 0 n)) (All-from_recursion P (range_with_len 0 n) all))
+    subst P (get_or-range_with_len 0 n k 0 below ∙ omega arith)
+        (All-get_or P (range_with_len 0 n) k 0 (omega (arith, length-range_with_len 0 n)) (All-from_recursion P (range_with_len 0 n) all))
 
 -- the groups of an id, put into a text of hyphens
 abbrev pub with_groups : List ℕ → List ℕ
-with_groups chars = with_bytes (with_bytes (with_bytes (with_bytes (with_bytes (with_bytes (with_bytes (replicate 38 45) 0 (slice_range chars 0 6)) 7 (slice_range chars 6 10)) 12 (slice_range chars 10 14)) 17 (slice_range chars 14 18)) 22 (slice_range chars 18 22)) 27 (slice_range chars 22 26)) 32 (slice_range chars 26 32)
+with_groups chars =
+    with_bytes (with_bytes (with_bytes (with_bytes
+        (with_bytes (with_bytes (with_bytes (replicate 38 45) 0 (slice_range chars 0 6)) 7 (slice_range chars 6 10)) 12
+        (slice_range chars 10 14)) 17 (slice_range chars 14 18)) 22 (slice_range chars 18 22)) 27 (slice_range chars 22 26)) 32
+        (slice_range chars 26 32)
 
 -- the groups of a printed id, put behind one another
 abbrev pub joined : List ℕ → List ℕ
-joined text = with_bytes (with_bytes (with_bytes (with_bytes (with_bytes (with_bytes (with_bytes (replicate 32 0) 0 (slice_range text 0 6)) 6 (slice_range text 7 11)) 10 (slice_range text 12 16)) 14 (slice_range text 17 21)) 18 (slice_range text 22 26)) 22 (slice_range text 27 31)) 26 (slice_range text 32 38)
+joined text =
+    with_bytes (with_bytes (with_bytes (with_bytes
+        (with_bytes (with_bytes (with_bytes (replicate 32 0) 0 (slice_range text 0 6)) 6 (slice_range text 7 11)) 10
+        (slice_range text 12 16)) 14 (slice_range text 17 21)) 18 (slice_range text 22 26)) 22 (slice_range text 27 31)) 26
+        (slice_range text 32 38)
 
 with_groups-values : (f : ℕ → ℕ) → with_groups (values 32 f) ≡ hyphen_form (values 32 f)
 unfolding hyphen_form
@@ -82,9 +91,11 @@ hyphen_form-joined-values f fits =
     let h31 : f 31 ≡ 45 = eqb-true _ _ (at 31 (omega arith)) in
     rw (h6, h11, h16, h21, h26, h31) refl
 
-pub hyphen_form-joined : (text : List ℕ) → length text ≡ 38 → ((k : ℕ) → k < 38 → IsTrue (fits_hyphenated k (get_or text k 0))) → hyphen_form (joined text) ≡ text
+pub hyphen_form-joined : (text : List ℕ) → length text ≡ 38 → ((k : ℕ) → k < 38 → IsTrue (fits_hyphenated k (get_or text k 0)))
+    → hyphen_form (joined text) ≡ text
 hyphen_form-joined text e fits =
-    subst (λ xs. hyphen_form (joined xs) ≡ xs) (values-element text 38 e) (hyphen_form-joined-values (element text) (written_out (Fits (element text)) 38 fits))
+    subst (λ xs. hyphen_form (joined xs) ≡ xs) (values-element text 38 e)
+        (hyphen_form-joined-values (element text) (written_out (Fits (element text)) 38 fits))
 
 IsId-joined-values : (f : ℕ → ℕ) → AllByRecursion (Fits f) (range_with_len 0 38) → IsId (joined (values 38 f))
 IsId-joined-values f fits = record {
@@ -92,11 +103,14 @@ IsId-joined-values f fits = record {
   in_alphabet = All-from_recursion IsIdChar (joined (values 38 f)) (assumption (fits, tt));
 }
 
-pub IsId-joined : (text : List ℕ) → length text ≡ 38 → ((k : ℕ) → k < 38 → IsTrue (fits_hyphenated k (get_or text k 0))) → IsId (joined text)
+pub IsId-joined : (text : List ℕ) → length text ≡ 38 → ((k : ℕ) → k < 38 → IsTrue (fits_hyphenated k (get_or text k 0)))
+    → IsId (joined text)
 IsId-joined text e fits =
-    subst (λ xs. IsId (joined xs)) (values-element text 38 e) (IsId-joined-values (element text) (written_out (Fits (element text)) 38 fits))
+    subst (λ xs. IsId (joined xs)) (values-element text 38 e)
+        (IsId-joined-values (element text) (written_out (Fits (element text)) 38 fits))
 
-fits-hyphen_form-values : (f : ℕ → ℕ) → AllByRecursion IsIdChar (values 32 f) → AllByRecursion (Fits (element (hyphen_form (values 32 f)))) (range_with_len 0 38)
+fits-hyphen_form-values : (f : ℕ → ℕ) → AllByRecursion IsIdChar (values 32 f)
+    → AllByRecursion (Fits (element (hyphen_form (values 32 f)))) (range_with_len 0 38)
 unfolding hyphen_form
 fits-hyphen_form-values f valid = let yes : true ≡ true = refl in assumption (valid, yes, tt)
 
@@ -104,8 +118,10 @@ fits-hyphen_form-values f valid = let yes : true ≡ true = refl in assumption (
 fits-hyphen_form : (chars : List ℕ) → IsId chars → (k : ℕ) → k < 38 → Fits (element (hyphen_form chars)) k
 fits-hyphen_form chars valid =
     let e = values-element chars 32 valid.length_is in
-    let written = recursion_from_All IsIdChar (values 32 (element chars)) (All-same IsIdChar (values 32 (element chars)) chars e valid.in_alphabet) in
-    subst (λ xs. (k : ℕ) → k < 38 → Fits (element (hyphen_form xs)) k) e (each_of (Fits (element (hyphen_form (values 32 (element chars))))) 38 (fits-hyphen_form-values (element chars) written))
+    let written =
+        recursion_from_All IsIdChar (values 32 (element chars)) (All-same IsIdChar (values 32 (element chars)) chars e valid.in_alphabet) in
+    subst (λ xs. (k : ℕ) → k < 38 → Fits (element (hyphen_form xs)) k) e
+        (each_of (Fits (element (hyphen_form (values 32 (element chars))))) 38 (fits-hyphen_form-values (element chars) written))
 
 -- so a printed id has no misfit
 pub no_misfit : (chars text : List ℕ) (place : ℕ) → IsId chars → hyphen_form chars ≡ text → IsFirstMisfit fits_hyphenated text place → ⊥
@@ -117,7 +133,8 @@ no_misfit chars text place valid e m =
 IsIdChar-small : (c : ℕ) → IsIdChar c → c < 128
 IsIdChar-small c valid = grind (arith, nat_tests)
 
-small-hyphen_form-values : (f : ℕ → ℕ) → AllByRecursion (λ b. b < 128) (values 32 f) → AllByRecursion (λ b. b < 128) (hyphen_form (values 32 f))
+small-hyphen_form-values : (f : ℕ → ℕ) → AllByRecursion (λ b. b < 128) (values 32 f)
+    → AllByRecursion (λ b. b < 128) (hyphen_form (values 32 f))
 unfolding hyphen_form
 small-hyphen_form-values f small = let hyphen : 45 < 128 = omega arith in assumption (small, hyphen, tt)
 
@@ -125,6 +142,10 @@ small-hyphen_form-values f small = let hyphen : 45 < 128 = omega arith in assump
 pub IsUtf8-hyphen_form : (chars : List ℕ) → IsId chars → IsUtf8 (hyphen_form chars)
 IsUtf8-hyphen_form chars valid =
     let e = values-element chars 32 valid.length_is in
-    let small = All-weaker IsIdChar (λ b. b < 128) IsIdChar-small (values 32 (element chars)) (All-same IsIdChar (values 32 (element chars)) chars e valid.in_alphabet) in
-    let printed = All-from_recursion (λ b. b < 128) (hyphen_form (values 32 (element chars))) (small-hyphen_form-values (element chars) (recursion_from_All (λ b. b < 128) (values 32 (element chars)) small)) in
+    let small =
+        All-weaker IsIdChar (λ b. b < 128) IsIdChar-small (values 32 (element chars))
+            (All-same IsIdChar (values 32 (element chars)) chars e valid.in_alphabet) in
+    let printed =
+        All-from_recursion (λ b. b < 128) (hyphen_form (values 32 (element chars)))
+            (small-hyphen_form-values (element chars) (recursion_from_All (λ b. b < 128) (values 32 (element chars)) small)) in
     subst (λ xs. IsUtf8 (hyphen_form xs)) e (IsUtf8-from_ascii _ (IsAscii-from_all _ printed))

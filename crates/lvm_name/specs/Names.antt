@@ -1,5 +1,6 @@
 -- The names of lvm2, as lvm(8) has them.
-use Rattle.std.specs.Prelude.{ℕ, Bool, false, not, ◌||◌, ◌==◌, nat_eq, nat_le, if◌then◌else◌, List, [], ◌∷◌, length, take, Option, Some, None, codes}
+use Rattle.std.specs.Prelude.{ℕ, Bool, false, not, ◌||◌, ◌==◌, nat_eq, nat_le, if◌then◌else◌, List, [], ◌∷◌, length, take, Option, Some,
+    None, codes}
 use Rattle.std.specs.Char.{is_ascii_alphanumeric}
 use Rattle.std.specs.List.{list_any, position}
 use Rattle.std.specs.Cmp.Lexicographic.{pointwise}
@@ -25,11 +26,14 @@ is_among texts text = list_any (pointwise nat_eq text) texts
 
 -- the keys that stand beside a group in its text
 abbrev pub is_top_key : List ℕ → Bool
-is_top_key text = is_among (codes "contents" ∷ codes "version" ∷ codes "description" ∷ codes "creation_host" ∷ codes "creation_time" ∷ []) text
+is_top_key text =
+    is_among (codes "contents" ∷ codes "version" ∷ codes "description" ∷ codes "creation_host" ∷ codes "creation_time" ∷ []) text
 
 -- what lvm2 names its hidden volumes by
 abbrev pub is_reserved : List ℕ → Bool
-is_reserved text = begins_with (codes "pvmove") text || begins_with (codes "snapshot") text || has_within (codes "_mimage") text || has_within (codes "_mlog") text
+is_reserved text =
+    begins_with (codes "pvmove") text || begins_with (codes "snapshot") text || has_within (codes "_mimage") text
+        || has_within (codes "_mlog") text
 
 -- the first test that the text fails, where these names are reserved
 abbrev pub name_refusal : (List ℕ → Bool) → List ℕ → Option NameRefusal

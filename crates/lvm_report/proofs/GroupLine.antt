@@ -13,8 +13,10 @@ use Rattle.extent_map.proofs.Walks.{all_at}
 pub pvs_are_few : (group : Group) → IsAccepted group → length group.pvs ≤ 64
 pvs_are_few group accepted = (accepted Volumes).pvs.1
 
-pub extents_are_few : (group : Group) (pv : ℕ) (row : List ℕ × Pv) → IsAccepted group → slice_get group.pvs pv ≡ Some row → row.1.pe_count < 2 ^ 48
-extents_are_few group pv row accepted here = (all_at (λ (some : List ℕ × Pv). PvIsSmall some.1) group.pvs pv row (accepted Numbers).pvs here).2
+pub extents_are_few : (group : Group) (pv : ℕ) (row : List ℕ × Pv) → IsAccepted group → slice_get group.pvs pv ≡ Some row
+    → row.1.pe_count < 2 ^ 48
+extents_are_few group pv row accepted here =
+    (all_at (λ (some : List ℕ × Pv). PvIsSmall some.1) group.pvs pv row (accepted Numbers).pvs here).2
 
 abbrev pub count_in : Option (List ℕ × Pv) → ℕ
 count_in found = unwrap_or (option_map (λ (row : List ℕ × Pv). row.1.pe_count) found) 0

@@ -1,5 +1,6 @@
 -- Marks go up along the legs, a step at a time.
-use Rattle.std.proofs.Common.{◌≡◌, ℕ, zero, suc, ◌+◌, ◌<◌, ◌≤◌, Bool, false, ◌||◌, List, [], ◌∷◌, ◌++◌, length, get_or, map, drop, append_assoc, Some, inl, inr, refl, sym, ap, ◌∙◌, arith, add-one}
+use Rattle.std.proofs.Common.{◌≡◌, ℕ, zero, suc, ◌+◌, ◌<◌, ◌≤◌, Bool, false, ◌||◌, List, [], ◌∷◌, ◌++◌, length, get_or, map, drop,
+    append_assoc, Some, inl, inr, refl, sym, ap, ◌∙◌, arith, add-one}
 use Rattle.std.specs.Prelude.{filter_map, slice_get, slice_index_or}
 use Rattle.std.specs.List.{flat_map, list_any, range_with_len}
 use Rattle.std.proofs.Math.Path.{fun_ext}
@@ -26,27 +27,35 @@ past group zero lv beyond = rw (slice_get_past group.lvs lv beyond) refl
 past group (suc steps) lv beyond = rw (slice_get_past group.lvs lv beyond) refl
 
 -- a mark says whether one does
-mark_is : (group : Group) (marked : List Bool) (steps lv : ℕ) → marked ≡ leading_down group steps → slice_index_or marked lv false ≡ leads_to_pvmove group steps lv
+mark_is : (group : Group) (marked : List Bool) (steps lv : ℕ) → marked ≡ leading_down group steps
+    → slice_index_or marked lv false ≡ leads_to_pvmove group steps lv
 mark_is group marked steps lv is =
     ap (λ (marks : List Bool). slice_index_or marks lv false) is
     ∙ elim (cases_lt lv (length group.lvs)) [
       | inl within ↦ get_or-map-range_with_len (leads_to_pvmove group steps) 0 (length group.lvs) lv lv false within (omega arith)
-      | inr beyond ↦ get_or_past (leading_down group steps) lv false (omega (arith, length-map-range_with_len (leads_to_pvmove group steps) 0 (length group.lvs))) ∙ sym (past group steps lv (omega arith))
+      | inr beyond ↦ get_or_past (leading_down group steps) lv false
+          (omega (arith, length-map-range_with_len (leads_to_pvmove group steps) 0 (length group.lvs)))
+          ∙ sym (past group steps lv (omega arith))
     ]
 
 -- the marks of all volumes, at each number
 pub marks_count : (group : Group) (marks : List Bool) (steps : ℕ) → marks ≡ leading_down group steps → length marks ≡ length group.lvs
-marks_count group marks steps is = ap (λ (some : List Bool). length some) is ∙ length-map-range_with_len (leads_to_pvmove group steps) 0 (length group.lvs)
+marks_count group marks steps is =
+    ap (λ (some : List Bool). length some) is ∙ length-map-range_with_len (leads_to_pvmove group steps) 0 (length group.lvs)
 
-pub mark_at : (group : Group) (marks : List Bool) (steps number : ℕ) (other : Bool) → marks ≡ leading_down group steps → number < length group.lvs → get_or marks number other ≡ leads_to_pvmove group steps number
+pub mark_at : (group : Group) (marks : List Bool) (steps number : ℕ) (other : Bool) → marks ≡ leading_down group steps
+    → number < length group.lvs → get_or marks number other ≡ leads_to_pvmove group steps number
 mark_at group marks steps number other is within =
-    ap (λ (some : List Bool). get_or some number other) is ∙ get_or-map-range_with_len (leads_to_pvmove group steps) 0 (length group.lvs) number number other within (omega arith)
+    ap (λ (some : List Bool). get_or some number other) is
+        ∙ get_or-map-range_with_len (leads_to_pvmove group steps) 0 (length group.lvs) number number other within (omega arith)
 
 -- one step more
-pub more_steps : (group : Group) (marked : List Bool) (steps : ℕ) → marked ≡ leading_down group steps → next_marks group marked ≡ leading_down group (steps + 1)
+pub more_steps : (group : Group) (marked : List Bool) (steps : ℕ) → marked ≡ leading_down group steps
+    → next_marks group marked ≡ leading_down group (steps + 1)
 more_steps group marked steps is =
     rw add-one
-    (ap (λ (test : ℕ → Bool). map (λ number. has_pvmove group number || list_any test (named_by group number)) (range_with_len 0 (length group.lvs)))
+    (ap (λ (test : ℕ → Bool). map (λ number. has_pvmove group number || list_any test (named_by group number))
+        (range_with_len 0 (length group.lvs)))
     (fun_ext (λ lv. mark_is group marked steps lv is)))
 
 -- ---- the legs of a volume
@@ -55,20 +64,26 @@ abbrev of_segment : Segment → List ℕ
 of_segment segment = filter_map (λ (leg : Leg). lv_number leg.on) (legs_of segment.kind)
 
 leg_named : (marked : List Bool) (o : On) (first : ℕ) (legs : List Leg)
-    → list_any (λ lv. slice_index_or marked lv false) (filter_map (λ (leg : Leg). lv_number leg.on) (record { on = o; first = first } ∷ legs))
+    → list_any (λ lv. slice_index_or marked lv false)
+    (filter_map (λ (leg : Leg). lv_number leg.on) (record { on = o; first = first } ∷ legs))
     ≡ (is_marked marked o || list_any (λ lv. slice_index_or marked lv false) (filter_map (λ (leg : Leg). lv_number leg.on) legs))
 leg_named marked (on.Pv pv) first legs = refl
 leg_named marked (on.Lv lv) first legs = refl
 
-legs_named : (marked : List Bool) (legs : List Leg) → list_any (λ lv. slice_index_or marked lv false) (filter_map (λ (leg : Leg). lv_number leg.on) legs) ≡ list_any (leg_is_marked marked) legs
+legs_named : (marked : List Bool) (legs : List Leg)
+    → list_any (λ lv. slice_index_or marked lv false) (filter_map (λ (leg : Leg). lv_number leg.on) legs)
+    ≡ list_any (leg_is_marked marked) legs
 legs_named marked [] = refl
-legs_named marked (leg ∷ legs) = leg_named marked leg.on leg.first legs ∙ ap (λ rest. is_marked marked leg.on || rest) (legs_named marked legs)
+legs_named marked (leg ∷ legs) =
+    leg_named marked leg.on leg.first legs ∙ ap (λ rest. is_marked marked leg.on || rest) (legs_named marked legs)
 
-segments_named : (marked : List Bool) (segments : List Segment) → list_any (λ lv. slice_index_or marked lv false) (flat_map of_segment segments) ≡ list_any (names_marked marked) segments
+segments_named : (marked : List Bool) (segments : List Segment)
+    → list_any (λ lv. slice_index_or marked lv false) (flat_map of_segment segments) ≡ list_any (names_marked marked) segments
 segments_named marked [] = refl
 segments_named marked (segment ∷ segments) =
     list_any-append (λ lv. slice_index_or marked lv false) (of_segment segment) (flat_map of_segment segments)
-    ∙ ap (λ here. here || list_any (λ lv. slice_index_or marked lv false) (flat_map of_segment segments)) (legs_named marked (legs_of segment.kind))
+    ∙ ap (λ here. here || list_any (λ lv. slice_index_or marked lv false) (flat_map of_segment segments))
+    (legs_named marked (legs_of segment.kind))
     ∙ ap (λ rest. names_marked marked segment || rest) (segments_named marked segments)
 
 -- the next mark of a volume by its row
@@ -76,11 +91,13 @@ pub mark_of_row : (group : Group) (marked : List Bool) (number : ℕ) (row : Lis
     → next_mark group marked number ≡ (row.1.status.pvmove || list_any (names_marked marked) row.1.segments)
 mark_of_row group marked number row here = rw here (ap (λ below. row.1.status.pvmove || below) (segments_named marked row.1.segments))
 
-pub pvmove_of_row : (group : Group) (number : ℕ) (row : List ℕ × Lv) → slice_get group.lvs number ≡ Some row → has_pvmove group number ≡ row.1.status.pvmove
+pub pvmove_of_row : (group : Group) (number : ℕ) (row : List ℕ × Lv) → slice_get group.lvs number ≡ Some row
+    → has_pvmove group number ≡ row.1.status.pvmove
 pvmove_of_row group number row here = rw here refl
 
 -- one mark more
-pub one_mark : (f : ℕ → Bool) (total n : ℕ) (value : Bool) (before after whole : List Bool) → n < total → value ≡ f n → after ≡ before ++ value ∷ [] → before ++ map f (drop n (range_with_len 0 total)) ≡ whole
+pub one_mark : (f : ℕ → Bool) (total n : ℕ) (value : Bool) (before after whole : List Bool) → n < total → value ≡ f n
+    → after ≡ before ++ value ∷ [] → before ++ map f (drop n (range_with_len 0 total)) ≡ whole
     → after ++ map f (drop (n + 1) (range_with_len 0 total)) ≡ whole
 one_mark f total n value before after whole within is pushed so_far =
     let rest : List Bool = map f (drop (n + 1) (range_with_len 0 total)) in

@@ -7,12 +7,14 @@ pub part : (text before line after word : List ℕ) → before ≡ text ++ line 
 part text before line after word so_far put = put ∙ ap (λ some. some ++ word) so_far ∙ append_assoc text line word
 
 -- the last one, where there was room for it
-pub last_part : {A E : Type 0} (result : Result A E) (text before line after word : List ℕ) → before ≡ text ++ line → after ≡ (if is_ok result then before ++ word else before)
+pub last_part : {A E : Type 0} (result : Result A E) (text before line after word : List ℕ) → before ≡ text ++ line
+    → after ≡ (if is_ok result then before ++ word else before)
     → IfOk result (λ _. after ≡ text ++ (line ++ word))
 last_part (Ok value) text before line after word so_far put = part text before line after word so_far put
 last_part (Err error) text before line after word so_far put = tt
 
-pub last_put : {A E : Type 0} (result : Result A E) (text before line after word : List ℕ) → before ≡ text ++ line → IfOk result (λ _. after ≡ before ++ word) → IfOk result (λ _. after ≡ text ++ (line ++ word))
+pub last_put : {A E : Type 0} (result : Result A E) (text before line after word : List ℕ) → before ≡ text ++ line
+    → IfOk result (λ _. after ≡ before ++ word) → IfOk result (λ _. after ≡ text ++ (line ++ word))
 last_put (Ok value) text before line after word so_far put = part text before line after word so_far put
 last_put (Err error) text before line after word so_far put = tt
 
@@ -21,11 +23,14 @@ pub first_column : (text after word end : List ℕ) → after ≡ text ++ word +
 first_column text after word end put = put ∙ append_assoc text word end
 
 -- one column more behind a line so far
-pub column : (text before line after word end : List ℕ) → before ≡ text ++ line → after ≡ before ++ word ++ end → after ≡ text ++ (line ++ word ++ end)
-column text before line after word end so_far put = put ∙ ap (λ some. some ++ end) (part text before line (before ++ word) word so_far refl) ∙ append_assoc text (line ++ word) end
+pub column : (text before line after word end : List ℕ) → before ≡ text ++ line → after ≡ before ++ word ++ end
+    → after ≡ text ++ (line ++ word ++ end)
+column text before line after word end so_far put =
+    put ∙ ap (λ some. some ++ end) (part text before line (before ++ word) word so_far refl) ∙ append_assoc text (line ++ word) end
 
 -- the last one, where there was room for it
-pub last_column : {A E : Type 0} (result : Result A E) (text before line after word end : List ℕ) → before ≡ text ++ line → IfOk result (λ _. after ≡ before ++ word ++ end)
+pub last_column : {A E : Type 0} (result : Result A E) (text before line after word end : List ℕ) → before ≡ text ++ line
+    → IfOk result (λ _. after ≡ before ++ word ++ end)
     → IfOk result (λ _. after ≡ text ++ (line ++ word ++ end))
 last_column (Ok value) text before line after word end so_far put = column text before line after word end so_far put
 last_column (Err error) text before line after word end so_far put = tt

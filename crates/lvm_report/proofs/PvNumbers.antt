@@ -18,6 +18,7 @@ number_is group id =
     ∙ sym (position_from-zero (has_id id) group.pvs)
     ∙ ap (λ (test : List ℕ × Pv → Bool). position test group.pvs) (fun_ext (λ (pv : List ℕ × Pv). pointwise-same_bytes pv.1.id id))
 
-pub number_within : (group : Group) (id : List ℕ) (got : Option ℕ) → got ≡ map.get (pvs_by_id 0 group.pvs) id → IfSome got (λ number. number < length group.pvs)
+pub number_within : (group : Group) (id : List ℕ) (got : Option ℕ) → got ≡ map.get (pvs_by_id 0 group.pvs) id
+    → IfSome got (λ number. number < length group.pvs)
 number_within group id None is = tt
 number_within group id (Some number) is = (found_at (has_id id) group.pvs number (sym (pv_number id 0 group.pvs) ∙ sym is)).0

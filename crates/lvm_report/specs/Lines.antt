@@ -27,11 +27,13 @@ area_line area = codes "area " ++ decimal area.offset ++ codes " " ++ decimal ar
 
 -- where the committed text stands in its area: its offset and its size in bytes, and its checksum
 abbrev pub committed_line : Locn → List ℕ
-committed_line locn = codes "committed " ++ decimal locn.offset ++ codes " " ++ decimal locn.size ++ codes " " ++ sum_text locn.sum ++ codes "\n"
+committed_line locn =
+    codes "committed " ++ decimal locn.offset ++ codes " " ++ decimal locn.size ++ codes " " ++ sum_text locn.sum ++ codes "\n"
 
 -- where the precommitted text stands in its area: its offset and its size in bytes, and its checksum
 abbrev pub precommitted_line : Locn → List ℕ
-precommitted_line locn = codes "precommitted " ++ decimal locn.offset ++ codes " " ++ decimal locn.size ++ codes " " ++ sum_text locn.sum ++ codes "\n"
+precommitted_line locn =
+    codes "precommitted " ++ decimal locn.offset ++ codes " " ++ decimal locn.size ++ codes " " ++ sum_text locn.sum ++ codes "\n"
 
 -- the version and the flags of the header's extension
 abbrev pub extension_line : ℕ → ℕ → List ℕ

@@ -1,5 +1,6 @@
 -- The reports of pvs(8), vgs(8), lvs(8) and vgck(8) on what a scan found.
-use Rattle.std.specs.Prelude.{ℕ, ◌*◌, Bool, ◌==◌, if◌then◌else◌, Option, Some, None, option_map, unwrap_or, List, [], ◌∷◌, ◌++◌, length, codes, slice_index_or}
+use Rattle.std.specs.Prelude.{ℕ, ◌*◌, Bool, ◌==◌, if◌then◌else◌, Option, Some, None, option_map, unwrap_or, List, [], ◌∷◌, ◌++◌, length,
+    codes, slice_index_or}
 use Rattle.std.specs.FinSet as set
 use Rattle.std.specs.List.{enumerate_from, flat_map, list_any, range_with_len}
 use Rattle.lvm_id.specs.LvmId.{hyphen_form}
@@ -40,11 +41,13 @@ pv_line_of (Some group) name id = pv_line_in group name (number_with group id)
 -- of a disk: none where it has no physical volume
 abbrev pub disk_line : Option Group → List ℕ → Option PvFound → List ℕ
 disk_line group name None = name ++ codes " unreadable\n"
-disk_line group name (Some contents) = unwrap_or (option_map (λ (header : PvHeader). pv_line_of group name header.id) (header_in contents)) []
+disk_line group name (Some contents) =
+    unwrap_or (option_map (λ (header : PvHeader). pv_line_of group name header.id) (header_in contents)) []
 
 -- of all disks
 abbrev pub pvs_text : Found → List Word → List ℕ
-pvs_text found names = flat_map (λ (disk : ℕ × Disk). disk_line found.group (name_in names disk.0) disk.1.contents) (enumerate_from 0 found.disks)
+pvs_text found names =
+    flat_map (λ (disk : ℕ × Disk). disk_line found.group (name_in names disk.0) disk.1.contents) (enumerate_from 0 found.disks)
 
 -- ---- vgs: a line for the group in force
 

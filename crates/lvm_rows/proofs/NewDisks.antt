@@ -6,7 +6,8 @@ use Rattle.dev_shelf.specs.DiskRow.{lengths_of, new_state}
 use Rattle.lvm_run.specs.Disks.{AreDisks}
 use Rattle.lvm_rows.specs.Named.{IsSized}
 
-length_at : (disks : List (List (List ℕ))) (pv : ℕ) → pv < length disks → slice_index_or (lengths_of disks) pv 0 ≡ length (slice_index_or disks pv [])
+length_at : (disks : List (List (List ℕ))) (pv : ℕ) → pv < length disks
+    → slice_index_or (lengths_of disks) pv 0 ≡ length (slice_index_or disks pv [])
 length_at [] pv lt = absurd (omega (arith, lt))
 length_at (disk ∷ disks) zero lt = refl
 length_at (disk ∷ disks) (suc pv) lt = length_at disks pv (omega (arith, lt))

@@ -26,7 +26,8 @@ pub refused_alone : (from : SourceState) (state : State) → IsRefusedUnread fro
 refused_alone from state = record { refused = (inl refl, refl); unread = refl }
 
 -- the task of a request does what is asked for
-as_request : (names : List Word) (asked : Request) (ids : ℕ → List ℕ) (now : ℕ) (text : List ℕ) (from to : SourceState) (old : State) (outcome : Outcome) (new : State)
+as_request : (names : List Word) (asked : Request) (ids : ℕ → List ℕ) (now : ℕ) (text : List ℕ) (from to : SourceState) (old : State)
+    (outcome : Outcome) (new : State)
     → RunsTask names (task_of asked ids) now text from to old outcome new → RunsRequest names asked ids now text from to old outcome new
 as_request names (request.One command) ids now text from to old outcome new runs = runs
 as_request names (request.Session group workers) ids now text from to old outcome new runs = runs
@@ -37,19 +38,24 @@ module _ (words : List Word) (now : ℕ) (ids : ℕ → List ℕ) (old : State) 
   abbrev Runs : SourceState → SourceState → TimedOutcome → (ℕ → List ℕ) → State → Type 0
   Runs from to ran after new =
       (text : List ℕ) × RunsWords words now text from to ids old ran.outcome after new
-      × IsEntered (names_of words) now old (journal_by ran.begun ran.took new.steps ran.outcome) (lines_of_words words text ids ran.outcome) new
+      × IsEntered (names_of words) now old (journal_by ran.begun ran.took new.steps ran.outcome) (lines_of_words words text ids ran.outcome)
+      new
 
   -- memory was wanting
-  pub wanting : HasDisks words old → IsTold old → (from : SourceState) (ran : TimedOutcome) → ran ≡ ended_by NoMemory → (after : ℕ → List ℕ) → after ≡ ids → Runs from from ran after old
+  pub wanting : HasDisks words old → IsTold old → (from : SourceState) (ran : TimedOutcome) → ran ≡ ended_by NoMemory → (after : ℕ → List ℕ)
+      → after ≡ ids → Runs from from ran after old
   wanting disks told from ran is after undrawn = (
     [],
     subst (λ (drawn : ℕ → List ℕ). RunsWords words now [] from from ids old ran.outcome drawn old) (sym undrawn)
-        (subst (λ (r : TimedOutcome). RunsWords words now [] from from ids old r.outcome ids old) (sym is) (undone_words words now [] from ids old disks)),
-    kept_ended (names_of words) now old told ran NoMemory is (λ outcome. lines_of_words words [] ids outcome) (none_asked words [] ids NoMemory),
+        (subst (λ (r : TimedOutcome). RunsWords words now [] from from ids old r.outcome ids old) (sym is)
+            (undone_words words now [] from ids old disks)),
+    kept_ended (names_of words) now old told ran NoMemory is (λ outcome. lines_of_words words [] ids outcome)
+        (none_asked words [] ids NoMemory),
   )
 
   -- they have no meaning
-  pub unmeant : command_line_of words ≡ None → IsTold old → (from : SourceState) (ran : TimedOutcome) → ran ≡ ended_by WordsRefused → (after : ℕ → List ℕ) → after ≡ ids → Runs from from ran after old
+  pub unmeant : command_line_of words ≡ None → IsTold old → (from : SourceState) (ran : TimedOutcome) → ran ≡ ended_by WordsRefused
+      → (after : ℕ → List ℕ) → after ≡ ids → Runs from from ran after old
   unmeant none told from ran is after undrawn = (
     [],
     record {
@@ -57,25 +63,34 @@ module _ (words : List Word) (now : ℕ) (ids : ℕ → List ℕ) (old : State) 
       lines = λ line meant. absurd (true≢false (ap is_some (sym meant ∙ none)));
       drawn = λ line meant. absurd (true≢false (ap is_some (sym meant ∙ none)));
     },
-    kept_ended (names_of words) now old told ran WordsRefused is (λ outcome. lines_of_words words [] ids outcome) (none_asked words [] ids WordsRefused),
+    kept_ended (names_of words) now old told ran WordsRefused is (λ outcome. lines_of_words words [] ids outcome)
+        (none_asked words [] ids WordsRefused),
   )
 
   -- what they ask for was done as a task
-  module _ (line : CommandLine) (task : Task) (meant : command_line_of words ≡ Some line) (asked : line.request ≡ request_in task) (is : task ≡ task_of (request_in task) ids) where
-    pub done : (from to : SourceState) (ran : TimedOutcome) (after : ℕ → List ℕ) (new : State) → TakesId (draws_id (request_in task)) ids after
+  module _ (line : CommandLine) (task : Task) (meant : command_line_of words ≡ Some line) (asked : line.request ≡ request_in task)
+      (is : task ≡ task_of (request_in task) ids) where
+    pub done : (from to : SourceState) (ran : TimedOutcome) (after : ℕ → List ℕ) (new : State)
+        → TakesId (draws_id (request_in task)) ids after
         → ((text : List ℕ) × RunsTask line.names task now text from to old ran.outcome new
-        × IsEntered line.names now old (journal_by ran.begun ran.took new.steps ran.outcome) (lines_of_task task text ran.outcome) new) → Runs from to ran after new
+        × IsEntered line.names now old (journal_by ran.begun ran.took new.steps ran.outcome) (lines_of_task task text ran.outcome) new)
+        → Runs from to ran after new
     done from to ran after new takes runs =
         let by_line : RunsRequest line.names line.request ids now runs.0 from to old ran.outcome new =
         subst (λ (r : Request). RunsRequest line.names r ids now runs.0 from to old ran.outcome new) (sym asked)
-        (as_request line.names (request_in task) ids now runs.0 from to old ran.outcome new (subst (λ (t : Task). RunsTask line.names t now runs.0 from to old ran.outcome new) is runs.1))
+        (as_request line.names (request_in task) ids now runs.0 from to old ran.outcome new
+            (subst (λ (t : Task). RunsTask line.names t now runs.0 from to old ran.outcome new) is runs.1))
         in (
           runs.0,
           record {
             refused = λ none. absurd (true≢false (ap is_some (sym meant ∙ none)));
-            lines = λ own also. subst (λ (l : CommandLine). RunsRequest l.names l.request ids now runs.0 from to old ran.outcome new) (same_Some line own (sym meant ∙ also)) by_line;
+            lines =
+                λ own also. subst (λ (l : CommandLine). RunsRequest l.names l.request ids now runs.0 from to old ran.outcome new)
+                    (same_Some line own (sym meant ∙ also)) by_line;
             drawn = λ own also.
-                inl (subst (λ (l : CommandLine). TakesId (draws_id l.request) ids after) (same_Some line own (sym meant ∙ also)) (subst (λ (r : Request). TakesId (draws_id r) ids after) (sym asked) takes));
+                inl (subst (λ (l : CommandLine). TakesId (draws_id l.request) ids after) (same_Some line own (sym meant ∙ also))
+                    (subst (λ (r : Request). TakesId (draws_id r) ids after) (sym asked) takes));
           },
-          kept_asked words line task now runs.0 ids old ran.outcome (journal_by ran.begun ran.took new.steps ran.outcome) new meant asked is runs.2,
+          kept_asked words line task now runs.0 ids old ran.outcome (journal_by ran.begun ran.took new.steps ran.outcome) new meant asked is
+              runs.2,
         )

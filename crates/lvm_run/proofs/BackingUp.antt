@@ -48,7 +48,8 @@ module _ (names : List Word) (id : Option (List ℕ)) (vg : List ℕ) (time : �
   without_memory = record { given = no_inputs; cause = tt; told = does (Ended NoMemory); again = again }
 
   -- the ending where the scan was refused
-  pub backup_ends : (why : ScanRefusal) (unread : set.FinSet nat_cmp) (ending : Ending) → IsScanRefused old why unread new → IsEndingOf why unread ending → Meets (vgcfgbackup vg) context old (Ended ending) new
+  pub backup_ends : (why : ScanRefusal) (unread : set.FinSet nat_cmp) (ending : Ending) → IsScanRefused old why unread new
+      → IsEndingOf why unread ending → Meets (vgcfgbackup vg) context old (Ended ending) new
   backup_ends why unread NoMemory is ends = without_memory
   backup_ends why unread (ScanRefused (Disks refusal) whole) is ends =
       let r = refused_is old new why unread ends.1 is in
@@ -71,7 +72,8 @@ module _ (names : List Word) (id : Option (List ℕ)) (vg : List ℕ) (time : �
         (
           found.unread,
           is.faults,
-          holds_now_weaker old.told (λ image. IsScanOf image old.sizes found) (λ image. FindsWhole image old.sizes found.unread (Lacks pv)) (λ image h. (found, h, refl, unread)) is.now,
+          holds_now_weaker old.told (λ image. IsScanOf image old.sizes found) (λ image. FindsWhole image old.sizes found.unread (Lacks pv))
+              (λ image h. (found, h, refl, unread)) is.now,
         ),
       );
       told = does (Ended (ScanReadFailed pv));
@@ -82,7 +84,8 @@ module _ (names : List Word) (id : Option (List ℕ)) (vg : List ℕ) (time : �
       cause = (
         found.unread,
         record { failed = is.faults; all = (λ yes. missing.0, λ none. refl) },
-        holds_now_weaker old.told (λ image. IsScanOf image old.sizes found) (λ image. FindsWhole image old.sizes found.unread (Refuses (Partial found.missing)))
+        holds_now_weaker old.told (λ image. IsScanOf image old.sizes found)
+            (λ image. FindsWhole image old.sizes found.unread (Refuses (Partial found.missing)))
             (λ image h. (found, h, refl, missing.0, refl, missing.1)) is.now,
       );
       told = does (Ended (ScanRefused (Partial found.missing) true));
@@ -91,7 +94,10 @@ module _ (names : List Word) (id : Option (List ℕ)) (vg : List ℕ) (time : �
 
     module _ (whole : IsWhole found) where
       scanned : IsScanned (vgcfgbackup vg) context set.empty old (Finds (Some found))
-      scanned = holds_now_weaker old.told (λ image. IsScanOf image old.sizes found) (λ image. IsScanOf image old.sizes found × (found.unread ≡ set.empty) × IsWhole found) (λ image h. (h, whole.read, whole)) is.now
+      scanned =
+          holds_now_weaker old.told (λ image. IsScanOf image old.sizes found)
+              (λ image. IsScanOf image old.sizes found × (found.unread ≡ set.empty) × IsWhole found) (λ image h. (h, whole.read, whole))
+              is.now
 
       taken : IsTaken (vgcfgbackup vg) context old (Some found) None
       taken = record { scanned = scanned; stuck_is = refl }
@@ -100,7 +106,8 @@ module _ (names : List Word) (id : Option (List ℕ)) (vg : List ℕ) (time : �
       no_faults = none_failed_on found.unread old new whole.read is.faults
 
       -- the group in force
-      of_group : (group : Group) → found.group ≡ Some group → HasTree group → (outcome : Outcome) → IsBackedUp group vg time outcome → Meets (vgcfgbackup vg) context old outcome new
+      of_group : (group : Group) → found.group ≡ Some group → HasTree group → (outcome : Outcome) → IsBackedUp group vg time outcome
+          → Meets (vgcfgbackup vg) context old outcome new
       of_group group there stands (Answered line (Refused (UnknownGroup name))) up = record {
         given = no_inputs;
         cause = (up.0, no_faults, (Some found, taken, refl, rw (there, up.2, up.1) refl));
@@ -114,19 +121,23 @@ module _ (names : List Word) (id : Option (List ℕ)) (vg : List ℕ) (time : �
           (
             set.empty,
             Some found,
-            record { failed = subst (λ (s : set.FinSet nat_cmp). FailedOn s old new) whole.read is.faults; all = (λ yes. refl, λ none. up.0) },
+            record { failed = subst (λ (s : set.FinSet nat_cmp). FailedOn s old new) whole.read is.faults;
+                all = (λ yes. refl, λ none. up.0) },
             scanned,
             rw (there, up.2) refl,
-            holds_now_anyway old.told (λ image. (g : Group) × (group_in (Some found) ≡ Some g) × HasTree g × (text ≡ printed (backup_of g time))) (λ image. (group, there, stands, up.1)),
+            holds_now_anyway old.told (λ image. (g : Group) × (group_in (Some found) ≡ Some g) × HasTree g
+                × (text ≡ printed (backup_of g time))) (λ image. (group, there, stands, up.1)),
           ),
         );
         told = does (Reported text all);
         again = again;
       }
-      of_group group there stands (Answered line answer.NoMemory) up = record { given = no_inputs; cause = (up, tt); told = does (Answered line answer.NoMemory); again = again }
+      of_group group there stands (Answered line answer.NoMemory) up =
+          record { given = no_inputs; cause = (up, tt); told = does (Answered line answer.NoMemory); again = again }
       of_group group there stands _ up = absurd up
 
-      of_found : (group : Option Group) → found.group ≡ group → (outcome : Outcome) → IsGroupBackedUp group vg time outcome → Meets (vgcfgbackup vg) context old outcome new
+      of_found : (group : Option Group) → found.group ≡ group → (outcome : Outcome) → IsGroupBackedUp group vg time outcome
+          → Meets (vgcfgbackup vg) context old outcome new
       of_found (Some group) there outcome up = of_group group there up.0 outcome up.1
       of_found None there outcome up =
           let meets : Meets (vgcfgbackup vg) context old (Answered 1 (Refused (UnknownGroup vg))) new = record {

@@ -46,7 +46,8 @@ none_in_turn told well = record {
 }
 
 -- nor are batches that weren't begun
-pub none_begun : (begun well : Bool) (batches : List (List Put)) (told : Record) → begun ≡ false → WritesInTurn told (batches_if begun batches) well told
+pub none_begun : (begun well : Bool) (batches : List (List Put)) (told : Record) → begun ≡ false
+    → WritesInTurn told (batches_if begun batches) well told
 none_begun true well batches told e = absurd (cc)
 none_begun false well batches told e = none_in_turn told well
 
@@ -63,10 +64,14 @@ unpassed sizes old new o = record {
 }
 
 -- nothing behind the zeros of a line was written
-pub unwritten : (spec : CommandSpec) (context : Context) (given : Inputs) (outcome : Outcome) → is_done outcome ≡ false → (found : Option Found) (old opened start zeroed : Record)
-    → (IsTrue (is_taken outcome) → spec.scan context (now_after old.opened old.steps) set.empty (Finds found)) → OpensDisks context.sizes old (is_taken outcome) opened
-    → WritesInTurn opened (batches_if (repair_begun outcome) (spec.repairs found)) (is_repaired outcome) start → (IsTrue (line_begun outcome) → spec.takes context found given)
-    → WritesInTurn start (batches_if (line_begun outcome) (spec.zeros context found given)) false zeroed → ChangesDisks spec context given outcome old zeroed
+pub unwritten : (spec : CommandSpec) (context : Context) (given : Inputs) (outcome : Outcome) → is_done outcome ≡ false
+    → (found : Option Found) (old opened start zeroed : Record)
+    → (IsTrue (is_taken outcome) → spec.scan context (now_after old.opened old.steps) set.empty (Finds found))
+    → OpensDisks context.sizes old (is_taken outcome) opened
+    → WritesInTurn opened (batches_if (repair_begun outcome) (spec.repairs found)) (is_repaired outcome) start
+    → (IsTrue (line_begun outcome) → spec.takes context found given)
+    → WritesInTurn start (batches_if (line_begun outcome) (spec.zeros context found given)) false zeroed
+    → ChangesDisks spec context given outcome old zeroed
 unwritten spec context given outcome undone found old opened start zeroed scanned opening repair takes zeros = record {
   found = found;
   scanned = scanned;
@@ -92,31 +97,39 @@ unwritten spec context given outcome undone found old opened start zeroed scanne
 }
 
 -- the line ended with its look
-pub looks : (spec : CommandSpec) (context : Context) (given : Inputs) (outcome : Outcome) → repair_begun outcome ≡ false → line_begun outcome ≡ false → is_done outcome ≡ false
-    → (found : Option Found) (old new : Record) → (IsTrue (is_taken outcome) → spec.scan context (now_after old.opened old.steps) set.empty (Finds found))
+pub looks : (spec : CommandSpec) (context : Context) (given : Inputs) (outcome : Outcome) → repair_begun outcome ≡ false
+    → line_begun outcome ≡ false → is_done outcome ≡ false
+    → (found : Option Found) (old new : Record)
+    → (IsTrue (is_taken outcome) → spec.scan context (now_after old.opened old.steps) set.empty (Finds found))
     → OpensDisks context.sizes old (is_taken outcome) new → ChangesDisks spec context given outcome old new
 looks spec context given outcome unrepaired unlined undone found old new scanned opens =
-    unwritten spec context given outcome undone found old new new new scanned opens (none_begun (repair_begun outcome) (is_repaired outcome) (spec.repairs found) new unrepaired)
-    (λ begun. absurd (untrue (line_begun outcome) unlined begun)) (none_begun (line_begun outcome) false (spec.zeros context found given) new unlined)
+    unwritten spec context given outcome undone found old new new new scanned opens
+        (none_begun (repair_begun outcome) (is_repaired outcome) (spec.repairs found) new unrepaired)
+    (λ begun. absurd (untrue (line_begun outcome) unlined begun))
+        (none_begun (line_begun outcome) false (spec.zeros context found given) new unlined)
 
 -- ---- reads alone
 
 -- the line reads, as far as it came
-pub reads_disks : (spec : CommandSpec) (context : Context) (given : Inputs) → spec.flushes ≡ false → (outcome : Outcome) (old new : Record) (read unread : List Span)
-    → OnlyReads old read new → spec.reads context (now_after old.opened old.steps) (read ++ unread) → DoesToDisks spec context given outcome old new
+pub reads_disks : (spec : CommandSpec) (context : Context) (given : Inputs) → spec.flushes ≡ false
+    → (outcome : Outcome) (old new : Record) (read unread : List Span)
+    → OnlyReads old read new → spec.reads context (now_after old.opened old.steps) (read ++ unread)
+    → DoesToDisks spec context given outcome old new
 reads_disks spec context given alone outcome old new read unread reads spans =
     subst (λ (b : Bool). MatchBool b (ChangesDisks spec context given outcome old new) (ReadsDisks spec context old new)) (sym alone)
     (record { read = read; reads = reads; unread = unread; spans = spans })
 
 -- what holds of the sectors of a disk before a call that reads
-pub between_reading : (R : Record → Record → Type 0) (s0 s1 : Option Record) (spans : List Span) (pv : ℕ) (P : (ℕ → List ℕ) → Type 0) → ReadsTold s0 spans s1 → HoldsOfDisk s0 pv P
+pub between_reading : (R : Record → Record → Type 0) (s0 s1 : Option Record) (spans : List Span) (pv : ℕ) (P : (ℕ → List ℕ) → Type 0)
+    → ReadsTold s0 spans s1 → HoldsOfDisk s0 pv P
     → ((old new : Record) → OnlyReads old spans new → P (now_after old.opened old.steps pv) → R old new) → BetweenRecords R s0 s1
 between_reading R s0 s1 spans pv P reads holds make old e =
     let r = reads old e in
     (r.0, r.1, make old r.0 r.2 (subst (λ (o : Option Record). IfSome o (λ t. P (now_after t.opened t.steps pv))) e holds))
 
 -- what holds of the disks as reads give them
-pub holds_now_weaker : (told : Option Record) (P Q : Image → Type 0) → ((image : Image) → P image → Q image) → HoldsNow told P → HoldsNow told Q
+pub holds_now_weaker : (told : Option Record) (P Q : Image → Type 0) → ((image : Image) → P image → Q image) → HoldsNow told P
+    → HoldsNow told Q
 holds_now_weaker None P Q more h = tt
 holds_now_weaker (Some t) P Q more h = more (now_after t.opened t.steps) h
 
@@ -126,4 +139,5 @@ holds_now_anyway (Some t) P all = all (now_after t.opened t.steps)
 
 -- nothing failed on any disk
 pub none_failed : (old new : State) → HasSameFaults old new → FailedOn set.empty old new
-none_failed old new same = record { rose = λ pv there. absurd (false≢true (sym (set.contains-empty nat_cmp pv) ∙ there)); same = λ pv none. same pv }
+none_failed old new same =
+    record { rose = λ pv there. absurd (false≢true (sym (set.contains-empty nat_cmp pv) ∙ there)); same = λ pv none. same pv }

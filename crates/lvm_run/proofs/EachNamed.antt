@@ -1,5 +1,6 @@
 -- Each disk that the words of a run name has a name that disks can have.
-use Rattle.std.proofs.Common.{◌≡◌, ◌⊎◌, All, Bool, true, false, if◌then◌else◌, List, [], ◌∷◌, Option, Some, None, IfSome, option_map, option_and_then, subst, inl, inr}
+use Rattle.std.proofs.Common.{◌≡◌, ◌⊎◌, All, Bool, true, false, if◌then◌else◌, List, [], ◌∷◌, Option, Some, None, IfSome, option_map,
+    option_and_then, subst, inl, inr}
 use Rattle.std.proofs.lemmas.Bool.{cases_Bool}
 use Rattle.std.proofs.lemmas.List.Elements.{All-cons, All-nil}
 use Rattle.command_table.specs.Options.{Word}
@@ -33,12 +34,14 @@ front_named (word ∷ []) = go (is_disk_option word)
 front_named (word ∷ name ∷ rest) = go (front_named rest) (is_disk_option word) (cases_Bool (is_disk_name name))
   where
     go : IfSome (front_of rest) (λ (f : Front). AllNamed f.names) → (b : Bool) → (is_disk_name name ≡ true) ⊎ (is_disk_name name ≡ false)
-        → IfSome (if b then (if is_disk_name name then option_map (with_name name) (front_of rest) else None) else Some (record { names = []; rest = word ∷ name ∷ rest })) (λ (f : Front). AllNamed f.names)
+        → IfSome (if b then (if is_disk_name name then option_map (with_name name) (front_of rest) else None) else Some
+        (record { names = []; rest = word ∷ name ∷ rest })) (λ (f : Front). AllNamed f.names)
     go named true (inl e) = rw e (one_more name (front_of rest) e named)
     go named true (inr e) = rw e tt
     go named false e = none_named
 
-where_named : (front : Option Front) → IfSome front (λ (f : Front). AllNamed f.names) → IfSome (option_map (λ (f : Front). f.names) (option_and_then where_disks front)) AllNamed
+where_named : (front : Option Front) → IfSome front (λ (f : Front). AllNamed f.names)
+    → IfSome (option_map (λ (f : Front). f.names) (option_and_then where_disks front)) AllNamed
 where_named None named = tt
 where_named (Some front) named = go (are_disks front.names)
   where
@@ -53,5 +56,7 @@ are_named words line is =
     record {
       some = few.0;
       few = few.1;
-      each = subst (λ (o : Option (List Word)). IfSome o AllNamed) (names_of_line words line is) (where_named (front_of words) (front_named words));
+      each =
+          subst (λ (o : Option (List Word)). IfSome o AllNamed) (names_of_line words line is)
+              (where_named (front_of words) (front_named words));
     }

@@ -31,22 +31,29 @@ pub lies_whole : (from : ℕ) (took : Option ℕ) (to : ℕ) → LiesBetween fro
 lies_whole from None to lies = lies
 lies_whole from (Some moment) to lies = omega (arith, lies.0, lies.1)
 
-made_between : (commits : Bool) (from made to moment : ℕ) → from ≤ made → made ≤ to → moment ≡ made_at commits made to → LiesBetween from (Some moment) to
+made_between : (commits : Bool) (from made to moment : ℕ) → from ≤ made → made ≤ to → moment ≡ made_at commits made to
+    → LiesBetween from (Some moment) to
 made_between true from made to moment later sooner is = (omega (arith, later, is), omega (arith, sooner, is))
 made_between false from made to moment later sooner is = (omega (arith, later, sooner, is), omega (arith, is))
 
-carried_between : (commits : Bool) (zeros batches clears : List (List Put)) (result : Result ℕ ChangeFault) (old new : State) → old.steps ≤ new.steps → Carries commits zeros batches clears result old new → LiesBetween old.steps (took_of result) new.steps
-carried_between commits zeros batches clears (Ok moment) old new later c = made_between commits old.steps c.0.made.steps new.steps moment c.0.later c.0.sooner c.1
-carried_between commits zeros batches clears (Err (fault.Uncleared pv moment)) old new later c = made_between true old.steps c.0.made.steps new.steps moment c.0.later c.0.sooner c.1
+carried_between : (commits : Bool) (zeros batches clears : List (List Put)) (result : Result ℕ ChangeFault) (old new : State)
+    → old.steps ≤ new.steps → Carries commits zeros batches clears result old new → LiesBetween old.steps (took_of result) new.steps
+carried_between commits zeros batches clears (Ok moment) old new later c =
+    made_between commits old.steps c.0.made.steps new.steps moment c.0.later c.0.sooner c.1
+carried_between commits zeros batches clears (Err (fault.Uncleared pv moment)) old new later c =
+    made_between true old.steps c.0.made.steps new.steps moment c.0.later c.0.sooner c.1
 carried_between commits zeros batches clears (Err (fault.Failed pv)) old new later c = later
 carried_between commits zeros batches clears (Err (fault.Refused refusal)) old new later c = later
 carried_between commits zeros batches clears (Err fault.NoMemory) old new later c = later
 
-pub goes_between : (names : List Word) (line : Line) (now : ℕ) (result : Result Found RepairFault) (old : State) (outcome : Outcome) (took : Option ℕ) (new : State) → GoesOn names line now result old outcome took new → LiesBetween old.steps took new.steps
+pub goes_between : (names : List Word) (line : Line) (now : ℕ) (result : Result Found RepairFault) (old : State) (outcome : Outcome)
+    (took : Option ℕ) (new : State) → GoesOn names line now result old outcome took new → LiesBetween old.steps took new.steps
 goes_between names line now (Ok repaired) old outcome took new goes =
-    subst (λ (t : Option ℕ). LiesBetween old.steps t new.steps) (sym goes.took_is) (carried_between _ _ _ _ goes.result old new goes.again.later goes.carried.told)
+    subst (λ (t : Option ℕ). LiesBetween old.steps t new.steps) (sym goes.took_is)
+        (carried_between _ _ _ _ goes.result old new goes.again.later goes.carried.told)
 goes_between names line now (Err why) old outcome took new goes =
-    subst (λ (t : Option ℕ). LiesBetween old.steps t new.steps) (sym goes.1) (subst (λ (s : State). old.steps ≤ s.steps) (sym goes.2) (omega arith))
+    subst (λ (t : Option ℕ). LiesBetween old.steps t new.steps) (sym goes.1)
+        (subst (λ (s : State). old.steps ≤ s.steps) (sym goes.2) (omega arith))
 
 -- one that can be planned is none that reports on a scan alone
 pub planned_writes : (id : Option (List ℕ)) (command : Command) → IsPlanned id command → reports_scan command ≡ false
@@ -59,15 +66,18 @@ planned_writes id _ planned = refl
 
 -- ---- the journal
 
-line_in_time : (from begun : ℕ) (took : Option ℕ) (to : ℕ) → from ≤ begun → LiesBetween begun took to → AreInTime from (journal_of_line begun took to) to
+line_in_time : (from begun : ℕ) (took : Option ℕ) (to : ℕ) → from ≤ begun → LiesBetween begun took to
+    → AreInTime from (journal_of_line begun took to) to
 line_in_time from begun None to later lies = (later, (lies, omega arith))
 line_in_time from begun (Some moment) to later lies = (later, (lies.0, (lies.1, omega arith)))
 
 module _ (line : Line) (outcome : Outcome) (old begun : ℕ) (took : Option ℕ) (new : ℕ) where
-  pub run_in_time : old ≤ new → (if reports_scan line.command then new else old) ≤ begun → LiesBetween begun took new → AreInTime (begun_from (lines_by line outcome) old new) (journal_by begun took new outcome) new
+  pub run_in_time : old ≤ new → (if reports_scan line.command then new else old) ≤ begun → LiesBetween begun took new
+      → AreInTime (begun_from (lines_by line outcome) old new) (journal_by begun took new outcome) new
   run_in_time whole later lies = by (said_of outcome)
     where
-      by : (o : Option Answer) → AreInTime (begun_from (option_map_or (λ (said : Answer). (line, Some said) ∷ []) o []) old new) (option_map_or (λ (said : Answer). journal_of_line begun took new) o []) new
+      by : (o : Option Answer) → AreInTime (begun_from (option_map_or (λ (said : Answer). (line, Some said) ∷ []) o []) old new)
+          (option_map_or (λ (said : Answer). journal_of_line begun took new) o []) new
       by None = whole
       by (Some said) = line_in_time (if reports_scan line.command then new else old) begun took new later lies
 
@@ -75,6 +85,7 @@ module _ (line : Line) (outcome : Outcome) (old begun : ℕ) (took : Option ℕ)
   pub run_unbegun : lines_by line outcome ≡ [] → journal_by begun took new outcome ≡ []
   run_unbegun none = by (said_of outcome) none
     where
-      by : (o : Option Answer) → option_map_or {U = List Said} (λ (said : Answer). (line, Some said) ∷ []) o [] ≡ [] → option_map_or (λ (said : Answer). journal_of_line begun took new) o [] ≡ []
+      by : (o : Option Answer) → option_map_or {U = List Said} (λ (said : Answer). (line, Some said) ∷ []) o [] ≡ []
+          → option_map_or (λ (said : Answer). journal_of_line begun took new) o [] ≡ []
       by None none = refl
       by (Some said) none = absurd (cc)

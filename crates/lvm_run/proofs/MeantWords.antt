@@ -1,5 +1,7 @@
 -- What words ask for has the values that the tests of single words let through.
-use Rattle.std.proofs.Common.{◌≡◌, ◌≤◌, ◌<◌, ◌∙◌, ◌^◌, ◌%◌, ◌+◌, ◌-◌, ◌&&◌, ◌⊎◌, ℕ, zero, suc, Bool, true, false, if◌then◌else◌, nat_le, List, [], ◌∷◌, length, not, Option, Some, None, Result, Ok, Err, IfSome, is_none, is_some, find, option_map, option_and_then, unwrap_or, refl, ap, sym, subst, inl, inr, arith}
+use Rattle.std.proofs.Common.{◌≡◌, ◌≤◌, ◌<◌, ◌∙◌, ◌^◌, ◌%◌, ◌+◌, ◌-◌, ◌&&◌, ◌⊎◌, ℕ, zero, suc, Bool, true, false, if◌then◌else◌, nat_le,
+    List, [], ◌∷◌, length, not, Option, Some, None, Result, Ok, Err, IfSome, is_none, is_some, find, option_map, option_and_then, unwrap_or,
+    refl, ap, sym, subst, inl, inr, arith}
 use Rattle.std.proofs.lemmas.Bool.{and_parts, cases_Bool, eqb-true, leb-true, true≢false}
 use Rattle.std.proofs.Math.Nat.{two-pow-succ}
 use Rattle.std.specs.Int.{is_power_of_two}
@@ -11,7 +13,8 @@ use Rattle.command_table.specs.declared.amount.Amount.TheVariants.{Extents, Sect
 use Rattle.command_table.specs.declared.amount.Growth.{Growth}
 use Rattle.command_table.specs.declared.amount.Growth.TheVariants.{By, To}
 use Rattle.command_table.specs.declared.command.Command.{Command}
-use Rattle.command_table.specs.declared.command.Command.TheVariants.{Pvck, Pvs, Vgcreate, Vgremove, Vgrename, Vgcfgbackup, Vgcfgrestore, Vgck, Vgs, Lvcreate, Lvextend, Lvreduce, Lvremove, Lvrename, Lvs}
+use Rattle.command_table.specs.declared.command.Command.TheVariants.{Pvck, Pvs, Vgcreate, Vgremove, Vgrename, Vgcfgbackup, Vgcfgrestore,
+    Vgck, Vgs, Lvcreate, Lvextend, Lvreduce, Lvremove, Lvrename, Lvs}
 use Rattle.command_table.specs.declared.command.Path.{Path}
 use Rattle.command_table.specs.declared.command_name.CommandName.{CommandName}
 use Rattle.command_table.specs.declared.command_name.CommandName.TheVariants as name
@@ -25,7 +28,10 @@ use Rattle.command_table.specs.declared.refusal.CommandRefusal.TheVariants.{Faul
 use Rattle.command_table.specs.declared.request.Request.{Request}
 use Rattle.command_table.specs.declared.request.Request.TheVariants.{One, Session}
 use Rattle.command_table.specs.declared.table.OptionRow.{OptionRow}
-use Rattle.command_table.specs.Meaning.{OptionValues, alone, amount_of, amount_with, at_place, demo, demo_of, goes_together, growth_by, growth_of, growth_with, longer, lvcreate, lvextend, lvreduce, lvrename, meaning_of_words, meaning_with, narrow, new_volume, one_path, one_word, path_in, pvcreate, pvmove, request_by_name, request_named, request_read, session, session_on, shorter, size, value_in, vgcreate, vgextend, vgreduce, vgrename, workers_in}
+use Rattle.command_table.specs.Meaning.{OptionValues, alone, amount_of, amount_with, at_place, demo, demo_of, goes_together, growth_by,
+    growth_of, growth_with, longer, lvcreate, lvextend, lvreduce, lvrename, meaning_of_words, meaning_with, narrow, new_volume, one_path,
+    one_word, path_in, pvcreate, pvmove, request_by_name, request_named, request_read, session, session_on, shorter, size, value_in,
+    vgcreate, vgextend, vgreduce, vgrename, workers_in}
 use Rattle.command_table.specs.Options.{Word, is_key}
 use Rattle.command_table.specs.Table.{command_named, is_for_words, options_of}
 use Rattle.command_table.specs.Values.{has_plus, is_between, is_group_name, number_fault, number_of, size_of, unless, without_plus}
@@ -71,14 +77,16 @@ chained : {A B : Type 0} (P : B → Type 0) (f : A → Option B) → ((a : A) �
 chained P f each None = tt
 chained P f each (Some a) = each a
 
-found_passes : {A : Type 0} (p q : A → Bool) (items : List A) → list_all p items ≡ true → IfSome (find q items) (λ a. (p a ≡ true) × (q a ≡ true))
+found_passes : {A : Type 0} (p q : A → Bool) (items : List A) → list_all p items ≡ true
+    → IfSome (find q items) (λ a. (p a ≡ true) × (q a ≡ true))
 found_passes p q [] all = tt
 found_passes {A} p q (a ∷ items) all = go (found_passes p q items both.1) (cases_Bool (q a))
   where
     both : (p a ≡ true) × (list_all p items ≡ true)
     both = and_parts (p a) (list_all p items) all
 
-    go : IfSome (find q items) (λ (a : A). (p a ≡ true) × (q a ≡ true)) → (q a ≡ true) ⊎ (q a ≡ false) → IfSome (find q (a ∷ items)) (λ (a : A). (p a ≡ true) × (q a ≡ true))
+    go : IfSome (find q items) (λ (a : A). (p a ≡ true) × (q a ≡ true)) → (q a ≡ true) ⊎ (q a ≡ false)
+        → IfSome (find q (a ∷ items)) (λ (a : A). (p a ≡ true) × (q a ≡ true))
     go rest (inl e) = rw e (both.0, e)
     go rest (inr e) = rw e rest
 
@@ -111,32 +119,39 @@ size_or_usual : (word : Option Word) → IfSome word (λ w. value_passes (PowerS
 size_or_usual None passes = (omega arith, omega arith, refl)
 size_or_usual (Some word) passes = go (size_of 2048 word) passes
   where
-    go : (o : Option ℕ) → is_none (number_fault (λ n. is_between 8 2097152 n && is_power_of_two n) o) ≡ true → IsExtentSize (unwrap_or o 8192)
+    go : (o : Option ℕ) → is_none (number_fault (λ n. is_between 8 2097152 n && is_power_of_two n) o) ≡ true
+        → IsExtentSize (unwrap_or o 8192)
     go None none = absurd (true≢false (sym none))
     go (Some n) none = size_fits n (number_passes (λ n. is_between 8 2097152 n && is_power_of_two n) n none)
 
 -- ---- how large a volume is to be
 
 between : (least most n : ℕ) → is_between least most n ≡ true → (least ≤ n) × (n ≤ most)
-between least most n passes = let bounds = and_parts (nat_le least n) (nat_le n most) passes in (leb-true least n bounds.0, leb-true n most bounds.1)
+between least most n passes =
+    let bounds = and_parts (nat_le least n) (nat_le n most) passes in (leb-true least n bounds.0, leb-true n most bounds.1)
 
 count_fits : (o : Option ℕ) → is_none (number_fault (is_between 1 (2 ^ 64 - 1)) o) ≡ true → IfSome o (λ n. (1 ≤ n) × (n < 2 ^ 64))
 count_fits None none = tt
-count_fits (Some n) none = let fits = between 1 (2 ^ 64 - 1) n (number_passes (is_between 1 (2 ^ 64 - 1)) n none) in (fits.0, omega (arith, fits.1))
+count_fits (Some n) none =
+    let fits = between 1 (2 ^ 64 - 1) n (number_passes (is_between 1 (2 ^ 64 - 1)) n none) in (fits.0, omega (arith, fits.1))
 
-extents_fit : (word : Option Word) → IfSome word (λ w. value_passes (Number 1 (2 ^ 64 - 1)) w ≡ true) → IfSome (option_and_then number_of word) (λ n. (1 ≤ n) × (n < 2 ^ 64))
+extents_fit : (word : Option Word) → IfSome word (λ w. value_passes (Number 1 (2 ^ 64 - 1)) w ≡ true)
+    → IfSome (option_and_then number_of word) (λ n. (1 ≤ n) × (n < 2 ^ 64))
 extents_fit None passes = tt
 extents_fit (Some word) passes = count_fits (number_of word) passes
 
 length_fits : (o : Option ℕ) → is_none (number_fault (is_between 1 (2 ^ 48 - 1)) o) ≡ true → IfSome o (λ n. (1 ≤ n) × (n < 2 ^ 48))
 length_fits None none = tt
-length_fits (Some n) none = let fits = between 1 (2 ^ 48 - 1) n (number_passes (is_between 1 (2 ^ 48 - 1)) n none) in (fits.0, omega (arith, fits.1))
+length_fits (Some n) none =
+    let fits = between 1 (2 ^ 48 - 1) n (number_passes (is_between 1 (2 ^ 48 - 1)) n none) in (fits.0, omega (arith, fits.1))
 
-sectors_fit : (word : Option Word) → IfSome word (λ w. value_passes (Size 2048 1 (2 ^ 48 - 1)) w ≡ true) → IfSome (option_and_then (size_of 2048) word) (λ n. (1 ≤ n) × (n < 2 ^ 48))
+sectors_fit : (word : Option Word) → IfSome word (λ w. value_passes (Size 2048 1 (2 ^ 48 - 1)) w ≡ true)
+    → IfSome (option_and_then (size_of 2048) word) (λ n. (1 ≤ n) × (n < 2 ^ 48))
 sectors_fit None passes = tt
 sectors_fit (Some word) passes = length_fits (size_of 2048 word) passes
 
-amount_fits : (extents sectors : Option ℕ) → IfSome extents (λ n. (1 ≤ n) × (n < 2 ^ 64)) → IfSome sectors (λ n. (1 ≤ n) × (n < 2 ^ 48)) → IfSome (amount_with extents sectors) IsAmount
+amount_fits : (extents sectors : Option ℕ) → IfSome extents (λ n. (1 ≤ n) × (n < 2 ^ 64)) → IfSome sectors (λ n. (1 ≤ n) × (n < 2 ^ 48))
+    → IfSome (amount_with extents sectors) IsAmount
 amount_fits None None extents_fit sectors_fit = tt
 amount_fits None (Some n) extents_fit sectors_fit = sectors_fit
 amount_fits (Some n) None extents_fit sectors_fit = extents_fit
@@ -149,13 +164,16 @@ growth_fits word amount fits = by (has_plus word) where
   by true = fits
   by false = fits
 
-growths_fit : (extents sectors : Option Word) → IfSome extents (λ w. value_passes (Grows 1 (2 ^ 64 - 1)) w ≡ true) → IfSome sectors (λ w. value_passes (SizeGrowth 2048 1 (2 ^ 48 - 1)) w ≡ true) → IfSome (growth_with extents sectors) IsGrowth
+growths_fit : (extents sectors : Option Word) → IfSome extents (λ w. value_passes (Grows 1 (2 ^ 64 - 1)) w ≡ true)
+    → IfSome sectors (λ w. value_passes (SizeGrowth 2048 1 (2 ^ 48 - 1)) w ≡ true) → IfSome (growth_with extents sectors) IsGrowth
 growths_fit None None extents_fit sectors_fit = tt
-growths_fit (Some word) None extents_fit sectors_fit = by (number_of (without_plus word)) (count_fits (number_of (without_plus word)) extents_fit) where
+growths_fit (Some word) None extents_fit sectors_fit =
+    by (number_of (without_plus word)) (count_fits (number_of (without_plus word)) extents_fit) where
   by : (o : Option ℕ) → IfSome o (λ n. (1 ≤ n) × (n < 2 ^ 64)) → IfSome (option_map (λ n. growth_by word (Extents n)) o) IsGrowth
   by None fits = tt
   by (Some n) fits = growth_fits word (Extents n) fits
-growths_fit None (Some word) extents_fit sectors_fit = by (size_of 2048 (without_plus word)) (length_fits (size_of 2048 (without_plus word)) sectors_fit) where
+growths_fit None (Some word) extents_fit sectors_fit =
+    by (size_of 2048 (without_plus word)) (length_fits (size_of 2048 (without_plus word)) sectors_fit) where
   by : (o : Option ℕ) → IfSome o (λ n. (1 ≤ n) × (n < 2 ^ 48)) → IfSome (option_map (λ n. growth_by word (Sectors n)) o) IsGrowth
   by None fits = tt
   by (Some n) fits = growth_fits word (Sectors n) fits
@@ -163,7 +181,8 @@ growths_fit (Some word) (Some other) extents_fit sectors_fit = tt
 
 -- ---- a new volume
 
-number_fits : (least most : ℕ) (word : Option Word) → IfSome word (λ w. value_passes (Number least most) w ≡ true) → IfSome (option_and_then number_of word) (λ n. (least ≤ n) × (n ≤ most))
+number_fits : (least most : ℕ) (word : Option Word) → IfSome word (λ w. value_passes (Number least most) w ≡ true)
+    → IfSome (option_and_then number_of word) (λ n. (least ≤ n) × (n ≤ most))
 number_fits least most None passes = tt
 number_fits least most (Some word) passes = go (number_of word) passes
   where
@@ -184,7 +203,8 @@ mirrors_fit (Some n) fits = fits.1
 abbrev IsPieceSize : ℕ → Type 0
 IsPieceSize n = IsPowerOfTwo n × (8 ≤ n) × (n < 2 ^ 48)
 
-piece_fits : (word : Option Word) → IfSome word (λ w. value_passes (PowerSize 2 8 (2 ^ 48 - 1)) w ≡ true) → IsPieceSize (unwrap_or (option_and_then (size_of 2) word) 128)
+piece_fits : (word : Option Word) → IfSome word (λ w. value_passes (PowerSize 2 8 (2 ^ 48 - 1)) w ≡ true)
+    → IsPieceSize (unwrap_or (option_and_then (size_of 2) word) 128)
 piece_fits None passes = ((7, refl), omega arith, omega arith)
 piece_fits (Some word) passes = go (size_of 2 word) passes
   where
@@ -194,7 +214,8 @@ piece_fits (Some word) passes = go (size_of 2 word) passes
         let bounds = between 8 (2 ^ 48 - 1) n both.0 in
         (power_from_ones n (eqb-true _ 1 both.1), bounds.0, omega (arith, bounds.1))
 
-    go : (o : Option ℕ) → is_none (number_fault (λ n. is_between 8 (2 ^ 48 - 1) n && is_power_of_two n) o) ≡ true → IsPieceSize (unwrap_or o 128)
+    go : (o : Option ℕ) → is_none (number_fault (λ n. is_between 8 (2 ^ 48 - 1) n && is_power_of_two n) o) ≡ true
+        → IsPieceSize (unwrap_or o 128)
     go None none = absurd (true≢false (sym none))
     go (Some n) none = one n (number_passes (λ n. is_between 8 (2 ^ 48 - 1) n && is_power_of_two n) n none)
 
@@ -208,9 +229,11 @@ mirrors_alone (Some mirrors) (Some stripes) rest together some = absurd (true≢
 -- the value of an option is what it has to be
 value_fits : (rows : List OptionRow) (given : List (OptionKey × Word)) (k : OptionKey) → list_all (given_passes rows) given ≡ true
     → IfSome (value_in given k) (λ word. value_passes (kind_in rows k) word ≡ true)
-value_fits rows given k all = go (find (λ (pair : OptionKey × Word). is_key pair.0 k) given) (found_passes (given_passes rows) (λ pair. is_key pair.0 k) given all)
+value_fits rows given k all =
+    go (find (λ (pair : OptionKey × Word). is_key pair.0 k) given) (found_passes (given_passes rows) (λ pair. is_key pair.0 k) given all)
   where
-    go : (o : Option (OptionKey × Word)) → IfSome o (λ (pair : OptionKey × Word). (given_passes rows pair ≡ true) × (is_key pair.0 k ≡ true))
+    go : (o : Option (OptionKey × Word)) → IfSome o
+        (λ (pair : OptionKey × Word). (given_passes rows pair ≡ true) × (is_key pair.0 k ≡ true))
         → IfSome (option_map (λ (pair : OptionKey × Word). pair.1) o) (λ (word : Word). value_passes (kind_in rows k) word ≡ true)
     go None passes = tt
     go (Some pair) passes = subst (λ (own : OptionKey). value_passes (kind_in rows own) pair.1 ≡ true) (same_key pair.0 k passes.1) passes.0
@@ -236,7 +259,8 @@ pvcreate_meant given (pv ∷ other ∷ more) = tt
 pvmove_meant : (given : OptionValues) (arguments : List Word) → IfSome (pvmove given arguments) IsMeant
 pvmove_meant given arguments = go (cases_Bool (is_some (given key.Abort))) arguments
   where
-    go : (is_some (given key.Abort) ≡ true) ⊎ (is_some (given key.Abort) ≡ false) → (arguments : List Word) → IfSome (pvmove given arguments) IsMeant
+    go : (is_some (given key.Abort) ≡ true) ⊎ (is_some (given key.Abort) ≡ false) → (arguments : List Word)
+        → IfSome (pvmove given arguments) IsMeant
     go (inl e) [] = rw e tt
     go (inl e) (pv ∷ onto) = rw e tt
     go (inr e) [] = rw e tt
@@ -283,22 +307,27 @@ lvcreate_meant : (given : OptionValues) (arguments : List Word) → NewFits give
 lvcreate_meant given [] fits = tt
 lvcreate_meant given (vg ∷ pvs) fits = go (goes_together given) refl
   where
-    with_size : goes_together given ≡ true → (lv : Option Word) → IfSome lv (λ word. value_passes Volume word ≡ true) → (amount : Option Amount) → IfSome amount IsAmount → IfSome (new_volume given lv amount vg pvs) IsMeant
+    with_size : goes_together given ≡ true → (lv : Option Word) → IfSome lv (λ word. value_passes Volume word ≡ true)
+        → (amount : Option Amount) → IfSome amount IsAmount → IfSome (new_volume given lv amount vg pvs) IsMeant
     with_size together None named amount sized = tt
     with_size together (Some lv) named None sized = tt
     with_size together (Some lv) named (Some amount) sized = record {
       named = name_fits (volume_name_refusal lv) named;
       amount = sized;
       stripes = stripes_fit _ (number_fits 1 8 (given key.Stripes) fits.stripes);
-      mirrors = (mirrors_fit _ (number_fits 1 7 (given key.Mirrors) fits.mirrors), mirrors_alone (given key.Mirrors) (given key.Stripes) _ together);
+      mirrors =
+          (mirrors_fit _ (number_fits 1 7 (given key.Mirrors) fits.mirrors),
+              mirrors_alone (given key.Mirrors) (given key.Stripes) _ together);
       stripe_size = piece_fits (given key.StripeSize) fits.piece;
     }
 
-    go : (b : Bool) → goes_together given ≡ b → IfSome (if b then new_volume given (given key.Name) (amount_of given) vg pvs else None) IsMeant
+    go : (b : Bool) → goes_together given ≡ b
+        → IfSome (if b then new_volume given (given key.Name) (amount_of given) vg pvs else None) IsMeant
     go true together = with_size together (given key.Name) fits.named (amount_of given) fits.amount
     go false together = tt
 
-lvextend_meant : (given : OptionValues) (arguments : List Word) → IfSome (growth_of given) IsGrowth → IfSome (lvextend given arguments) IsMeant
+lvextend_meant : (given : OptionValues) (arguments : List Word) → IfSome (growth_of given) IsGrowth
+    → IfSome (lvextend given arguments) IsMeant
 lvextend_meant given [] fits = tt
 lvextend_meant given (path ∷ pvs) fits = go (growth_of given) fits (path_in path)
   where
@@ -307,7 +336,8 @@ lvextend_meant given (path ∷ pvs) fits = go (growth_of given) fits (path_in pa
     go (Some growth) fits None = tt
     go (Some growth) fits (Some path) = fits
 
-lvreduce_meant : (given : OptionValues) (arguments : List Word) → IfSome (amount_of given) IsAmount → IfSome (lvreduce given arguments) IsMeant
+lvreduce_meant : (given : OptionValues) (arguments : List Word) → IfSome (amount_of given) IsAmount
+    → IfSome (lvreduce given arguments) IsMeant
 lvreduce_meant given arguments fits = go (amount_of given) fits (one_path arguments)
   where
     go : (amount : Option Amount) → IfSome amount IsAmount → (path : Option Path) → IfSome (shorter amount path) IsMeant
@@ -322,7 +352,8 @@ alone_meant command meant (word ∷ words) = tt
 -- ---- what is asked for
 
 session_meant : (given : OptionValues) (arguments : List Word) → IfSome (session given arguments) IsMeantRequest
-session_meant given arguments = chained IsMeantRequest (session_on (workers_in given)) (with_workers (workers_in given)) (one_word arguments)
+session_meant given arguments =
+    chained IsMeantRequest (session_on (workers_in given)) (with_workers (workers_in given)) (one_word arguments)
   where
     with_workers : (workers : Option ℕ) (vg : Word) → IfSome (session_on workers vg) IsMeantRequest
     with_workers None vg = tt
@@ -357,20 +388,28 @@ request_meant name.Pvmove split here pass = one_meant _ (pvmove_meant (value_in 
 request_meant name.Pvck split here pass = one_meant _ (mapped IsMeant Pvck (λ pv. tt) (one_word split.arguments))
 request_meant name.Pvs split here pass = one_meant _ (alone_meant Pvs tt split.arguments)
 request_meant name.Vgcreate split here pass =
-    let both = and_parts (list_all (given_passes (options_of name.Vgcreate)) split.given) (arguments_pass name.Vgcreate 0 split.arguments) pass in
-    let fits = size_or_usual (value_in split.given key.PhysicalExtentSize) (value_fits (options_of name.Vgcreate) split.given key.PhysicalExtentSize both.0) in
+    let both =
+        and_parts (list_all (given_passes (options_of name.Vgcreate)) split.given) (arguments_pass name.Vgcreate 0 split.arguments) pass in
+    let fits =
+        size_or_usual (value_in split.given key.PhysicalExtentSize)
+            (value_fits (options_of name.Vgcreate) split.given key.PhysicalExtentSize both.0) in
     one_meant _ (vgcreate_meant (value_in split.given) split.arguments fits both.1)
 request_meant name.Vgextend split here pass = one_meant _ (vgextend_meant split.arguments)
 request_meant name.Vgreduce split here pass = one_meant _ (vgreduce_meant split.arguments)
 request_meant name.Vgremove split here pass = one_meant _ (mapped IsMeant Vgremove (λ vg. tt) (one_word split.arguments))
 request_meant name.Vgrename split here pass =
-    one_meant _ (vgrename_meant split.arguments (and_parts (list_all (given_passes (options_of name.Vgrename)) split.given) (arguments_pass name.Vgrename 0 split.arguments) pass).1)
+    one_meant _ (vgrename_meant split.arguments
+        (and_parts (list_all (given_passes (options_of name.Vgrename)) split.given) (arguments_pass name.Vgrename 0 split.arguments)
+        pass).1)
 request_meant name.Vgcfgbackup split here pass = one_meant _ (mapped IsMeant Vgcfgbackup (λ vg. tt) (one_word split.arguments))
-request_meant name.Vgcfgrestore split here pass = one_meant _ (mapped IsMeant (λ vg. Vgcfgrestore vg []) (λ vg. tt) (one_word split.arguments))
+request_meant name.Vgcfgrestore split here pass =
+    one_meant _ (mapped IsMeant (λ vg. Vgcfgrestore vg []) (λ vg. tt) (one_word split.arguments))
 request_meant name.Vgck split here pass = one_meant _ (alone_meant Vgck tt split.arguments)
 request_meant name.Vgs split here pass = one_meant _ (alone_meant Vgs tt split.arguments)
 request_meant name.Lvcreate split here pass =
-    let all = (and_parts (list_all (given_passes (options_of name.Lvcreate)) split.given) (arguments_pass name.Lvcreate 0 split.arguments) pass).0 in
+    let all =
+        (and_parts (list_all (given_passes (options_of name.Lvcreate)) split.given) (arguments_pass name.Lvcreate 0 split.arguments)
+            pass).0 in
     let extents = extents_fit (value_in split.given key.Extents) (value_fits (options_of name.Lvcreate) split.given key.Extents all) in
     let sectors = sectors_fit (value_in split.given key.Size) (value_fits (options_of name.Lvcreate) split.given key.Size all) in
     one_meant _
@@ -383,18 +422,25 @@ request_meant name.Lvcreate split here pass =
       mirrors = value_fits (options_of name.Lvcreate) split.given key.Mirrors all;
     }))
 request_meant name.Lvextend split here pass =
-    let all = (and_parts (list_all (given_passes (options_of name.Lvextend)) split.given) (arguments_pass name.Lvextend 0 split.arguments) pass).0 in
+    let all =
+        (and_parts (list_all (given_passes (options_of name.Lvextend)) split.given) (arguments_pass name.Lvextend 0 split.arguments)
+            pass).0 in
     let extents = value_fits (options_of name.Lvextend) split.given key.Extents all in
     let sectors = value_fits (options_of name.Lvextend) split.given key.Size all in
-    one_meant _ (lvextend_meant (value_in split.given) split.arguments (growths_fit (value_in split.given key.Extents) (value_in split.given key.Size) extents sectors))
+    one_meant _ (lvextend_meant (value_in split.given) split.arguments
+        (growths_fit (value_in split.given key.Extents) (value_in split.given key.Size) extents sectors))
 request_meant name.Lvreduce split here pass =
-    let all = (and_parts (list_all (given_passes (options_of name.Lvreduce)) split.given) (arguments_pass name.Lvreduce 0 split.arguments) pass).0 in
+    let all =
+        (and_parts (list_all (given_passes (options_of name.Lvreduce)) split.given) (arguments_pass name.Lvreduce 0 split.arguments)
+            pass).0 in
     let extents = extents_fit (value_in split.given key.Extents) (value_fits (options_of name.Lvreduce) split.given key.Extents all) in
     let sectors = sectors_fit (value_in split.given key.Size) (value_fits (options_of name.Lvreduce) split.given key.Size all) in
     one_meant _ (lvreduce_meant (value_in split.given) split.arguments (amount_fits _ _ extents sectors))
 request_meant name.Lvremove split here pass = one_meant _ (mapped IsMeant Lvremove (λ path. tt) (one_path split.arguments))
 request_meant name.Lvrename split here pass =
-    one_meant _ (lvrename_meant split.arguments (and_parts (list_all (given_passes (options_of name.Lvrename)) split.given) (arguments_pass name.Lvrename 0 split.arguments) pass).1)
+    one_meant _ (lvrename_meant split.arguments
+        (and_parts (list_all (given_passes (options_of name.Lvrename)) split.given) (arguments_pass name.Lvrename 0 split.arguments)
+        pass).1)
 request_meant name.Lvs split here pass = one_meant _ (alone_meant Lvs tt split.arguments)
 request_meant name.Session split here pass = session_meant (value_in split.given) split.arguments
 request_meant name.Demo split here pass = demo_meant split.arguments
@@ -411,7 +457,8 @@ request_meant name.Resync split here pass = absurd (true≢false (sym here))
 words_pass : (name : CommandName) (words : List (Word × ℕ)) → (read name words).fault ≡ None → all_pass name (read name words).split ≡ true
 words_pass name words none = ap (all_pass name) (split_read name words nothing_split None) ∙ ((fault_free name words).0 none).1
 
-read_meant : (name : CommandName) (words : List (Word × ℕ)) → is_for_words name ≡ true → IfSome (result_ok (request_read name (read name words))) IsMeantRequest
+read_meant : (name : CommandName) (words : List (Word × ℕ)) → is_for_words name ≡ true
+    → IfSome (result_ok (request_read name (read name words))) IsMeantRequest
 read_meant name words here = go (read name words).fault refl (is_complete (read name words).split)
   where
     asked : Option Request
@@ -421,12 +468,14 @@ read_meant name words here = go (read name words).fault refl (is_complete (read 
     whole None meant = tt
     whole (Some request) meant = meant
 
-    go : (fault : Option (Fault × ℕ)) → (read name words).fault ≡ fault → (complete : Bool) → IfSome (result_ok (meaning_with fault (if complete then asked else None))) IsMeantRequest
+    go : (fault : Option (Fault × ℕ)) → (read name words).fault ≡ fault → (complete : Bool)
+        → IfSome (result_ok (meaning_with fault (if complete then asked else None))) IsMeantRequest
     go (Some fault) is complete = tt
     go None is true = whole asked (request_meant name (read name words).split here (words_pass name words is))
     go None is false = tt
 
-at_place_meant : (end : ℕ) (meaning : Result Request CommandRefusal) → IfSome (result_ok meaning) IsMeantRequest → IfSome (result_ok (at_place end meaning)) IsMeantRequest
+at_place_meant : (end : ℕ) (meaning : Result Request CommandRefusal) → IfSome (result_ok meaning) IsMeantRequest
+    → IfSome (result_ok (at_place end meaning)) IsMeantRequest
 at_place_meant end (Ok request) meant = meant
 at_place_meant end (Err (Faulty fault place)) meant = tt
 at_place_meant end (Err WrongWords) meant = tt
@@ -437,7 +486,9 @@ named_meant None words = tt
 named_meant (Some name) words = go (cases_Bool (is_for_words name))
   where
     go : (is_for_words name ≡ true) ⊎ (is_for_words name ≡ false) → IfSome (result_ok (request_named (Some name) words)) IsMeantRequest
-    go (inl e) = rw e (at_place_meant (length words + 1) (request_read name (read name (numbered_from 1 words))) (read_meant name (numbered_from 1 words) e))
+    go (inl e) =
+        rw e (at_place_meant (length words + 1) (request_read name (read name (numbered_from 1 words)))
+            (read_meant name (numbered_from 1 words) e))
     go (inr e) = rw e tt
 
 words_meant : (words : List Word) → IfSome (result_ok (meaning_of_words words)) IsMeantRequest
@@ -448,12 +499,14 @@ front_meant : (front : Front) → IfSome (of_disks front) (λ (line : CommandLin
 front_meant front = go (result_ok (meaning_of_words front.rest)) (words_meant front.rest)
   where
     go : (o : Option Request) → IfSome o IsMeantRequest
-        → IfSome (option_map (λ (request : Request). record { names = front.names; request = request }) o) (λ (line : CommandLine). IsMeantRequest line.request)
+        → IfSome (option_map (λ (request : Request). record { names = front.names; request = request }) o)
+        (λ (line : CommandLine). IsMeantRequest line.request)
     go None meant = tt
     go (Some request) meant = meant
 
 -- the command that words ask for
-pub planned : (words : List Word) (line : CommandLine) (command : Command) → command_line_of words ≡ Some line → line.request ≡ One command → IsMeant command
+pub planned : (words : List Word) (line : CommandLine) (command : Command) → command_line_of words ≡ Some line → line.request ≡ One command
+    → IsMeant command
 planned words line command is asked =
     let all = chained (λ (line : CommandLine). IsMeantRequest line.request) of_disks front_meant (disks_front words) in
     subst IsMeantRequest asked (subst (λ (o : Option CommandLine). IfSome o (λ (line : CommandLine). IsMeantRequest line.request)) is all)

@@ -2,7 +2,9 @@
 use Rattle.std.proofs.Common.{◌≡◌, ◌∙◌, ℕ, List, Option, Some, None, IfSome, IsSomeAnd, is_some, true, true≢false, refl, ap, sym}
 use Rattle.lvm_id.specs.LvmId.{IsId}
 use Rattle.command_table.specs.declared.command.Command.{Command}
-use Rattle.command_table.specs.declared.command.Command.TheVariants.{Pvcreate, Pvmove, Pvck, Pvs, Vgcreate, Vgextend, Vgreduce, Vgremove, Vgrename, Vgcfgbackup, Vgcfgrestore, Vgck, Vgs, Lvcreate, Lvextend, Lvreduce, Lvremove, Lvrename, Lvs, Read, Fill, Write, List as ListVolumes, Wait, Resync}
+use Rattle.command_table.specs.declared.command.Command.TheVariants.{Pvcreate, Pvmove, Pvck, Pvs, Vgcreate, Vgextend, Vgreduce, Vgremove,
+    Vgrename, Vgcfgbackup, Vgcfgrestore, Vgck, Vgs, Lvcreate, Lvextend, Lvreduce, Lvremove, Lvrename, Lvs, Read, Fill, Write,
+    List as ListVolumes, Wait, Resync}
 use Rattle.command_table.specs.Commands.{changes, draws}
 use Rattle.command_table.specs.Options.{Word}
 use Rattle.lvm_script.specs.declared.line.Line.{Line}
@@ -17,7 +19,8 @@ use Rattle.lvm_run.specs.Runs.{CanPlan, CanPlanTask}
 use Rattle.lvm_run.proofs.MeantWords.{IsMeant, planned}
 
 -- a command that draws an id has one
-by_command : (command : Command) (id : Option (List ℕ)) → IsMeant command → (draws command ≡ true → IsSomeAnd id IsId) → is_built command ≡ true
+by_command : (command : Command) (id : Option (List ℕ)) → IsMeant command → (draws command ≡ true → IsSomeAnd id IsId)
+    → is_built command ≡ true
     → changes command ≡ true → IsPlanned id command
 by_command (Pvcreate pv copies) id meant drawn built changing = drawn refl
 by_command (Vgcreate vg extent_size pvs) id meant drawn built changing = (drawn refl, meant.0, meant.1, meant.2, meant.3)
@@ -63,8 +66,10 @@ by_line line ids is meant valid = record {
 }
 
 -- the task that words ask for, where it has drawn its id
-pub can_plan : (words : List Word) (line : CommandLine) (task : Task) (ids : ℕ → List ℕ) → command_line_of words ≡ Some line → line.request ≡ request_in task
+pub can_plan : (words : List Word) (line : CommandLine) (task : Task) (ids : ℕ → List ℕ) → command_line_of words ≡ Some line
+    → line.request ≡ request_in task
     → task ≡ task_of (request_in task) ids → HasId task → CanPlanTask task
-can_plan words line (One own) ids is asked drawn valid = by_line own ids (ap (line_or own) drawn) (planned words line own.command is asked) valid
+can_plan words line (One own) ids is asked drawn valid =
+    by_line own ids (ap (line_or own) drawn) (planned words line own.command is asked) valid
 can_plan words line (Session group workers) ids is asked drawn valid = tt
 can_plan words line (Demo seed lines workers) ids is asked drawn valid = tt

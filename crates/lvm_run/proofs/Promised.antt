@@ -1,5 +1,6 @@
 -- A run keeps the promise, by what it did to the disks.
-use Rattle.std.proofs.Common.{◌≡◌, ◌≤◌, ◌<◌, ℕ, ◌^◌, Bool, true, false, if◌then◌else◌, List, [], ◌∷◌, ◌++◌, length, Option, Some, None, ⊎_elim, refl, sym, ap, subst, ◌∙◌, arith, true≢false}
+use Rattle.std.proofs.Common.{◌≡◌, ◌≤◌, ◌<◌, ℕ, ◌^◌, Bool, true, false, if◌then◌else◌, List, [], ◌∷◌, ◌++◌, length, Option, Some, None,
+    ⊎_elim, refl, sym, ap, subst, ◌∙◌, arith, true≢false}
 use Rattle.std.proofs.lemmas.List.{append-nil}
 use Rattle.std.proofs.lemmas.Option.{same_Some}
 use Rattle.std.specs.Prelude.{All, IsTrue, MatchResult, Result, Ok, Err, is_some}
@@ -42,8 +43,10 @@ use Rattle.image_scans.specs.Versions.{FindsVersion, Version}
 use Rattle.repair_scans.proofs.StraysApart.{strays_apart}
 use Rattle.line_history.proofs.Looks.{looks}
 use Rattle.line_history.specs.EachSet.{DoneSetsAgree, MadeMembersAgree}
-use Rattle.line_history.specs.Histories.{ClearsHaveHistories, EndsHaveHistories, HasRunHistory, LinesHaveHistories, LooksAlone, MayAnswer, MayEnd, journal_of_line, took_of as line_took}
-use Rattle.line_history.specs.LineRun.{ClearsLine, Given, IsGiven, RunsLine, Stage, Opened, Repairing, Repaired, Zeroing, Writing, Done, batches_if, is_done, is_repaired, is_zeroed, repair_begun, zeros_begun}
+use Rattle.line_history.specs.Histories.{ClearsHaveHistories, EndsHaveHistories, HasRunHistory, LinesHaveHistories, LooksAlone, MayAnswer,
+    MayEnd, journal_of_line, took_of as line_took}
+use Rattle.line_history.specs.LineRun.{ClearsLine, Given, IsGiven, RunsLine, Stage, Opened, Repairing, Repaired, Zeroing, Writing, Done,
+    batches_if, is_done, is_repaired, is_zeroed, repair_begun, zeros_begun}
 use Rattle.lvm_run.specs.Changing.{GoesOn, IsCarriedOut, IsChanged, IsWholeAgain, ending_of, outcome_of, took_of}
 use Rattle.lvm_run.specs.CommandSpec.{Inputs, no_inputs}
 use Rattle.lvm_run.specs.History.{AreInTime, IsEntered, KeepsPromise, Said, begun_from, journal_by, lines_by}
@@ -67,8 +70,10 @@ told_of state law = record {
 }
 
 -- the moments of a journal as the shelf counts them
-pub counted : (handed : Record) (base : Image) (sizes : List ℕ) (names : List Word) (now : ℕ) (ended : Record) (all : List Said) (a b n m : ℕ) (t u : Option ℕ) → n ≡ a → u ≡ t → m ≡ b
-    → HasRunHistory handed base sizes names now ended (journal_of_line a t b) all → HasRunHistory handed base sizes names now ended (journal_of_line n u m) all
+pub counted : (handed : Record) (base : Image) (sizes : List ℕ) (names : List Word) (now : ℕ) (ended : Record) (all : List Said)
+    (a b n m : ℕ) (t u : Option ℕ) → n ≡ a → u ≡ t → m ≡ b
+    → HasRunHistory handed base sizes names now ended (journal_of_line a t b) all
+    → HasRunHistory handed base sizes names now ended (journal_of_line n u m) all
 counted handed base sizes names now ended all a b n m t u begun took at_end has =
     subst (λ (k : ℕ). HasRunHistory handed base sizes names now ended (journal_of_line k u m) all) (sym begun)
     (subst (λ (o : Option ℕ). HasRunHistory handed base sizes names now ended (journal_of_line a o m) all) (sym took)
@@ -80,7 +85,8 @@ took_done true made ended moment is = ap (λ (n : ℕ). Some n) is
 took_done false made ended moment is = ap (λ (n : ℕ). Some n) is
 
 -- where disks weren't cleared
-took_uncleared : (commits : Bool) (made ended moment : ℕ) → commits ≡ true → moment ≡ made → Some moment ≡ line_took commits false made ended
+took_uncleared : (commits : Bool) (made ended moment : ℕ) → commits ≡ true → moment ≡ made
+    → Some moment ≡ line_took commits false made ended
 took_uncleared true made ended moment commit is = ap (λ (n : ℕ). Some n) is
 took_uncleared false made ended moment commit is = absurd (cc)
 
@@ -114,20 +120,25 @@ before_line behind since = if behind then since else []
 abbrev since_line : Bool → List Step → List Step
 since_line behind since = if behind then [] else since
 
-pub opening_is : (behind : Bool) (since : List Step) (handed ended : Record) → ended ≡ steps_on since handed → begun_at behind handed ended ≡ steps_on (before_line behind since) handed
+pub opening_is : (behind : Bool) (since : List Step) (handed ended : Record) → ended ≡ steps_on since handed
+    → begun_at behind handed ended ≡ steps_on (before_line behind since) handed
 opening_is true since handed ended is = is
 opening_is false since handed ended is = refl
 
-pub since_is : (behind : Bool) (since : List Step) (handed ended : Record) → ended ≡ steps_on since handed → ended ≡ steps_on (since_line behind since) (begun_at behind handed ended)
+pub since_is : (behind : Bool) (since : List Step) (handed ended : Record) → ended ≡ steps_on since handed
+    → ended ≡ steps_on (since_line behind since) (begun_at behind handed ended)
 since_is true since handed ended is = refl
 since_is false since handed ended is = is
 
-pub nothing_is : (behind : Bool) (since : List Step) → WritesNothing since → WritesNothing (since_line behind since ++ before_line behind since)
+pub nothing_is : (behind : Bool) (since : List Step) → WritesNothing since
+    → WritesNothing (since_line behind since ++ before_line behind since)
 nothing_is true since none = none
 nothing_is false since none = subst WritesNothing (sym (append-nil since)) none
 
-abbrev pub looked_alone : (behind : Bool) (old new : State) → IsTold new → BetweenRecords WroteNothing old.told new.told → (handed : Record) → old.told ≡ Some handed → (base : Image) → IsBase handed base → (version : Option Version)
-    → FindsVersion old.sizes base none_out version → (ended : Record) → new.told ≡ Some ended → LooksAlone handed old.sizes (begun_at behind handed ended) ended
+abbrev pub looked_alone : (behind : Bool) (old new : State) → IsTold new → BetweenRecords WroteNothing old.told new.told → (handed : Record)
+    → old.told ≡ Some handed → (base : Image) → IsBase handed base → (version : Option Version)
+    → FindsVersion old.sizes base none_out version → (ended : Record) → new.told ≡ Some ended
+    → LooksAlone handed old.sizes (begun_at behind handed ended) ended
 looked_alone behind old new told between handed there base base_is version finds ended at_end =
     let w = between handed there in
     let steps : ended ≡ steps_on w.2.0 handed = same_told new.told ended w.0 at_end w.1 ∙ w.2.1 in
@@ -145,12 +156,14 @@ looked_alone behind old new told between handed there base base_is version finds
     }
 
 -- and no line was begun
-pub kept_unbegun : (names : List Word) (now : ℕ) (old new : State) → old.steps ≤ new.steps → IsTold new → BetweenRecords WroteNothing old.told new.told → IsEntered names now old [] [] new
+pub kept_unbegun : (names : List Word) (now : ℕ) (old new : State) → old.steps ≤ new.steps → IsTold new
+    → BetweenRecords WroteNothing old.told new.told → IsEntered names now old [] [] new
 kept_unbegun names now old new later told between = record {
   unbegun = λ none. refl;
   in_time = later;
   promise = λ handed there base base_is version finds ended at_end.
-      (looks handed old.sizes names now ended ended (looked_alone true old new told between handed there base base_is version finds ended at_end), tt);
+      (looks handed old.sizes names now ended ended
+          (looked_alone true old new told between handed there base base_is version finds ended at_end), tt);
 }
 
 pub kept_undone : (names : List Word) (now : ℕ) (old : State) → IsTold old → IsEntered names now old [] [] old
@@ -160,14 +173,19 @@ opening_wrote : (sizes : List ℕ) (passes : Bool) (old new : Record) → OpensD
 opening_wrote sizes passes old new o = (o.since, o.steps, o.nothing)
 
 -- the disks weren't taken
-pub kept_unopened : (names : List Word) (now : ℕ) (line : Line) (old new : State) (begun : ℕ) (ending : Ending) → old.steps ≤ new.steps → IsTold new → BetweenRecords (λ a b. OpensDisks old.sizes a false b) old.told new.told
+pub kept_unopened : (names : List Word) (now : ℕ) (line : Line) (old new : State) (begun : ℕ) (ending : Ending) → old.steps ≤ new.steps
+    → IsTold new → BetweenRecords (λ a b. OpensDisks old.sizes a false b) old.told new.told
     → IsEntered names now old (journal_by begun None new.steps (Ended ending)) (lines_by line (Ended ending)) new
 kept_unopened names now line old new begun ending later told opens =
-    kept_unbegun names now old new later told (λ handed there. let o = opens handed there in (o.0, o.1, opening_wrote old.sizes false handed o.0 o.2))
+    kept_unbegun names now old new later told
+        (λ handed there. let o = opens handed there in (o.0, o.1, opening_wrote old.sizes false handed o.0 o.2))
 
 -- ---- the disks were taken as this was found
-module _ (lines : LinesHaveHistories) (cleared : ClearsHaveHistories) (ends : EndsHaveHistories) (agree : DoneSetsAgree) (members : MadeMembersAgree) (names : List Word) (now : ℕ) (line : Line) (old : State) (found : Found) (mid : State) (opened : IsOpened old found mid) (opens : BetweenRecords (λ a b. OpensDisks old.sizes a true b) old.told mid.told)
-    (count : length names ≡ length found.disks) (named : All (λ name. is_disk_name name ≡ true) names) (planned : IsPlanned line.id line.command) (time : now < 2 ^ 48) (old_told : IsTold old) where
+module _ (lines : LinesHaveHistories) (cleared : ClearsHaveHistories) (ends : EndsHaveHistories) (agree : DoneSetsAgree)
+    (members : MadeMembersAgree) (names : List Word) (now : ℕ) (line : Line) (old : State) (found : Found) (mid : State)
+    (opened : IsOpened old found mid) (opens : BetweenRecords (λ a b. OpensDisks old.sizes a true b) old.told mid.told)
+    (count : length names ≡ length found.disks) (named : All (λ name. is_disk_name name ≡ true) names)
+        (planned : IsPlanned line.id line.command) (time : now < 2 ^ 48) (old_told : IsTold old) where
   -- what the line is judged against, by what it takes, and what it writes
   abbrev state : Inputs → GroupState
   state inputs = state_in (repaired_of found) names inputs.backup
@@ -206,7 +224,9 @@ module _ (lines : LinesHaveHistories) (cleared : ClearsHaveHistories) (ends : En
     -- the line takes this
     module _ (inputs : Inputs) where
       abbrev given : Given
-      given = record { handed = handed; base = base; sizes = old.sizes; found = found; names = names; backup = inputs.backup; line = line; clock = now; given = inputs.given }
+      given =
+          record { handed = handed; base = base; sizes = old.sizes; found = found; names = names; backup = inputs.backup; line = line;
+              clock = now; given = inputs.given }
 
       is_given : IsGiven given
       is_given = record {
@@ -221,10 +241,15 @@ module _ (lines : LinesHaveHistories) (cleared : ClearsHaveHistories) (ends : En
       }
 
       -- as far as it came
-      run_at : (stage : Stage) (start ended : Record) → WritesInTurn look (batches_if (repair_begun stage) (repair_batches found)) (is_repaired stage) start → (IsTrue (repair_begun stage) → (too_large found ≡ None) × RepairKeepsImages found)
+      run_at : (stage : Stage) (start ended : Record)
+          → WritesInTurn look (batches_if (repair_begun stage) (repair_batches found)) (is_repaired stage) start
+          → (IsTrue (repair_begun stage) → (too_large found ≡ None) × RepairKeepsImages found)
           → (IsTrue (is_repaired stage) → HasShape (repaired_of found) × IsWhole (repaired_of found))
-          → (zeroed : Record) → (IsTrue (is_repaired stage) → WritesInTurn start (batches_if (zeros_begun stage) (zeros inputs)) (is_zeroed stage) zeroed) → (is_repaired stage ≡ false → zeroed ≡ start)
-          → (IsTrue (is_zeroed stage) → WritesInTurn zeroed (batches inputs) (is_done stage) ended) → (is_zeroed stage ≡ false → ended ≡ zeroed)
+          → (zeroed : Record) → (IsTrue (is_repaired stage)
+          → WritesInTurn start (batches_if (zeros_begun stage) (zeros inputs)) (is_zeroed stage) zeroed)
+          → (is_repaired stage ≡ false → zeroed ≡ start)
+          → (IsTrue (is_zeroed stage) → WritesInTurn zeroed (batches inputs) (is_done stage) ended)
+          → (is_zeroed stage ≡ false → ended ≡ zeroed)
           → (IsTrue (zeros_begun stage) → Passed inputs) → IsRecord ended.steps → RunsLine given stage start ended
       run_at stage start ended repair repairs repaired zeroed zeros unrepaired written unzeroed passed record_is = record {
         given = is_given;
@@ -251,28 +276,41 @@ module _ (lines : LinesHaveHistories) (cleared : ClearsHaveHistories) (ends : En
 
       -- nothing was written at all
       opened_alone : (ended : Record) → ended ≡ look → IsRecord ended.steps → RunsLine given Opened look ended
-      opened_alone ended same record_is = run_at Opened look ended (none_in_turn look false) (λ begun. cc) (λ repaired. cc) look (λ repaired. cc) (λ e. refl) (λ e. cc) (λ e. same) (λ begun. cc) record_is
+      opened_alone ended same record_is =
+          run_at Opened look ended (none_in_turn look false) (λ begun. cc) (λ repaired. cc) look (λ repaired. cc) (λ e. refl) (λ e. cc)
+              (λ e. same) (λ begun. cc) record_is
 
       -- the repair failed
-      repair_failed : (start ended : Record) → WritesInTurn look (repair_batches found) false start → too_large found ≡ None → RepairKeepsImages found → ended ≡ start → IsRecord ended.steps → RunsLine given Repairing start ended
-      repair_failed start ended repaired fits keeps same record_is = run_at Repairing start ended repaired (λ begun. (fits, keeps)) (λ repaired. cc) start (λ repaired. cc) (λ e. refl) (λ e. cc) (λ e. same) (λ begun. cc) record_is
+      repair_failed : (start ended : Record) → WritesInTurn look (repair_batches found) false start → too_large found ≡ None
+          → RepairKeepsImages found → ended ≡ start → IsRecord ended.steps → RunsLine given Repairing start ended
+      repair_failed start ended repaired fits keeps same record_is =
+          run_at Repairing start ended repaired (λ begun. (fits, keeps)) (λ repaired. cc) start (λ repaired. cc) (λ e. refl) (λ e. cc)
+              (λ e. same) (λ begun. cc) record_is
 
       -- all was repaired
-      module _ (start : Record) (repaired : WritesInTurn look (repair_batches found) true start) (fits : too_large found ≡ None) (keeps : RepairKeepsImages found)
+      module _ (start : Record) (repaired : WritesInTurn look (repair_batches found) true start) (fits : too_large found ≡ None)
+          (keeps : RepairKeepsImages found)
           (shape : HasShape (repaired_of found)) (whole : IsWhole (repaired_of found)) where
         unwritten : (ended : Record) → IsRecord ended.steps → ended ≡ start → RunsLine given Repaired start ended
         unwritten ended record_is same =
-            run_at Repaired start ended repaired (λ begun. (fits, keeps)) (λ e. (shape, whole)) start (λ e. none_in_turn start false) (λ e. cc) (λ e. cc) (λ e. same) (λ begun. cc) record_is
+            run_at Repaired start ended repaired (λ begun. (fits, keeps)) (λ e. (shape, whole)) start (λ e. none_in_turn start false)
+                (λ e. cc) (λ e. cc) (λ e. same) (λ begun. cc) record_is
 
         module _ (passed : Passed inputs) (ended : Record) (record_is : IsRecord ended.steps) where
           zeros_failed : WritesInTurn start (zeros inputs) false ended → RunsLine given Zeroing start ended
-          zeros_failed zeros = run_at Zeroing start ended repaired (λ begun. (fits, keeps)) (λ e. (shape, whole)) ended (λ e. zeros) (λ e. cc) (λ e. cc) (λ e. refl) (λ begun. passed) record_is
+          zeros_failed zeros =
+              run_at Zeroing start ended repaired (λ begun. (fits, keeps)) (λ e. (shape, whole)) ended (λ e. zeros) (λ e. cc) (λ e. cc)
+                  (λ e. refl) (λ begun. passed) record_is
 
           failed : WritesBehind (zeros inputs) (batches inputs) false start ended → RunsLine given Writing start ended
-          failed w = run_at Writing start ended repaired (λ begun. (fits, keeps)) (λ e. (shape, whole)) w.zeroed (λ e. w.first) (λ e. cc) (λ e. w.behind) (λ e. cc) (λ begun. passed) record_is
+          failed w =
+              run_at Writing start ended repaired (λ begun. (fits, keeps)) (λ e. (shape, whole)) w.zeroed (λ e. w.first) (λ e. cc)
+                  (λ e. w.behind) (λ e. cc) (λ begun. passed) record_is
 
           done : WritesBehind (zeros inputs) (batches inputs) true start ended → RunsLine given Done start ended
-          done w = run_at Done start ended repaired (λ begun. (fits, keeps)) (λ e. (shape, whole)) w.zeroed (λ e. w.first) (λ e. cc) (λ e. w.behind) (λ e. cc) (λ begun. passed) record_is
+          done w =
+              run_at Done start ended repaired (λ begun. (fits, keeps)) (λ e. (shape, whole)) w.zeroed (λ e. w.first) (λ e. cc)
+                  (λ e. w.behind) (λ e. cc) (λ begun. passed) record_is
 
   -- ---- by what it came to
   module _ (done_at new : State) (told_done : IsTold done_at) (told_new : IsTold new) where
@@ -280,27 +318,34 @@ module _ (lines : LinesHaveHistories) (cleared : ClearsHaveHistories) (ends : En
     Keeps outcome took = KeepsPromise names now old (journal_by done_at.steps took new.steps outcome) (lines_by line outcome) new
 
     -- the run ended before its line
-    ended_by : (why : RepairFault) → IsRepairFault found mid done_at why → BetweenRecords (Repairs (repair_batches found) (Err why)) mid.told done_at.told
+    ended_by : (why : RepairFault) → IsRepairFault found mid done_at why
+        → BetweenRecords (Repairs (repair_batches found) (Err why)) mid.told done_at.told
         → (HasRepairBegun (Err why) → StraysAreOthers found → RepairKeepsImages found) → new ≡ done_at → Keeps (Ended (ending_of why)) None
     ended_by repair.NoMemory cause told keeps same handed there base base_is version finds ended at_end =
         let t = told (look handed there base base_is) (look_told handed there base base_is) in
         let is : ended ≡ t.0 = same_told done_at.told ended t.0 (ap (λ (s : State). s.told) (sym same) ∙ at_end) t.1 in
-        (ends (given handed there base base_is no_inputs) Opened (look handed there base base_is) ended (opened_alone handed there base base_is no_inputs ended (is ∙ t.2) (told_new.record_is ended at_end)) tt, tt)
+        (ends (given handed there base base_is no_inputs) Opened (look handed there base base_is) ended
+            (opened_alone handed there base base_is no_inputs ended (is ∙ t.2) (told_new.record_is ended at_end)) tt, tt)
     ended_by (repair.TooLarge pv need room) cause told keeps same handed there base base_is version finds ended at_end =
         let t = told (look handed there base base_is) (look_told handed there base base_is) in
         let is : ended ≡ t.0 = same_told done_at.told ended t.0 (ap (λ (s : State). s.told) (sym same) ∙ at_end) t.1 in
-        (ends (given handed there base base_is no_inputs) Opened (look handed there base base_is) ended (opened_alone handed there base base_is no_inputs ended (is ∙ t.2) (told_new.record_is ended at_end)) tt, tt)
+        (ends (given handed there base base_is no_inputs) Opened (look handed there base base_is) ended
+            (opened_alone handed there base base_is no_inputs ended (is ∙ t.2) (told_new.record_is ended at_end)) tt, tt)
     ended_by (repair.Pv pv) cause told keeps same handed there base base_is version finds ended at_end =
         let t = told (look handed there base base_is) (look_told handed there base base_is) in
         let is : ended ≡ t.0 = same_told done_at.told ended t.0 (ap (λ (s : State). s.told) (sym same) ∙ at_end) t.1 in (
           ends (given handed there base base_is no_inputs) Repairing t.0 ended
-              (repair_failed handed there base base_is no_inputs t.0 ended t.2 cause.0 (keeps tt (others handed there base base_is)) is (told_new.record_is ended at_end)) tt,
+              (repair_failed handed there base base_is no_inputs t.0 ended t.2 cause.0 (keeps tt (others handed there base base_is)) is
+                  (told_new.record_is ended at_end)) tt,
           tt,
         )
 
-    module _ (repaired : IsRepaired found mid done_at (repaired_of found)) (told : BetweenRecords (λ a b. WritesInTurn a (repair_batches found) true b) mid.told done_at.told)
-        (keeps : StraysAreOthers found → RepairKeepsImages found) (shape : HasShape (repaired_of found)) (whole : IsWhole (repaired_of found)) (inputs : Inputs) where
-      module _ (handed : Record) (there : old.told ≡ Some handed) (base : Image) (base_is : IsBase handed base) (ended : Record) (at_end : new.told ≡ Some ended) where
+    module _ (repaired : IsRepaired found mid done_at (repaired_of found))
+        (told : BetweenRecords (λ a b. WritesInTurn a (repair_batches found) true b) mid.told done_at.told)
+        (keeps : StraysAreOthers found → RepairKeepsImages found) (shape : HasShape (repaired_of found))
+            (whole : IsWhole (repaired_of found)) (inputs : Inputs) where
+      module _ (handed : Record) (there : old.told ≡ Some handed) (base : Image) (base_is : IsBase handed base) (ended : Record)
+          (at_end : new.told ≡ Some ended) where
         abbrev run : Given
         run = given handed there base base_is inputs
 
@@ -321,29 +366,37 @@ module _ (lines : LinesHaveHistories) (cleared : ClearsHaveHistories) (ends : En
 
         -- it has a history with this answer, where it took place at this moment
         abbrev HasHistory : Option ℕ → Answer → Type 0
-        HasHistory took said = HasRunHistory handed base old.sizes names now ended (journal_of_line done_at.steps took new.steps) ((line, Some said) ∷ [])
+        HasHistory took said =
+            HasRunHistory handed base old.sizes names now ended (journal_of_line done_at.steps took new.steps) ((line, Some said) ∷ [])
 
         -- it was begun and wasn't done
         answered : (stage : Stage) (said : Answer) → RunsLine run stage start ended → MayAnswer stage said → HasHistory None said
         answered stage said runs may =
-            counted handed base old.sizes names now ended ((line, Some said) ∷ []) (length start.steps) (length ended.steps) done_at.steps new.steps None None (told_done.steps start start_told) refl (told_new.steps ended at_end)
+            counted handed base old.sizes names now ended ((line, Some said) ∷ []) (length start.steps) (length ended.steps) done_at.steps
+                new.steps None None (told_done.steps start start_told) refl (told_new.steps ended at_end)
             (lines run stage start ended said runs may)
 
         -- nothing of it was written
         run_unwritten : BetweenRecords (λ a b. b ≡ a) done_at.told new.told → RunsLine run Repaired start ended
         run_unwritten carried =
             let e = carried start start_told in
-            unwritten handed there base base_is inputs start written repaired.fits repair_keeps shape whole ended record_is (same_told new.told ended e.0 at_end e.1 ∙ e.2)
+            unwritten handed there base base_is inputs start written repaired.fits repair_keeps shape whole ended record_is
+                (same_told new.told ended e.0 at_end e.1 ∙ e.2)
 
         module _ (passed : Passed inputs) where
           -- its zeros or its other batches failed
-          run_failed : (pv : ℕ) → BetweenRecords (WritesBoth (zeros inputs) (batches inputs) false) done_at.told new.told → HasHistory None (answer.PvFailed pv)
+          run_failed : (pv : ℕ) → BetweenRecords (WritesBoth (zeros inputs) (batches inputs) false) done_at.told new.told
+              → HasHistory None (answer.PvFailed pv)
           run_failed pv carried =
               let e = carried start start_told in
               let is : e.0 ≡ ended = same_told new.told e.0 ended e.1 at_end in
               ⊎_elim
-              (λ first. answered Zeroing (answer.PvFailed pv) (zeros_failed handed there base base_is inputs start written repaired.fits repair_keeps shape whole passed ended record_is first) tt)
-              (λ behind. answered Writing (answer.PvFailed pv) (failed handed there base base_is inputs start written repaired.fits repair_keeps shape whole passed ended record_is behind) tt)
+              (λ first. answered Zeroing (answer.PvFailed pv)
+                  (zeros_failed handed there base base_is inputs start written repaired.fits repair_keeps shape whole passed ended record_is
+                  first) tt)
+              (λ behind. answered Writing (answer.PvFailed pv)
+                  (failed handed there base base_is inputs start written repaired.fits repair_keeps shape whole passed ended record_is
+                  behind) tt)
               (subst (λ (u : Record). WritesBoth (zeros inputs) (batches inputs) false start u) is e.2)
 
           -- these were written until the shelf was in a state, and disks cleared behind them
@@ -365,64 +418,88 @@ module _ (lines : LinesHaveHistories) (cleared : ClearsHaveHistories) (ends : En
             abbrev run_cleared : ClearsLine run well start ended
             run_cleared = record {
               made = made;
-              line = done handed there base base_is inputs start written repaired.fits repair_keeps shape whole passed made (made_told.record_is made made_is) (c.first start start_told).2;
+              line =
+                  done handed there base base_is inputs start written repaired.fits repair_keeps shape whole passed made
+                      (made_told.record_is made made_is) (c.first start start_told).2;
               clears = cleared_behind;
               record_is = record_is;
             }
 
-            took_there : line_took (commits inputs) well c.made.steps new.steps ≡ line_took (commits inputs) well (length made.steps) (length ended.steps)
+            took_there : line_took (commits inputs) well c.made.steps new.steps
+                ≡ line_took (commits inputs) well (length made.steps) (length ended.steps)
             took_there =
                 ap (λ (n : ℕ). line_took (commits inputs) well n new.steps) (made_told.steps made made_is)
                 ∙ ap (λ (n : ℕ). line_took (commits inputs) well (length made.steps) n) (told_new.steps ended at_end)
 
-            answered_cleared : (said : Answer) (took : Option ℕ) → MayEnd well said → took ≡ line_took (commits inputs) well c.made.steps new.steps → HasHistory took said
+            answered_cleared : (said : Answer) (took : Option ℕ) → MayEnd well said
+                → took ≡ line_took (commits inputs) well c.made.steps new.steps → HasHistory took said
             answered_cleared said took may is =
-                counted handed base old.sizes names now ended ((line, Some said) ∷ []) (length start.steps) (length ended.steps) done_at.steps new.steps
-                (line_took (commits inputs) well (length made.steps) (length ended.steps)) took (told_done.steps start start_told) (is ∙ took_there) (told_new.steps ended at_end)
+                counted handed base old.sizes names now ended ((line, Some said) ∷ []) (length start.steps) (length ended.steps)
+                    done_at.steps new.steps
+                (line_took (commits inputs) well (length made.steps) (length ended.steps)) took (told_done.steps start start_told)
+                    (is ∙ took_there) (told_new.steps ended at_end)
                 (cleared run well start ended said run_cleared may)
 
-      line_by : (result : Result ℕ ChangeFault) → (HasJudged result → Takes (asks_of (state inputs) line) inputs.given × IsBackupOf line.command inputs.backup)
-          → MatchResult result (λ _. HasSameFaults done_at new × (refusal_of (state inputs) line now inputs.given ≡ None)) (IsFault (state inputs) line now inputs.given done_at new)
-          → (HasBegun result → KeepsImages (state inputs) line now inputs.given) → Carries (commits inputs) (zeros inputs) (batches inputs) (clears inputs) result done_at new → Keeps (outcome_of result) (took_of result)
+      line_by : (result : Result ℕ ChangeFault)
+          → (HasJudged result → Takes (asks_of (state inputs) line) inputs.given × IsBackupOf line.command inputs.backup)
+          → MatchResult result (λ _. HasSameFaults done_at new × (refusal_of (state inputs) line now inputs.given ≡ None))
+          (IsFault (state inputs) line now inputs.given done_at new)
+          → (HasBegun result → KeepsImages (state inputs) line now inputs.given)
+          → Carries (commits inputs) (zeros inputs) (batches inputs) (clears inputs) result done_at new
+          → Keeps (outcome_of result) (took_of result)
       line_by (Ok moment) takes cause images carried handed there base base_is version finds ended at_end =
           let passed : Passed inputs = record { takes = (takes tt).0; back = (takes tt).1; passes = cause.1; keeps = images tt } in (
-            answered_cleared handed there base base_is ended at_end passed true carried.0 answer.Fine (Some moment) tt (took_done (commits inputs) carried.0.made.steps new.steps moment carried.1),
-            agree (run handed there base base_is ended at_end) (start handed there base base_is ended at_end) ended (run_cleared handed there base base_is ended at_end passed true carried.0),
+            answered_cleared handed there base base_is ended at_end passed true carried.0 answer.Fine (Some moment) tt
+                (took_done (commits inputs) carried.0.made.steps new.steps moment carried.1),
+            agree (run handed there base base_is ended at_end) (start handed there base base_is ended at_end) ended
+                (run_cleared handed there base base_is ended at_end passed true carried.0),
           )
       line_by (Err fault.NoMemory) takes cause images carried handed there base base_is version finds ended at_end =
-          (ends (run handed there base base_is ended at_end) Repaired (start handed there base base_is ended at_end) ended (run_unwritten handed there base base_is ended at_end carried) tt, tt)
+          (ends (run handed there base base_is ended at_end) Repaired (start handed there base base_is ended at_end) ended
+              (run_unwritten handed there base base_is ended at_end carried) tt, tt)
       line_by (Err (fault.Refused refusal)) takes cause images carried handed there base base_is version finds ended at_end =
-          (answered handed there base base_is ended at_end Repaired (answer.Refused refusal) (run_unwritten handed there base base_is ended at_end carried) tt, tt)
+          (answered handed there base base_is ended at_end Repaired (answer.Refused refusal)
+              (run_unwritten handed there base base_is ended at_end carried) tt, tt)
       line_by (Err (fault.Failed pv)) takes cause images carried handed there base base_is version finds ended at_end =
           let passed : Passed inputs = record { takes = (takes tt).0; back = (takes tt).1; passes = cause.0; keeps = images tt } in (
             ⊎_elim
                 (λ both. run_failed handed there base base_is ended at_end passed pv both)
                 (λ uncleared.
-                answered_cleared handed there base base_is ended at_end passed false uncleared.1 (answer.PvFailed pv) None tt (took_never (commits inputs) uncleared.1.made.steps new.steps uncleared.0))
+                answered_cleared handed there base base_is ended at_end passed false uncleared.1 (answer.PvFailed pv) None tt
+                    (took_never (commits inputs) uncleared.1.made.steps new.steps uncleared.0))
                 carried,
             λ took. absurd (true≢false (sym took)),
           )
       line_by (Err (fault.Uncleared pv moment)) takes cause images carried handed there base base_is version finds ended at_end =
           let passed : Passed inputs = record { takes = (takes tt).0; back = (takes tt).1; passes = cause.0; keeps = images tt } in (
-            answered_cleared handed there base base_is ended at_end passed false carried.0 (answer.PvFailed pv) (Some moment) tt (took_uncleared (commits inputs) carried.0.made.steps new.steps moment carried.2 carried.1),
-            λ took. members (run handed there base base_is ended at_end) false (start handed there base base_is ended at_end) ended (run_cleared handed there base base_is ended at_end passed false carried.0) carried.2,
+            answered_cleared handed there base base_is ended at_end passed false carried.0 (answer.PvFailed pv) (Some moment) tt
+                (took_uncleared (commits inputs) carried.0.made.steps new.steps moment carried.2 carried.1),
+            λ took. members (run handed there base base_is ended at_end) false (start handed there base base_is ended at_end) ended
+                (run_cleared handed there base base_is ended at_end passed false carried.0) carried.2,
           )
 
-    by_result : (result : Result Found RepairFault) → IsWholeAgain result → MatchResult result (IsRepaired found mid done_at) (IsRepairFault found mid done_at) → BetweenRecords (Repairs (repair_batches found) result) mid.told done_at.told
-        → (HasRepairBegun result → StraysAreOthers found → RepairKeepsImages found) → (outcome : Outcome) (took : Option ℕ) → GoesOn names line now result done_at outcome took new → Keeps outcome took
+    by_result : (result : Result Found RepairFault) → IsWholeAgain result
+        → MatchResult result (IsRepaired found mid done_at) (IsRepairFault found mid done_at)
+        → BetweenRecords (Repairs (repair_batches found) result) mid.told done_at.told
+        → (HasRepairBegun result → StraysAreOthers found → RepairKeepsImages found) → (outcome : Outcome) (took : Option ℕ)
+        → GoesOn names line now result done_at outcome took new → Keeps outcome took
     by_result (Err why) whole cause told keeps outcome took goes =
-        subst (λ (o : Outcome). Keeps o took) (sym goes.0) (subst (λ (t : Option ℕ). Keeps (Ended (ending_of why)) t) (sym goes.1) (ended_by why cause told keeps goes.2))
+        subst (λ (o : Outcome). Keeps o took) (sym goes.0)
+            (subst (λ (t : Option ℕ). Keeps (Ended (ending_of why)) t) (sym goes.1) (ended_by why cause told keeps goes.2))
     by_result (Ok r) whole cause told keeps outcome took goes =
         let same : r ≡ repaired_of found = cause.now in
-        let carried : IsCarriedOut (repaired_of found) names line now done_at outcome took new = subst (λ (f : Found). IsCarriedOut f names line now done_at outcome took new) same goes in
+        let carried : IsCarriedOut (repaired_of found) names line now done_at outcome took new =
+            subst (λ (f : Found). IsCarriedOut f names line now done_at outcome took new) same goes in
         let w = carried.carried in
         let inputs : Inputs = record { given = w.given; backup = carried.backup } in
         subst (λ (o : Outcome). Keeps o took) (sym carried.is)
         (subst (λ (t : Option ℕ). Keeps (outcome_of carried.result) t) (sym carried.took_is)
-        (line_by (subst (IsRepaired found mid done_at) same cause) told (keeps tt) (subst HasShape same whole.0) (subst IsWhole same whole.1) inputs carried.result
+        (line_by (subst (IsRepaired found mid done_at) same cause) told (keeps tt) (subst HasShape same whole.0)
+            (subst IsWhole same whole.1) inputs carried.result
         (λ judged. (w.takes judged, carried.given_back judged)) w.cause w.images w.told))
 
-  pub kept_changed : old.steps ≤ mid.steps → (new : State) (outcome : Outcome) (begun : ℕ) (took : Option ℕ) → IsTold new → IsChanged found names line now mid outcome begun took new
+  pub kept_changed : old.steps ≤ mid.steps → (new : State) (outcome : Outcome) (begun : ℕ) (took : Option ℕ) → IsTold new
+      → IsChanged found names line now mid outcome begun took new
       → IsEntered names now old (journal_by begun took new.steps outcome) (lines_by line outcome) new
   kept_changed opening new outcome begun took told_new c =
       let later : old.steps ≤ c.mid.steps = omega (arith, opening, c.again.later) in
@@ -430,10 +507,14 @@ module _ (lines : LinesHaveHistories) (cleared : ClearsHaveHistories) (ends : En
       record {
         unbegun = run_unbegun line outcome old.steps begun took new.steps;
         in_time =
-            subst (λ (n : ℕ). AreInTime (begun_from (lines_by line outcome) old.steps new.steps) (journal_by n took new.steps outcome) new.steps) (sym c.begun_is)
-            (run_in_time line outcome old.steps c.mid.steps took new.steps (omega (arith, later, lies_whole c.mid.steps took new.steps between))
-            (subst (λ (alone : Bool). (if alone then new.steps else old.steps) ≤ c.mid.steps) (sym (planned_writes line.id line.command planned)) later) between);
+            subst (λ (n : ℕ). AreInTime (begun_from (lines_by line outcome) old.steps new.steps) (journal_by n took new.steps outcome)
+                new.steps) (sym c.begun_is)
+            (run_in_time line outcome old.steps c.mid.steps took new.steps
+                (omega (arith, later, lies_whole c.mid.steps took new.steps between))
+            (subst (λ (alone : Bool). (if alone then new.steps else old.steps) ≤ c.mid.steps)
+                (sym (planned_writes line.id line.command planned)) later) between);
         promise =
             subst (λ (n : ℕ). KeepsPromise names now old (journal_by n took new.steps outcome) (lines_by line outcome) new) (sym c.begun_is)
-            (by_result c.mid new (record { record_is = c.follows; steps = c.steps }) told_new c.result c.whole c.cause c.told c.images outcome took c.goes);
+            (by_result c.mid new (record { record_is = c.follows; steps = c.steps }) told_new c.result c.whole c.cause c.told c.images
+                outcome took c.goes);
       }

@@ -9,7 +9,8 @@ use Rattle.scan_rules.specs.declared.decision.ScanRefusal.TheVariants as refusal
 use Rattle.vg_scan.specs.Scans.{FailedOn, HoldsNow, IsRefusalOfScan, IsScanRefused}
 
 -- a refusal of the scan, unless memory was wanting
-pub refused_is : (old new : State) (why : ScanRefusal) (unread : set.FinSet nat_cmp) → why ≢ refusals.NoMemory → IsScanRefused old why unread new
+pub refused_is : (old new : State) (why : ScanRefusal) (unread : set.FinSet nat_cmp) → why ≢ refusals.NoMemory
+    → IsScanRefused old why unread new
     → HoldsNow old.told (λ image. IsRefusalOfScan image old.sizes unread why) × FailedOn unread old new
 refused_is old new refusals.NoMemory unread some is = absurd (some refl)
 refused_is old new (refusals.DuplicatePv first second) unread some is = is
@@ -21,4 +22,5 @@ refused_is old new (refusals.PvShape pv) unread some is = is
 
 -- where no disk is unread nothing failed
 pub none_failed_on : (unread : set.FinSet nat_cmp) (old new : State) → unread ≡ set.empty → FailedOn unread old new → HasSameFaults old new
-none_failed_on unread old new none failed pv = failed.same pv (ap (λ (s : set.FinSet nat_cmp). set.contains s pv) none ∙ set.contains-empty nat_cmp pv)
+none_failed_on unread old new none failed pv =
+    failed.same pv (ap (λ (s : set.FinSet nat_cmp). set.contains s pv) none ∙ set.contains-empty nat_cmp pv)

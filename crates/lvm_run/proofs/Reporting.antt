@@ -33,7 +33,8 @@ use Rattle.lvm_run.proofs.Refusals.{refused_is}
 -- what a scan reads is what the command may read
 pub scan_reads : (spec : CommandSpec) (context : Context) (old new : State) → spec.flushes ≡ false
     → ((image : Image) (spans : List Span) → AreFewReads image old.sizes spans → spec.reads context image spans)
-    → BetweenRecords (ReadsFew old.sizes) old.told new.told → (outcome : Outcome) → BetweenRecords (DoesToDisks spec context no_inputs outcome) old.told new.told
+    → BetweenRecords (ReadsFew old.sizes) old.told new.told → (outcome : Outcome)
+    → BetweenRecords (DoesToDisks spec context no_inputs outcome) old.told new.told
 scan_reads spec context old new alone may told outcome before e =
     let r = told before e in (
       r.0,
@@ -41,7 +42,8 @@ scan_reads spec context old new alone may told outcome before e =
       reads_disks spec context no_inputs alone outcome before r.0 (spans_read r.2.since) []
           (record { since = r.2.since; steps = r.2.steps; reads = r.2.reads; spans_are = refl })
           (may (now_after before.opened before.steps) (spans_read r.2.since ++ [])
-          (subst (λ (l : List Span). AreFewReads (now_after before.opened before.steps) old.sizes l) (sym (append-nil (spans_read r.2.since))) r.2.few)),
+          (subst (λ (l : List Span). AreFewReads (now_after before.opened before.steps) old.sizes l)
+              (sym (append-nil (spans_read r.2.since))) r.2.few)),
     )
 
 reads_alone : (report : ScanReport) → changes (command_of report) ≡ false
@@ -67,7 +69,8 @@ module _ (report : ScanReport) (names : List Word) (id : Option (List ℕ)) (tim
   }
 
   -- the report on what was found
-  pub report_meets : (found : Found) (outcome : Outcome) → IsScan old found new → IsReported report found names outcome → Meets (scan_report report) context old outcome new
+  pub report_meets : (found : Found) (outcome : Outcome) → IsScan old found new → IsReported report found names outcome
+      → Meets (scan_report report) context old outcome new
   report_meets found (Reported text whole) is reported = record {
     given = no_inputs;
     cause = (
@@ -76,19 +79,23 @@ module _ (report : ScanReport) (names : List Word) (id : Option (List ℕ)) (tim
         found.unread,
         Some found,
         record { failed = is.faults; all = reported.1 },
-        holds_now_weaker old.told (λ image. IsScanOf image old.sizes found) (λ image. IsScanOf image old.sizes found × (found.unread ≡ found.unread)) (λ image h. (h, refl)) is.now,
+        holds_now_weaker old.told (λ image. IsScanOf image old.sizes found)
+            (λ image. IsScanOf image old.sizes found × (found.unread ≡ found.unread)) (λ image h. (h, refl)) is.now,
         refl,
-        holds_now_anyway old.told (λ image. (f : Found) × (Some found ≡ Some f) × (text ≡ text_of report f names)) (λ image. (found, refl, reported.0)),
+        holds_now_anyway old.told (λ image. (f : Found) × (Some found ≡ Some f) × (text ≡ text_of report f names))
+            (λ image. (found, refl, reported.0)),
       ),
     );
     told = does (Reported text whole);
     again = again;
   }
-  report_meets found (Answered line answer.NoMemory) is reported = record { given = no_inputs; cause = (reported, tt); told = does (Answered line answer.NoMemory); again = again }
+  report_meets found (Answered line answer.NoMemory) is reported =
+      record { given = no_inputs; cause = (reported, tt); told = does (Answered line answer.NoMemory); again = again }
   report_meets found _ is reported = absurd reported
 
   refused_meets : (why : ScanRefusal) (unread : set.FinSet nat_cmp) (whole : Bool)
-      → HoldsNow old.told (λ image. IsRefusalOfScan image old.sizes unread why) → FailedOn unread old new → IsTrue whole ↔ (unread ≡ set.empty)
+      → HoldsNow old.told (λ image. IsRefusalOfScan image old.sizes unread why) → FailedOn unread old new
+      → IsTrue whole ↔ (unread ≡ set.empty)
       → Meets (scan_report report) context old (Ended (ScanRefused (Disks why) whole)) new
   refused_meets why unread whole now failed all = record {
     given = no_inputs;
@@ -98,12 +105,14 @@ module _ (report : ScanReport) (names : List Word) (id : Option (List ℕ)) (tim
   }
 
   -- the ending where the scan was refused
-  pub ending_meets : (why : ScanRefusal) (unread : set.FinSet nat_cmp) (ending : Ending) → IsScanRefused old why unread new → IsEndingOf why unread ending
+  pub ending_meets : (why : ScanRefusal) (unread : set.FinSet nat_cmp) (ending : Ending) → IsScanRefused old why unread new
+      → IsEndingOf why unread ending
       → Meets (scan_report report) context old (Ended ending) new
   ending_meets why unread NoMemory is ends = without_memory
   ending_meets why unread (ScanRefused (Disks refusal) whole) is ends =
       let r = refused_is old new why unread ends.1 is in
-      subst (λ (w : ScanRefusal). Meets (scan_report report) context old (Ended (ScanRefused (Disks w) whole)) new) (sym ends.0) (refused_meets why unread whole r.0 r.1 ends.2)
+      subst (λ (w : ScanRefusal). Meets (scan_report report) context old (Ended (ScanRefused (Disks w) whole)) new) (sym ends.0)
+          (refused_meets why unread whole r.0 r.1 ends.2)
   ending_meets why unread _ is ends = absurd ends
 
 -- nothing was read yet
@@ -113,4 +122,5 @@ nothing_read state told e = (told, e, record { since = []; steps = refl; reads =
 -- memory was wanting before anything was done
 pub report_undone : (report : ScanReport) (names : List Word) (id : Option (List ℕ)) (time : ℕ) (state : State) → state.in_flight ≡ []
     → Meets (scan_report report) (record { names = names; sizes = state.sizes; id = id; now = time }) state (Ended NoMemory) state
-report_undone report names id time state idle = without_memory report names id time state state (again_nothing state idle) (nothing_read state)
+report_undone report names id time state idle =
+    without_memory report names id time state state (again_nothing state idle) (nothing_read state)

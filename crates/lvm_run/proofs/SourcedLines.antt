@@ -47,7 +47,10 @@ module _ (text : List ℕ) (line : Line) where
       by _ planned = planned
 
 -- the line with its text did what is said of it
-pub runs_sourced : (names : List Word) (line sourced : Line) (now : ℕ) (from to : SourceState) (old : State) (outcome : Outcome) (new : State) → is_built line.command ≡ true → (s : IsSourced line from (Ok sourced) to)
-    → Meets (spec_of sourced.command) (context_with names sourced.id now old) old outcome new → RunsLine names line now s.0 from to old outcome new
+pub runs_sourced : (names : List Word) (line sourced : Line) (now : ℕ) (from to : SourceState) (old : State) (outcome : Outcome)
+    (new : State) → is_built line.command ≡ true → (s : IsSourced line from (Ok sourced) to)
+    → Meets (spec_of sourced.command) (context_with names sourced.id now old) old outcome new
+    → RunsLine names line now s.0 from to old outcome new
 runs_sourced names line sourced now from to old outcome new built s meets =
-    rw built (inl (record { source = s.1; meets = subst (λ (l : Line). Meets (spec_of l.command) (context_with names l.id now old) old outcome new) s.2 meets }))
+    rw built (inl (record { source = s.1; meets = subst
+        (λ (l : Line). Meets (spec_of l.command) (context_with names l.id now old) old outcome new) s.2 meets }))

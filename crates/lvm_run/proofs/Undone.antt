@@ -2,7 +2,8 @@
 use Rattle.std.proofs.Common.{◌≡◌, ℕ, List, [], Option, refl, inl, inr}
 use Rattle.command_table.specs.Options.{Word}
 use Rattle.command_table.specs.declared.command.Command.{Command}
-use Rattle.command_table.specs.declared.command.Command.TheVariants.{Lvcreate, Lvextend, Lvreduce, Lvremove, Lvrename, Lvs, Pvcreate, Pvck, Pvs, Vgcfgbackup, Vgcfgrestore, Vgck, Vgcreate, Vgextend, Vgreduce, Vgremove, Vgrename, Vgs}
+use Rattle.command_table.specs.declared.command.Command.TheVariants.{Lvcreate, Lvextend, Lvreduce, Lvremove, Lvrename, Lvs, Pvcreate, Pvck,
+    Pvs, Vgcfgbackup, Vgcfgrestore, Vgck, Vgcreate, Vgextend, Vgreduce, Vgremove, Vgrename, Vgs}
 use Rattle.command_table.specs.declared.request.Request.{Request}
 use Rattle.command_table.specs.declared.request.Request.TheVariants.{One}
 use Rattle.lvm_words.proofs.LineNames.{names_of_line}
@@ -26,33 +27,54 @@ use Rattle.lvm_run.proofs.Reporting.{report_undone}
 change_undone : (names : List Word) (command : Command) (id : Option (List ℕ)) (now : ℕ) (state : State) → state.in_flight ≡ []
     → Meets (changing command) (record { names = names; sizes = state.sizes; id = id; now = now }) state (Ended NoMemory) state
 change_undone names command id now state idle =
-    meets_unopened names command id now state state NoMemory (again_nothing state idle) tt (λ told is. (told, is, unopened state.sizes told))
+    meets_unopened names command id now state state NoMemory (again_nothing state idle) tt
+        (λ told is. (told, is, unopened state.sizes told))
 
 -- where the source is to be read, that is why it gave no text
-pub undone : (names : List Word) (request : Request) (ids : ℕ → List ℕ) (now : ℕ) (text : List ℕ) (from : SourceState) (state : State) → state.in_flight ≡ []
+pub undone : (names : List Word) (request : Request) (ids : ℕ → List ℕ) (now : ℕ) (text : List ℕ) (from : SourceState) (state : State)
+    → state.in_flight ≡ []
     → RunsRequest names request ids now text from from state (Ended NoMemory) state
-undone names (One (Pvcreate pv copies)) ids now text from state idle = inl (record { source = refl; meets = change_undone names (Pvcreate pv copies) _ now state idle })
-undone names (One (Vgcreate vg extent_size pvs)) ids now text from state idle = inl (record { source = refl; meets = change_undone names (Vgcreate vg extent_size pvs) _ now state idle })
-undone names (One (Vgextend vg pvs)) ids now text from state idle = inl (record { source = refl; meets = change_undone names (Vgextend vg pvs) _ now state idle })
-undone names (One (Vgreduce vg pv)) ids now text from state idle = inl (record { source = refl; meets = change_undone names (Vgreduce vg pv) _ now state idle })
-undone names (One (Vgremove vg)) ids now text from state idle = inl (record { source = refl; meets = change_undone names (Vgremove vg) _ now state idle })
-undone names (One (Vgrename vg new)) ids now text from state idle = inl (record { source = refl; meets = change_undone names (Vgrename vg new) _ now state idle })
-undone names (One (Vgcfgrestore vg own)) ids now text from state idle = inr (record { ending = NoMemory; is = refl; why = tt; nothing = refl })
-undone names (One (Lvcreate new)) ids now text from state idle = inl (record { source = refl; meets = change_undone names (Lvcreate new) _ now state idle })
-undone names (One (Lvextend path growth pvs)) ids now text from state idle = inl (record { source = refl; meets = change_undone names (Lvextend path growth pvs) _ now state idle })
-undone names (One (Lvreduce path amount)) ids now text from state idle = inl (record { source = refl; meets = change_undone names (Lvreduce path amount) _ now state idle })
-undone names (One (Lvremove path)) ids now text from state idle = inl (record { source = refl; meets = change_undone names (Lvremove path) _ now state idle })
-undone names (One (Lvrename vg old new)) ids now text from state idle = inl (record { source = refl; meets = change_undone names (Lvrename vg old new) _ now state idle })
-undone names (One (Pvck pv)) ids now text from state idle = inl (record { source = refl; meets = meets_undone names _ pv now state state idle })
-undone names (One (Vgcfgbackup vg)) ids now text from state idle = inl (record { source = refl; meets = backup_undone names _ vg now state idle })
-undone names (One Pvs) ids now text from state idle = inl (record { source = refl; meets = report_undone report.Pvs names _ now state idle })
-undone names (One Vgs) ids now text from state idle = inl (record { source = refl; meets = report_undone report.Vgs names _ now state idle })
-undone names (One Lvs) ids now text from state idle = inl (record { source = refl; meets = report_undone report.Lvs names _ now state idle })
-undone names (One Vgck) ids now text from state idle = inl (record { source = refl; meets = report_undone report.Vgck names _ now state idle })
+undone names (One (Pvcreate pv copies)) ids now text from state idle =
+    inl (record { source = refl; meets = change_undone names (Pvcreate pv copies) _ now state idle })
+undone names (One (Vgcreate vg extent_size pvs)) ids now text from state idle =
+    inl (record { source = refl; meets = change_undone names (Vgcreate vg extent_size pvs) _ now state idle })
+undone names (One (Vgextend vg pvs)) ids now text from state idle =
+    inl (record { source = refl; meets = change_undone names (Vgextend vg pvs) _ now state idle })
+undone names (One (Vgreduce vg pv)) ids now text from state idle =
+    inl (record { source = refl; meets = change_undone names (Vgreduce vg pv) _ now state idle })
+undone names (One (Vgremove vg)) ids now text from state idle =
+    inl (record { source = refl; meets = change_undone names (Vgremove vg) _ now state idle })
+undone names (One (Vgrename vg new)) ids now text from state idle =
+    inl (record { source = refl; meets = change_undone names (Vgrename vg new) _ now state idle })
+undone names (One (Vgcfgrestore vg own)) ids now text from state idle =
+    inr (record { ending = NoMemory; is = refl; why = tt; nothing = refl })
+undone names (One (Lvcreate new)) ids now text from state idle =
+    inl (record { source = refl; meets = change_undone names (Lvcreate new) _ now state idle })
+undone names (One (Lvextend path growth pvs)) ids now text from state idle =
+    inl (record { source = refl; meets = change_undone names (Lvextend path growth pvs) _ now state idle })
+undone names (One (Lvreduce path amount)) ids now text from state idle =
+    inl (record { source = refl; meets = change_undone names (Lvreduce path amount) _ now state idle })
+undone names (One (Lvremove path)) ids now text from state idle =
+    inl (record { source = refl; meets = change_undone names (Lvremove path) _ now state idle })
+undone names (One (Lvrename vg old new)) ids now text from state idle =
+    inl (record { source = refl; meets = change_undone names (Lvrename vg old new) _ now state idle })
+undone names (One (Pvck pv)) ids now text from state idle =
+    inl (record { source = refl; meets = meets_undone names _ pv now state state idle })
+undone names (One (Vgcfgbackup vg)) ids now text from state idle =
+    inl (record { source = refl; meets = backup_undone names _ vg now state idle })
+undone names (One Pvs) ids now text from state idle =
+    inl (record { source = refl; meets = report_undone report.Pvs names _ now state idle })
+undone names (One Vgs) ids now text from state idle =
+    inl (record { source = refl; meets = report_undone report.Vgs names _ now state idle })
+undone names (One Lvs) ids now text from state idle =
+    inl (record { source = refl; meets = report_undone report.Lvs names _ now state idle })
+undone names (One Vgck) ids now text from state idle =
+    inl (record { source = refl; meets = report_undone report.Vgck names _ now state idle })
 undone names _ ids now text from state idle = record { refused = (inr refl, refl); unread = refl }
 
 -- words of which nothing was done
-pub undone_words : (words : List Word) (now : ℕ) (text : List ℕ) (from : SourceState) (ids : ℕ → List ℕ) (state : State) → HasDisks words state
+pub undone_words : (words : List Word) (now : ℕ) (text : List ℕ) (from : SourceState) (ids : ℕ → List ℕ) (state : State)
+    → HasDisks words state
     → RunsWords words now text from from ids state (Ended NoMemory) ids state
 undone_words words now text from ids state disks = record {
   refused = λ none. (record { refused = (inr refl, refl); unread = refl }, refl);

@@ -19,7 +19,8 @@ use Rattle.lvm_run.specs.declared.outcome.Outcome.TheVariants.{Ended, Answered, 
 -- wanting
 abbrev pub IsBackedUp : Group → Word → ℕ → Outcome → Type 0
 IsBackedUp group vg now (Answered line (Refused (UnknownGroup name))) = (line ≡ 1) × (name ≡ vg) × (pointwise nat_eq group.name vg ≡ false)
-IsBackedUp group vg now (Reported text whole) = (whole ≡ true) × (text ≡ printed (backup_of group now)) × (pointwise nat_eq group.name vg ≡ true)
+IsBackedUp group vg now (Reported text whole) =
+    (whole ≡ true) × (text ≡ printed (backup_of group now)) × (pointwise nat_eq group.name vg ≡ true)
 IsBackedUp group vg now (Answered line NoMemory) = line ≡ 1
 IsBackedUp group vg now _ = ⊥
 

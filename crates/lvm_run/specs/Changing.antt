@@ -57,27 +57,32 @@ change_by context command found given = change_of (state_by context found given.
 -- what it may take, by what was found
 abbrev pub TakesBy : Context → Command → Option Found → Inputs → Type 0
 TakesBy context command None given = given ≡ no_inputs
-TakesBy context command (Some found) given = Takes (asks_of (state_by context found given.backup) (line_in context command)) given.given × IsBackupOf command given.backup
+TakesBy context command (Some found) given =
+    Takes (asks_of (state_by context found given.backup) (line_in context command)) given.given × IsBackupOf command given.backup
 
 -- its first refusal, by what was found and by what it takes
 abbrev pub refusal_by : Context → Command → Option Found → Inputs → Option OpRefusal
 refusal_by context command None given = None
-refusal_by context command (Some found) given = refusal_of (state_by context found given.backup) (line_in context command) context.now given.given
+refusal_by context command (Some found) given =
+    refusal_of (state_by context found given.backup) (line_in context command) context.now given.given
 
 -- its zeros, by the same
 abbrev pub zeros_by : Context → Command → Option Found → Inputs → List (List Put)
 zeros_by context command None given = []
-zeros_by context command (Some found) given = zeros_of (state_by context found given.backup) (line_in context command) context.now given.given
+zeros_by context command (Some found) given =
+    zeros_of (state_by context found given.backup) (line_in context command) context.now given.given
 
 -- its other batches
 abbrev pub batches_by : Context → Command → Option Found → Inputs → List (List Put)
 batches_by context command None given = []
-batches_by context command (Some found) given = batches_of (state_by context found given.backup) (line_in context command) context.now given.given
+batches_by context command (Some found) given =
+    batches_of (state_by context found given.backup) (line_in context command) context.now given.given
 
 -- and those that clear disks
 abbrev pub clears_by : Context → Command → Option Found → Inputs → List (List Put)
 clears_by context command None given = []
-clears_by context command (Some found) given = clears_of (state_by context found given.backup) (line_in context command) context.now given.given
+clears_by context command (Some found) given =
+    clears_of (state_by context found given.backup) (line_in context command) context.now given.given
 
 -- the batches that repair what was found
 abbrev pub repairs_by : Option Found → List (List Put)
@@ -102,13 +107,19 @@ changing command = record {
   zeros = λ context found given. zeros_by context command found given;
   batches = λ context found given. batches_by context command found given;
   clears = λ context found given. clears_by context command found given;
-  keeps = λ context found given base image. (f : Found) × (found ≡ Some f) × AreasAreKept (state_by context f given.backup) (line_in context command) context.now given.given base image;
+  keeps =
+      λ context found given base image. (f : Found) × (found ≡ Some f)
+          × AreasAreKept (state_by context f given.backup) (line_in context command) context.now given.given base image;
   reads = λ context image spans. AreFewReads image context.sizes spans;
-  finds = λ context found given image. (f : Found) × (found ≡ Some f) × IsFoundAfter (state_by context f given.backup) (line_in context command) context.now given.given image;
+  finds =
+      λ context found given image. (f : Found) × (found ≡ Some f)
+          × IsFoundAfter (state_by context f given.backup) (line_in context command) context.now given.given image;
   clearing = λ context found given base image. (f : Found) × (found ≡ Some f)
-      × ClearsKeep (change_by context command f given).cleared (state_by context f given.backup).disks (state_by context f given.backup).areas base image;
+      × ClearsKeep (change_by context command f given).cleared (state_by context f given.backup).disks
+      (state_by context f given.backup).areas base image;
   cleared = λ context found given image. (f : Found) × (found ≡ Some f)
-      × AreCleared (change_by context command f given).cleared (state_by context f given.backup).disks (state_by context f given.backup).areas image;
+      × AreCleared (change_by context command f given).cleared (state_by context f given.backup).disks
+      (state_by context f given.backup).areas image;
   reports = λ context found image text. ⊥;
 }
 
@@ -127,7 +138,8 @@ took_of (Err (fault.Uncleared pv made)) = Some made
 took_of _ = None
 
 -- the line was carried out on what was found, by what its text gives, as far as it came, with this outcome, and took place then
-pub record IsCarriedOut (found : Found) (names : List Word) (line : Line) (now : ℕ) (old : State) (outcome : Outcome) (took : Option ℕ) (new : State) : Type 0 where
+pub record IsCarriedOut (found : Found) (names : List Word) (line : Line) (now : ℕ) (old : State) (outcome : Outcome) (took : Option ℕ)
+    (new : State) : Type 0 where
   pub backup : Option Backup
   pub result : Result ℕ ChangeFault
   pub given_back : HasJudged result → IsBackupOf line.command backup
@@ -154,7 +166,8 @@ IsWholeAgain (Err fault) = Unit {0}
 
 -- what was found was repaired, and then the line carried out, which was begun after so many steps and took place after so many, if
 -- it did, as far as they came, and this is the outcome
-pub record IsChanged (found : Found) (names : List Word) (line : Line) (now : ℕ) (old : State) (outcome : Outcome) (begun : ℕ) (took : Option ℕ) (new : State) : Type 0 where
+pub record IsChanged (found : Found) (names : List Word) (line : Line) (now : ℕ) (old : State) (outcome : Outcome) (begun : ℕ)
+    (took : Option ℕ) (new : State) : Type 0 where
   pub result : Result Found RepairFault
   pub mid : State
   pub begun_is : begun ≡ mid.steps

@@ -1,5 +1,6 @@
 -- The journal and the answers of a run, and the promise to the administrator.
-use Rattle.std.specs.Prelude.{◌≡◌, ◌≤◌, ℕ, ◌+◌, Bool, true, false, if◌then◌else◌, List, [], ◌∷◌, map, Option, Some, None, vec_capacity, vec_len}
+use Rattle.std.specs.Prelude.{◌≡◌, ◌≤◌, ℕ, ◌+◌, Bool, true, false, if◌then◌else◌, List, [], ◌∷◌, map, Option, Some, None, vec_capacity,
+    vec_len}
 use Rattle.std.specs.List.{list_any}
 use Rattle.std.specs.Option.{option_map_or}
 use Rattle.command_table.specs.Options.{Word}
@@ -65,7 +66,8 @@ lines_of_task _ text outcome = []
 
 -- and of words
 abbrev pub lines_of_words : List Word → List ℕ → (ℕ → List ℕ) → Outcome → List Said
-lines_of_words words text ids outcome = option_map_or (λ (line : CommandLine). lines_asked line.request text ids outcome) (command_line_of words) []
+lines_of_words words text ids outcome =
+    option_map_or (λ (line : CommandLine). lines_asked line.request text ids outcome) (command_line_of words) []
 
 -- whether an entry is of something that took place
 abbrev pub is_took : EntryKind → Bool
@@ -91,8 +93,10 @@ NoneOlder journal _ sizes ended = Unit {0}
 -- disks finds an older version than the last acknowledged one.
 abbrev pub KeepsPromise : List Word → ℕ → State → List JournalEntry → List Said → State → Type 0
 KeepsPromise names now old journal lines new =
-    (handed : Record) → old.told ≡ Some handed → (base : Image) → IsBase handed base → (version : Option Version) → FindsVersion old.sizes base none_out version
-    → (ended : Record) → new.told ≡ Some ended → HasRunHistory handed base old.sizes names now ended journal lines × NoneOlder journal lines old.sizes ended
+    (handed : Record) → old.told ≡ Some handed → (base : Image) → IsBase handed base → (version : Option Version)
+        → FindsVersion old.sizes base none_out version
+    → (ended : Record) → new.told ≡ Some ended
+    → HasRunHistory handed base old.sizes names now ended journal lines × NoneOlder journal lines old.sizes ended
 
 -- each moment of the journal lies between these two, none before that of an earlier entry
 abbrev pub AreInTime : ℕ → List JournalEntry → ℕ → Type 0
@@ -114,7 +118,8 @@ begun_from ((line, said) ∷ lines) from to = if reports_scan line.command then 
 begun_from [] from to = from
 
 -- what a run has entered of its lines, nothing, where none was begun, is in time, told or not, and it keeps the promise
-pub record IsEntered (names : List Word) (now : ℕ) (old : State) (journal : List JournalEntry) (lines : List Said) (new : State) : Type 0 where
+pub record IsEntered (names : List Word) (now : ℕ) (old : State) (journal : List JournalEntry) (lines : List Said) (new : State) : Type 0
+    where
   pub unbegun : lines ≡ [] → journal ≡ []
   pub in_time : AreInTime (begun_from lines old.steps new.steps) journal new.steps
   pub promise : KeepsPromise names now old journal lines new
@@ -131,7 +136,8 @@ is_answer _ = false
 
 -- what a run of these words has entered that came to this outcome, where the source gave this text: the answers of the lines that
 -- were asked for and begun, which are what it prints where a line has answered, and their journal
-pub record HasEntered (words : List Word) (now : ℕ) (text : List ℕ) (ids : ℕ → List ℕ) (old : State) (outcome : Outcome) (journal : List JournalEntry) (answers : List (ℕ × Option Answer)) (new : State) : Type 0 where
+pub record HasEntered (words : List Word) (now : ℕ) (text : List ℕ) (ids : ℕ → List ℕ) (old : State) (outcome : Outcome)
+    (journal : List JournalEntry) (answers : List (ℕ × Option Answer)) (new : State) : Type 0 where
   pub answers_is : answers ≡ answers_of (lines_of_words words text ids outcome)
   pub printed : is_answer outcome ≡ true → output_of (names_of words) outcome ≡ answers_text (names_of words) answers
   pub entered : IsEntered (names_of words) now old journal (lines_of_words words text ids outcome) new

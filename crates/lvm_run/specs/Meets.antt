@@ -17,7 +17,8 @@ use Rattle.disk_model.specs.Steps.{Image, Reading, Flushing, Record, now_after}
 use Rattle.disk_batch.specs.InTurn.{Put, WritesInTurn}
 use Rattle.vg_found.specs.declared.found.Found.{Found}
 use Rattle.vg_scan.specs.Scans.{FailedOn, HoldsNow}
-use Rattle.lvm_run.specs.declared.ending.Ending.TheVariants.{WordsRefused, NoMemory, SourceFailed, ScriptTooLong, OpenFailed, ScanReadFailed, ScanRefused, RepairFailed, RepairRefused}
+use Rattle.lvm_run.specs.declared.ending.Ending.TheVariants.{WordsRefused, NoMemory, SourceFailed, ScriptTooLong, OpenFailed,
+    ScanReadFailed, ScanRefused, RepairFailed, RepairRefused}
 use Rattle.lvm_run.specs.declared.outcome.Outcome.{Outcome}
 use Rattle.lvm_run.specs.declared.outcome.Outcome.TheVariants.{Ended, Answered, Reported}
 use Rattle.lvm_run.specs.CommandSpec.{CommandSpec, Context, Inputs, Looks, AtNothing, AtDisks, Scanned, Finds, Refuses, Lacks, no_inputs}
@@ -37,7 +38,8 @@ pub record IsTaken (spec : CommandSpec) (context : Context) (old : State) (found
 -- what was found can be repaired, and judged by that and by what it takes, which is this, the line has this refusal or none
 abbrev pub IsJudged : CommandSpec → Context → Inputs → State → Option OpRefusal → Type 0
 IsJudged spec context given old refusal =
-    (found : Option Found) × IsTaken spec context old found None × spec.takes context found given × (spec.refusal context found given ≡ refusal)
+    (found : Option Found) × IsTaken spec context old found None × spec.takes context found given
+        × (spec.refusal context found given ≡ refusal)
 
 -- no refusal comes before a read, where the command reads for itself
 abbrev pub IsJudgedFirst : CommandSpec → Context → Type 0
@@ -45,7 +47,8 @@ IsJudgedFirst spec context = spec.looks ≡ AtNothing → spec.refusal context N
 
 -- a read of the disk failed: in a scan that isn't taken without it, and any other read that fails is the last step
 abbrev pub IsReadFault : CommandSpec → Context → Looks → State → State → ℕ → Type 0
-IsReadFault spec context AtDisks old new pv = (unread : set.FinSet nat_cmp) × FailedOn unread old new × IsScanned spec context unread old (Lacks pv)
+IsReadFault spec context AtDisks old new pv =
+    (unread : set.FinSet nat_cmp) × FailedOn unread old new × IsScanned spec context unread old (Lacks pv)
 IsReadFault spec context _ old new pv = (span : Span) × IsLastFault old new pv (Reading span)
 
 -- where memory was wanting no operation had failed, but for reads of a scan
@@ -77,7 +80,8 @@ IsCause spec context given old new (Answered line answer.NoMemory) = (line ≡ 1
 IsCause spec context given old new (Answered line _) = ⊥
 IsCause spec context given old new (Reported text whole) =
     (spec.flushes ≡ false)
-    × ((unread : set.FinSet nat_cmp) × (found : Option Found) × IsUnreadBy whole unread old new × IsScanned spec context unread old (Finds found)
+    × ((unread : set.FinSet nat_cmp) × (found : Option Found) × IsUnreadBy whole unread old new
+    × IsScanned spec context unread old (Finds found)
     × (spec.refusal context found no_inputs ≡ None) × HoldsNow old.told (λ image. spec.reports context found image text))
 
 -- ---- how far a command that changes something comes
@@ -140,13 +144,15 @@ pub record ChangesDisks (spec : CommandSpec) (context : Context) (given : Inputs
   pub line : WritesInTurn zeroed (batches_if ready (spec.batches context found given)) written made
   pub ready_then : IsTrue written → IsTrue ready
   -- what every image from the zeros on keeps of what the disks held then, and what a reader finds afterwards
-  pub keeps : IsTrue ready → (base : Image) → IsBase zeroed base → EveryImageSince (length zeroed.steps) made (spec.keeps context found given base)
+  pub keeps : IsTrue ready → (base : Image) → IsBase zeroed base
+      → EveryImageSince (length zeroed.steps) made (spec.keeps context found given base)
   pub found_after : IsTrue written → spec.finds context found given (now_after made.opened made.steps)
   -- disks are cleared where all of these were written
   pub clears : WritesInTurn made (batches_if written (spec.clears context found given)) (is_done outcome) new
   pub all : IsTrue (is_done outcome) → IsTrue written
   -- the same of these
-  pub clearing : IsTrue written → (base : Image) → IsBase made base → EveryImageSince (length made.steps) new (spec.clearing context found given base)
+  pub clearing : IsTrue written → (base : Image) → IsBase made base
+      → EveryImageSince (length made.steps) new (spec.clearing context found given base)
   pub cleared_after : IsTrue (is_done outcome) → spec.cleared context found given (now_after new.opened new.steps)
 
 -- A command that changes nothing submits reads alone, of its spans, as far as it came.
@@ -158,7 +164,8 @@ pub record ReadsDisks (spec : CommandSpec) (context : Context) (old new : Record
 
 -- the one or the other
 abbrev pub DoesToDisks : CommandSpec → Context → Inputs → Outcome → Record → Record → Type 0
-DoesToDisks spec context given outcome old new = MatchBool spec.flushes (ChangesDisks spec context given outcome old new) (ReadsDisks spec context old new)
+DoesToDisks spec context given outcome old new =
+    MatchBool spec.flushes (ChangesDisks spec context given outcome old new) (ReadsDisks spec context old new)
 
 -- a line of this command, judged against this context and by what it takes, came to this outcome
 pub record Meets (spec : CommandSpec) (context : Context) (old : State) (outcome : Outcome) (new : State) : Type 0 where

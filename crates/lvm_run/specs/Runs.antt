@@ -47,18 +47,21 @@ pub record EndsUnread (command : Command) (from to : SourceState) (old : State) 
   pub nothing : new ≡ old
 
 -- the source gave this text, if the line reads it, and the line with it meets all that is said of its command
-pub record MeetsSourced (names : List Word) (line : Line) (now : ℕ) (text : List ℕ) (from to : SourceState) (old : State) (outcome : Outcome) (new : State) : Type 0 where
+pub record MeetsSourced (names : List Word) (line : Line) (now : ℕ) (text : List ℕ) (from to : SourceState) (old : State)
+    (outcome : Outcome) (new : State) : Type 0 where
   pub source : GivesText (reads_source line.command) text from to
   pub meets : Meets (spec_of (with_text text line).command) (context_with names line.id now old) old outcome new
 
 -- the line was done where its command runs, unless the source gave no text for it, and else it is refused
 abbrev pub RunsLine : List Word → Line → ℕ → List ℕ → SourceState → SourceState → State → Outcome → State → Type 0
 RunsLine names line now text from to old outcome new =
-    MatchBool (is_built line.command) (MeetsSourced names line now text from to old outcome new ⊎ EndsUnread line.command from to old outcome new) (IsRefusedUnread from to old outcome new)
+    MatchBool (is_built line.command) (MeetsSourced names line now text from to old outcome new
+        ⊎ EndsUnread line.command from to old outcome new) (IsRefusedUnread from to old outcome new)
 
 -- what is asked for was done or refused; sessions and the demo are refused until they are built
 abbrev pub RunsRequest : List Word → Request → (ℕ → List ℕ) → ℕ → List ℕ → SourceState → SourceState → State → Outcome → State → Type 0
-RunsRequest names (One command) ids now text from to old outcome new = RunsLine names (line_of 1 command ids) now text from to old outcome new
+RunsRequest names (One command) ids now text from to old outcome new =
+    RunsLine names (line_of 1 command ids) now text from to old outcome new
 RunsRequest names _ ids now text from to old outcome new = IsRefusedUnread from to old outcome new
 
 -- the same of the task that it became
@@ -87,13 +90,16 @@ abbrev pub names_of : List Word → List Word
 names_of words = option_map_or (λ (line : CommandLine). line.names) (command_line_of words) []
 
 -- a run of these words, at this time, came to this outcome, where the source gave this text
-pub record RunsWords (words : List Word) (now : ℕ) (text : List ℕ) (from to : SourceState) (ids : ℕ → List ℕ) (old : State) (outcome : Outcome) (ids_after : ℕ → List ℕ) (new : State) : Type 0 where
+pub record RunsWords (words : List Word) (now : ℕ) (text : List ℕ) (from to : SourceState) (ids : ℕ → List ℕ) (old : State)
+    (outcome : Outcome) (ids_after : ℕ → List ℕ) (new : State) : Type 0 where
   -- words without a meaning are refused
   pub refused : command_line_of words ≡ None → IsRefusedUnread from to old outcome new × (ids_after ≡ ids)
   -- what other words ask for was done or refused
-  pub lines : (line : CommandLine) → command_line_of words ≡ Some line → RunsRequest line.names line.request ids now text from to old outcome new
+  pub lines : (line : CommandLine) → command_line_of words ≡ Some line
+      → RunsRequest line.names line.request ids now text from to old outcome new
   -- it draws the four numbers of an id where its command draws one, and else none, whatever it answers
-  pub drawn : (line : CommandLine) → command_line_of words ≡ Some line → TakesId (draws_id line.request) ids ids_after ⊎ ((outcome ≡ Ended NoMemory) × (ids_after ≡ ids) × (new ≡ old))
+  pub drawn : (line : CommandLine) → command_line_of words ≡ Some line
+      → TakesId (draws_id line.request) ids ids_after ⊎ ((outcome ≡ Ended NoMemory) × (ids_after ≡ ids) × (new ≡ old))
 
 -- a run that ended so before anything was done
 abbrev pub ended_by : Ending → TimedOutcome

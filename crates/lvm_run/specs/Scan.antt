@@ -29,15 +29,18 @@ FindsAnything image sizes unread _ = ⊥
 -- taken
 abbrev pub FindsWhole : Image → List ℕ → set.FinSet nat_cmp → Scanned → Type 0
 FindsWhole image sizes unread (Finds (Some found)) = IsScanOf image sizes found × (found.unread ≡ unread) × IsWhole found
-FindsWhole image sizes unread (Refuses (Partial ids)) = (found : Found) × IsScanOf image sizes found × (found.unread ≡ unread) × (unread ≡ set.empty) × (ids ≡ found.missing) × (ids ≢ [])
+FindsWhole image sizes unread (Refuses (Partial ids)) =
+    (found : Found) × IsScanOf image sizes found × (found.unread ≡ unread) × (unread ≡ set.empty) × (ids ≡ found.missing) × (ids ≢ [])
 FindsWhole image sizes unread (Refuses (Disks refusal)) = IsRefusalOfScan image sizes unread refusal
-FindsWhole image sizes unread (Lacks pv) = (found : Found) × IsScanOf image sizes found × (found.unread ≡ unread) × (first_of unread ≡ Some pv)
+FindsWhole image sizes unread (Lacks pv) =
+    (found : Found) × IsScanOf image sizes found × (found.unread ≡ unread) × (first_of unread ≡ Some pv)
 FindsWhole image sizes unread _ = ⊥
 
 -- before each submission of a read in these steps, a flush of each of so many disks had completed well in them
 abbrev pub FlushesBeforeReads : ℕ → List Step → Type 0
 FlushesBeforeReads disks [] = Unit {0}
-FlushesBeforeReads disks (Submitted tag (Reading span) ∷ steps) = ((pv : ℕ) → pv < disks → HasFlushed pv steps) × FlushesBeforeReads disks steps
+FlushesBeforeReads disks (Submitted tag (Reading span) ∷ steps) =
+    ((pv : ℕ) → pv < disks → HasFlushed pv steps) × FlushesBeforeReads disks steps
 FlushesBeforeReads disks (_ ∷ steps) = FlushesBeforeReads disks steps
 
 -- disks of these sizes were flushed, and then read a little; where it doesn't pass, as far as it came
@@ -67,9 +70,11 @@ pub record IsUnreadBy (whole : Bool) (unread : set.FinSet nat_cmp) (old new : St
 abbrev pub IsOpenCause : State → State → Ending → Type 0
 IsOpenCause old new NoMemory = Unit {0}
 IsOpenCause old new (OpenFailed pv) = IsLastFault old new pv (Flushing pv)
-IsOpenCause old new (ScanReadFailed pv) = (unread : set.FinSet nat_cmp) × FailedOn unread old new × HoldsNow old.told (λ image. FindsWhole image old.sizes unread (Lacks pv))
+IsOpenCause old new (ScanReadFailed pv) =
+    (unread : set.FinSet nat_cmp) × FailedOn unread old new × HoldsNow old.told (λ image. FindsWhole image old.sizes unread (Lacks pv))
 IsOpenCause old new (ScanRefused refusal whole) =
-    (unread : set.FinSet nat_cmp) × IsUnreadBy whole unread old new × HoldsNow old.told (λ image. FindsWhole image old.sizes unread (Refuses refusal))
+    (unread : set.FinSet nat_cmp) × IsUnreadBy whole unread old new
+        × HoldsNow old.told (λ image. FindsWhole image old.sizes unread (Refuses refusal))
 IsOpenCause old new _ = ⊥
 
 -- what becomes of what a scan found: it is taken where it is whole, and else refused

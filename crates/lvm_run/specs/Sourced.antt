@@ -25,7 +25,8 @@ reads_source _ = false
 -- the text is all that was left of a source that is read to its end, without a fault, and not too long; one that isn't read is left
 -- as it was
 abbrev pub GivesText : Bool → List ℕ → SourceState → SourceState → Type 0
-GivesText true text from to = (length text ≤ 16777216) × IfSome from.left (λ bytes. text ≡ bytes) × IfSome to.left (λ rest. rest ≡ []) × (to.faults ≡ from.faults)
+GivesText true text from to =
+    (length text ≤ 16777216) × IfSome from.left (λ bytes. text ≡ bytes) × IfSome to.left (λ rest. rest ≡ []) × (to.faults ≡ from.faults)
 GivesText false text from to = to ≡ from
 
 -- why a source that is read gave no text: a read failed, it gives more than may be read, or memory was wanting

@@ -18,7 +18,8 @@ abbrev OfMemory : CommandRefusal → Type 0
 OfMemory NoMemory = ⊤
 OfMemory refusal = ⊥
 
-pub at_end : {A : Type 0} (end : ℕ) (meant : Result A CommandRefusal) (refusal : CommandRefusal) → (refusal ≡ NoMemory) ⊎ (meant ≡ Err refusal)
+pub at_end : {A : Type 0} (end : ℕ) (meant : Result A CommandRefusal) (refusal : CommandRefusal)
+    → (refusal ≡ NoMemory) ⊎ (meant ≡ Err refusal)
     → IsRefusalOf (at_place end meant) (refusal_at end refusal)
 at_end end meant (Faulty fault place) (inr is) = ap (at_place end) is
 at_end end meant WrongWords (inr is) = ap (at_place end) is
@@ -31,5 +32,7 @@ of_line meant line.NoMemory is = tt
 of_line meant (line.Refused fault place) is = ap Some is
 
 pub refused_words : (name : CommandName) (place end : ℕ) (rest : List (Word × ℕ)) (refusal : CommandRefusal) → is_for_scripts name ≡ true
-    → (refusal ≡ NoMemory) ⊎ (meaning_of name rest ≡ Err refusal) → IsRefusal (Some (line_named (Some name) place end rest)) (refusal_at end refusal)
-refused_words name place end rest refusal here is = rw here (of_line (at_place end (meaning_of name rest)) (refusal_at end refusal) (at_end end (meaning_of name rest) refusal is))
+    → (refusal ≡ NoMemory) ⊎ (meaning_of name rest ≡ Err refusal)
+    → IsRefusal (Some (line_named (Some name) place end rest)) (refusal_at end refusal)
+refused_words name place end rest refusal here is =
+    rw here (of_line (at_place end (meaning_of name rest)) (refusal_at end refusal) (at_end end (meaning_of name rest) refusal is))

@@ -1,5 +1,6 @@
 -- The lines of a script.
-use Rattle.std.specs.Prelude.{◌≡◌, ℕ, ◌+◌, ◌==◌, Bool, true, false, nat_lt, if◌then◌else◌, List, [], ◌∷◌, ◌++◌, length, take, drop, ◌-◌, filter, Option, Some, None, Result, Ok, Err}
+use Rattle.std.specs.Prelude.{◌≡◌, ℕ, ◌+◌, ◌==◌, Bool, true, false, nat_lt, if◌then◌else◌, List, [], ◌∷◌, ◌++◌, length, take, drop, ◌-◌,
+    filter, Option, Some, None, Result, Ok, Err}
 use Rattle.std.specs.List.{slice_split}
 use Rattle.command_table.specs.declared.command.Command.{Command}
 use Rattle.command_table.specs.declared.command_name.CommandName.{CommandName}
@@ -99,7 +100,8 @@ behind_all first (Err refusal) = Err refusal
 
 -- what a line comes to, where the lines before it have so many sectors: one that takes them past the most is refused
 abbrev pub limited : ℕ → Option Meant → Option Meant
-limited sectors (Some (Ok command)) = if nat_lt most_sectors (sectors + sectors_of command) then Some (Err (SessionFull, 0)) else Some (Ok command)
+limited sectors (Some (Ok command)) =
+    if nat_lt most_sectors (sectors + sectors_of command) then Some (Err (SessionFull, 0)) else Some (Ok command)
 limited sectors meant = meant
 
 -- the commands from a line with this number on that comes to this, by those that follow it where so many sectors stand before them
@@ -111,7 +113,8 @@ commands_with number sectors (Some (Ok command)) after = behind_all ((number, co
 -- the commands of these lines, the first of which has this number, where the lines before it have so many sectors
 unfoldable pub commands_from : List (List ℕ) → ℕ → ℕ → Commands
 commands_from [] number sectors = Ok []
-commands_from (line ∷ lines) number sectors = commands_with number sectors (limited sectors (line_meant number line)) (commands_from lines (number + 1))
+commands_from (line ∷ lines) number sectors =
+    commands_with number sectors (limited sectors (line_meant number line)) (commands_from lines (number + 1))
 
 -- the commands of a script
 abbrev pub commands_in : List ℕ → Commands

@@ -1,5 +1,6 @@
 -- No word is faulty exactly where none strays and each value and each argument is what it has to be.
-use Rattle.std.proofs.Common.{◌≡◌, ◌↔◌, ◌∙◌, ◌+◌, ℕ, suc, ◌&&◌, Bool, not, if◌then◌else◌, true, false, List, [], ◌∷◌, ◌++◌, length, map, Option, Some, None, refl, ap, ap₂, sym, subst, inl, inr, ◌⊎◌, arith}
+use Rattle.std.proofs.Common.{◌≡◌, ◌↔◌, ◌∙◌, ◌+◌, ℕ, suc, ◌&&◌, Bool, not, if◌then◌else◌, true, false, List, [], ◌∷◌, ◌++◌, length, map,
+    Option, Some, None, refl, ap, ap₂, sym, subst, inl, inr, ◌⊎◌, arith}
 use Rattle.std.proofs.lemmas.Bool.{and_parts, cases_Bool, not-true, or_left, or_right, true≢false}
 use Rattle.std.proofs.Math.Bool.{and-true}
 use Rattle.std.proofs.Math.Nat.{add-zero, zero-add}
@@ -18,8 +19,10 @@ use Rattle.command_table.specs.declared.table.OptionRow.{OptionRow}
 use Rattle.command_table.specs.Options.{Word, is_dashed, is_key, spells}
 use Rattle.command_table.specs.Table.{options_of}
 use Rattle.command_table.specs.Values.{fault_in}
-use Rattle.command_table.specs.Words.{Read, Split, after_role, after_word, fault_of, first_fault, has_key, nothing_split, option_named, read, role_of, role_of_option, role_of_other, role_of_row}
-use Rattle.lvm_words.specs.Parser.{after_split, argument_passes, arguments_pass, is_stray, no_stray, row_of_key, split_from, split_of, value_passes}
+use Rattle.command_table.specs.Words.{Read, Split, after_role, after_word, fault_of, first_fault, has_key, nothing_split, option_named,
+    read, role_of, role_of_option, role_of_other, role_of_row}
+use Rattle.lvm_words.specs.Parser.{after_split, argument_passes, arguments_pass, is_stray, no_stray, row_of_key, split_from, split_of,
+    value_passes}
 use Rattle.lvm_words.proofs.Forms.{Form, flag, form, takes}
 use Rattle.lvm_words.proofs.Spellings.{same_name}
 
@@ -83,7 +86,8 @@ record IsNamed (rows : List OptionRow) (row : OptionRow) : Type 0 where
   kind : kind_in rows row.key ≡ row.kind
   member : (p : OptionRow → Bool) → p row ≡ true → list_any p rows ≡ true
 
-named_in : (rows : List OptionRow) (row : OptionRow) (word : Word) → distinct rows ≡ true → option_named rows word ≡ Some row → IsNamed rows row
+named_in : (rows : List OptionRow) (row : OptionRow) (word : Word) → distinct rows ≡ true → option_named rows word ≡ Some row
+    → IsNamed rows row
 unfolding distinct
 named_in [] row word apart found = absurd (none_some row found)
 named_in (x ∷ xs) row word apart found = go (named_in xs row word) (cases_Bool (spells x.key word))
@@ -92,11 +96,16 @@ named_in (x ∷ xs) row word apart found = go (named_in xs row word) (cases_Bool
     both = and_parts (not (list_any (λ (r : OptionRow). is_key x.key r.key) xs)) (distinct xs) apart
 
     other : IsNamed xs row → (is_key x.key row.key ≡ true) ⊎ (is_key x.key row.key ≡ false) → IsNamed (x ∷ xs) row
-    other n (inl e) = absurd (true≢false (sym (n.member (λ r. is_key x.key r.key) e) ∙ not-true (list_any (λ (r : OptionRow). is_key x.key r.key) xs) both.0))
+    other n (inl e) =
+        absurd (true≢false (sym (n.member (λ r. is_key x.key r.key) e)
+            ∙ not-true (list_any (λ (r : OptionRow). is_key x.key r.key) xs) both.0))
     other n (inr e) = record { kind = rw e n.kind; member = λ p at. or_right (p x) (list_any p xs) (n.member p at) }
 
-    go : (distinct xs ≡ true → option_named xs word ≡ Some row → IsNamed xs row) → (spells x.key word ≡ true) ⊎ (spells x.key word ≡ false) → IsNamed (x ∷ xs) row
-    go rest (inl e) = subst (IsNamed (x ∷ xs)) (some_row x row (rw e at found)) (record { kind = rw (same_name x.key) refl; member = λ p at. or_left (p x) (list_any p xs) at })
+    go : (distinct xs ≡ true → option_named xs word ≡ Some row → IsNamed xs row) → (spells x.key word ≡ true) ⊎ (spells x.key word ≡ false)
+        → IsNamed (x ∷ xs) row
+    go rest (inl e) =
+        subst (IsNamed (x ∷ xs)) (some_row x row (rw e at found))
+            (record { kind = rw (same_name x.key) refl; member = λ p at. or_left (p x) (list_any p xs) at })
     go rest (inr e) = other (rest both.1 (rw e at found)) (cases_Bool (is_key x.key row.key))
 
 named_kind : (name : CommandName) (row : OptionRow) (word : Word) → option_named (options_of name) word ≡ Some row → HasKind name row
@@ -110,7 +119,8 @@ Facts name split (role.Flag key) = kind_in (options_of name) key ≡ Flag
 Facts name split (role.Value row) = split.waiting ≡ Some row
 Facts name split (role.Argument number) = number ≡ length split.arguments
 
-facts_option : (name : CommandName) (split : Split) (o : Option OptionRow) → ((row : OptionRow) → o ≡ Some row → HasKind name row) → Facts name split (role_of_option split o)
+facts_option : (name : CommandName) (split : Split) (o : Option OptionRow) → ((row : OptionRow) → o ≡ Some row → HasKind name row)
+    → Facts name split (role_of_option split o)
 facts_option name split None kinds = tt
 facts_option name split (Some row) kinds = go (has_key split.seen row.key)
   where
@@ -137,14 +147,16 @@ facts name split word = go (cases_Bool (is_dashed word))
 abbrev WaitsWell : CommandName → Split → Type 0
 WaitsWell name split = (row : OptionRow) → split.waiting ≡ Some row → HasKind name row
 
-waits_on : (name : CommandName) (split : Split) (word : Word) (r : Role) → Facts name split r → WaitsWell name split → WaitsWell name (after_role split word r)
+waits_on : (name : CommandName) (split : Split) (word : Word) (r : Role) → Facts name split r → WaitsWell name split
+    → WaitsWell name (after_role split word r)
 waits_on name split word role.Stray f well = λ row is. absurd (none_some row is)
 waits_on name split word (role.Value v) f well = λ row is. absurd (none_some row is)
 waits_on name split word (role.Argument number) f well = well
 waits_on name split word (role.Flag key) f well = λ row is. absurd (none_some row is)
 waits_on name split word (role.Option o) f well = λ row is. subst (HasKind name) (some_row o row is) f
 
-all_push : (p : OptionKey × Word → Bool) (xs : List (OptionKey × Word)) (y : OptionKey × Word) → list_all p (xs ++ y ∷ []) ≡ (list_all p xs && p y)
+all_push : (p : OptionKey × Word → Bool) (xs : List (OptionKey × Word)) (y : OptionKey × Word)
+    → list_all p (xs ++ y ∷ []) ≡ (list_all p xs && p y)
 all_push p [] y = and-true (p y)
 all_push p (x ∷ xs) y = go (p x) (all_push p xs y)
   where
@@ -155,10 +167,14 @@ all_push p (x ∷ xs) y = go (p x) (all_push p xs y)
 arguments_push : (name : CommandName) (n : ℕ) (xs : List Word) (y : Word)
     → arguments_pass name n (xs ++ y ∷ []) ≡ (arguments_pass name n xs && argument_passes name (n + length xs) y)
 arguments_push name n [] y = and-true (argument_passes name n y) ∙ ap (λ k. argument_passes name k y) (sym (add-zero n))
-arguments_push name n (x ∷ xs) y = go (argument_passes name n x) (arguments_push name (n + 1) xs y ∙ ap (λ k. arguments_pass name (n + 1) xs && argument_passes name k y) (omega arith))
+arguments_push name n (x ∷ xs) y =
+    go (argument_passes name n x) (arguments_push name (n + 1) xs y
+        ∙ ap (λ k. arguments_pass name (n + 1) xs && argument_passes name k y) (omega arith))
   where
-    go : (b : Bool) → arguments_pass name (n + 1) (xs ++ y ∷ []) ≡ (arguments_pass name (n + 1) xs && argument_passes name (n + suc (length xs)) y)
-        → (b && arguments_pass name (n + 1) (xs ++ y ∷ [])) ≡ ((b && arguments_pass name (n + 1) xs) && argument_passes name (n + suc (length xs)) y)
+    go : (b : Bool) → arguments_pass name (n + 1) (xs ++ y ∷ [])
+        ≡ (arguments_pass name (n + 1) xs && argument_passes name (n + suc (length xs)) y)
+        → (b && arguments_pass name (n + 1) (xs ++ y ∷ []))
+        ≡ ((b && arguments_pass name (n + 1) xs) && argument_passes name (n + suc (length xs)) y)
     go true e = e
     go false e = refl
 
@@ -179,18 +195,24 @@ step_passes name split word role.Stray f well fine = absurd (true≢false fine)
 step_passes name split word (role.Option row) f well fine = sym (and-true (all_pass name split))
 step_passes name split word (role.Flag key) f well fine =
     let none : given_passes (options_of name) (key, []) ≡ true = ap (λ k. is_none (fault_in k [])) f in
-    let pushed : list_all (given_passes (options_of name)) (split.given ++ (key, []) ∷ []) ≡ list_all (given_passes (options_of name)) split.given =
-    all_push (given_passes (options_of name)) split.given (key, []) ∙ ap (λ b. list_all (given_passes (options_of name)) split.given && b) none ∙ and-true _ in
+    let pushed : list_all (given_passes (options_of name)) (split.given ++ (key, []) ∷ [])
+        ≡ list_all (given_passes (options_of name)) split.given =
+    all_push (given_passes (options_of name)) split.given (key, [])
+        ∙ ap (λ b. list_all (given_passes (options_of name)) split.given && b) none ∙ and-true _ in
     ap (λ b. b && arguments_pass name 0 split.arguments) pushed ∙ sym (and-true (all_pass name split))
 step_passes name split word (role.Value row) f well fine =
     let kind_is : kind_in (options_of name) row.key ≡ row.kind = well row f in
     ap (λ b. b && arguments_pass name 0 split.arguments) (all_push (given_passes (options_of name)) split.given (row.key, word))
-    ∙ ap (λ k. (list_all (given_passes (options_of name)) split.given && is_none (fault_in k word)) && arguments_pass name 0 split.arguments) kind_is
-    ∙ swap_and (list_all (given_passes (options_of name)) split.given) (is_none (fault_in row.kind word)) (arguments_pass name 0 split.arguments)
+    ∙ ap (λ k. (list_all (given_passes (options_of name)) split.given && is_none (fault_in k word))
+    && arguments_pass name 0 split.arguments) kind_is
+    ∙ swap_and (list_all (given_passes (options_of name)) split.given) (is_none (fault_in row.kind word))
+    (arguments_pass name 0 split.arguments)
 step_passes name split word (role.Argument number) f well fine =
     ap (λ b. list_all (given_passes (options_of name)) split.given && b)
-    (arguments_push name 0 split.arguments word ∙ ap (λ k. arguments_pass name 0 split.arguments && argument_passes name k word) (zero-add (length split.arguments) ∙ sym f))
-    ∙ and_again (list_all (given_passes (options_of name)) split.given) (arguments_pass name 0 split.arguments) (argument_passes name number word)
+    (arguments_push name 0 split.arguments word
+        ∙ ap (λ k. arguments_pass name 0 split.arguments && argument_passes name k word) (zero-add (length split.arguments) ∙ sym f))
+    ∙ and_again (list_all (given_passes (options_of name)) split.given) (arguments_pass name 0 split.arguments)
+    (argument_passes name number word)
 
 abbrev pub bare : List (Word × ℕ) → List Word
 bare = map (λ (word : Word × ℕ). word.0)
@@ -199,7 +221,8 @@ abbrev read_on : CommandName → Split → Option (Fault × ℕ) → List (Word 
 read_on name split fault words = fold (after_word name) (record { split = split; fault = fault }) words
 
 -- the first fault stays
-stays : (name : CommandName) (words : List (Word × ℕ)) (split : Split) (fault : Fault × ℕ) → (read_on name split (Some fault) words).fault ≡ Some fault
+stays : (name : CommandName) (words : List (Word × ℕ)) (split : Split) (fault : Fault × ℕ)
+    → (read_on name split (Some fault) words).fault ≡ Some fault
 stays name [] split fault = refl
 stays name (word ∷ words) split fault = stays name words (after_split (options_of name) split word.0) fault
 
@@ -214,7 +237,8 @@ none_of : (o : Option Fault) → is_none o ≡ true → o ≡ None
 none_of None e = refl
 none_of (Some fault) e = absurd (true≢false (sym e))
 
-pass_before : (name : CommandName) (words : List Word) (split : Split) → WaitsWell name split → no_stray (options_of name) split words ≡ true
+pass_before : (name : CommandName) (words : List Word) (split : Split) → WaitsWell name split
+    → no_stray (options_of name) split words ≡ true
     → all_pass name (split_from (options_of name) split words) ≡ true → all_pass name split ≡ true
 unfolding no_stray
 pass_before name [] split well fine all = all
@@ -222,11 +246,13 @@ pass_before name (word ∷ words) split well fine all =
     let r = role_of (options_of name) split word in
     let both = and_parts (not (is_stray r)) (no_stray (options_of name) (after_split (options_of name) split word) words) fine in
     let later : all_pass name (after_split (options_of name) split word) ≡ true =
-    pass_before name words (after_split (options_of name) split word) (waits_on name split word r (facts name split word) well) both.1 all in
+    pass_before name words (after_split (options_of name) split word) (waits_on name split word r (facts name split word) well) both.1
+        all in
     (and_parts (all_pass name split) (is_none (fault_of name word r))
     (sym (step_passes name split word r (facts name split word) well (not-true (is_stray r) both.0)) ∙ later)).0
 
-none_faulty : (name : CommandName) (words : List (Word × ℕ)) (split : Split) → WaitsWell name split → no_stray (options_of name) split (bare words) ≡ true
+none_faulty : (name : CommandName) (words : List (Word × ℕ)) (split : Split) → WaitsWell name split
+    → no_stray (options_of name) split (bare words) ≡ true
     → all_pass name (split_from (options_of name) split (bare words)) ≡ true → (read_on name split None words).fault ≡ None
 unfolding no_stray
 none_faulty name [] split well fine all = refl
@@ -247,20 +273,24 @@ all_well : (name : CommandName) (words : List (Word × ℕ)) (split : Split) →
 unfolding no_stray
 all_well name [] split well all none = (refl, all)
 all_well name (word ∷ words) split well all none = go (fault_of name word.0 (role_of (options_of name) split word.0)) refl
-    (λ a n. all_well name words (after_split (options_of name) split word.0) (waits_on name split word.0 (role_of (options_of name) split word.0) (facts name split word.0) well) a n)
+    (λ a n. all_well name words (after_split (options_of name) split word.0)
+        (waits_on name split word.0 (role_of (options_of name) split word.0) (facts name split word.0) well) a n)
   where
     go : (o : Option Fault) → fault_of name word.0 (role_of (options_of name) split word.0) ≡ o
-        → (all_pass name (after_split (options_of name) split word.0) ≡ true → (read_on name (after_split (options_of name) split word.0) None words).fault ≡ None
+        → (all_pass name (after_split (options_of name) split word.0) ≡ true
+        → (read_on name (after_split (options_of name) split word.0) None words).fault ≡ None
         → (no_stray (options_of name) (after_split (options_of name) split word.0) (bare words) ≡ true)
         × (all_pass name (split_from (options_of name) (after_split (options_of name) split word.0) (bare words)) ≡ true))
-        → ((not (is_stray (role_of (options_of name) split word.0)) && no_stray (options_of name) (after_split (options_of name) split word.0) (bare words)) ≡ true)
+        → ((not (is_stray (role_of (options_of name) split word.0))
+        && no_stray (options_of name) (after_split (options_of name) split word.0) (bare words)) ≡ true)
         × (all_pass name (split_from (options_of name) (after_split (options_of name) split word.0) (bare words)) ≡ true)
     go (Some fault) is rest =
         let ends : (read_on name (after_split (options_of name) split word.0) (Some (fault, word.1)) words).fault ≡ None =
         ap (λ o. (read_on name (after_split (options_of name) split word.0) (first_fault None o word.1) words).fault) (sym is) ∙ none in
         absurd (true≢false (ap is_some (sym (stays name words (after_split (options_of name) split word.0) (fault, word.1)) ∙ ends)))
     go None is rest =
-        let fine : is_stray (role_of (options_of name) split word.0) ≡ false = fine_role name word.0 (role_of (options_of name) split word.0) is in
+        let fine : is_stray (role_of (options_of name) split word.0) ≡ false =
+            fine_role name word.0 (role_of (options_of name) split word.0) is in
         let on : (read_on name (after_split (options_of name) split word.0) None words).fault ≡ None =
         ap (λ o. (read_on name (after_split (options_of name) split word.0) (first_fault None o word.1) words).fault) (sym is) ∙ none in
         let passes : all_pass name (after_split (options_of name) split word.0) ≡ true =
@@ -275,7 +305,8 @@ starts_well name = λ row is. absurd (none_some row is)
 -- no word is faulty exactly where none strays and all pass
 pub fault_free : (name : CommandName) (words : List (Word × ℕ)) → ((read name words).fault ≡ None)
     ↔ ((no_stray (options_of name) nothing_split (bare words) ≡ true) × (all_pass name (split_of (options_of name) (bare words)) ≡ true))
-fault_free name words = (all_well name words nothing_split (starts_well name) refl, λ p. none_faulty name words nothing_split (starts_well name) p.0 p.1)
+fault_free name words =
+    (all_well name words nothing_split (starts_well name) refl, λ p. none_faulty name words nothing_split (starts_well name) p.0 p.1)
 
 pub split_read : (name : CommandName) (words : List (Word × ℕ)) (split : Split) (fault : Option (Fault × ℕ))
     → (read_on name split fault words).split ≡ split_from (options_of name) split (bare words)

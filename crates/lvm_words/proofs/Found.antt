@@ -23,7 +23,8 @@ none_some row e = absurd (true≢false (sym (ap is_some e)))
 built_alike : (a b : OptionRow) → Some a ≡ Some b → Some (option_built a) ≡ Some (option_built b)
 built_alike a b e = ap (λ o. option_map option_built o) e
 
-pub found_by_id : (rows : List OptionRow) (row : OptionRow) → Stands rows row → arg_by_id (rules_built rows) (name_of row.key) ≡ Some (option_built row)
+pub found_by_id : (rows : List OptionRow) (row : OptionRow) → Stands rows row
+    → arg_by_id (rules_built rows) (name_of row.key) ≡ Some (option_built row)
 found_by_id [] row stands = absurd (none_some row stands)
 found_by_id (x ∷ xs) row stands = go (found_by_id xs row) (cases_Bool (bytes_eq (name_of x.key) (name_of row.key)))
   where
@@ -33,7 +34,8 @@ found_by_id (x ∷ xs) row stands = go (found_by_id xs row) (cases_Bool (bytes_e
     go rest (inl e) = rw e (built_alike x row (rw e at stands))
     go rest (inr e) = rw e (rest (rw e at stands))
 
-pub found_by_long : (rows : List OptionRow) (row : OptionRow) → Stands rows row → arg_by_long (rules_built rows) (name_of row.key) ≡ Some (option_built row)
+pub found_by_long : (rows : List OptionRow) (row : OptionRow) → Stands rows row
+    → arg_by_long (rules_built rows) (name_of row.key) ≡ Some (option_built row)
 found_by_long [] row stands = absurd (none_some row stands)
 found_by_long (x ∷ xs) row stands = go (found_by_long xs row) (cases_Bool (bytes_eq (name_of x.key) (name_of row.key)))
   where
@@ -54,10 +56,12 @@ pub found_by_short : (rows : List OptionRow) (row : OptionRow) (letter : ℕ) �
     → arg_by_short (rules_built rows) letter ≡ Some (option_built row)
 found_by_short [] row letter is stands = absurd (none_some row stands)
 found_by_short (x ∷ xs) row letter is stands =
-    go (found_by_short xs row letter is) (cases_Bool (option_map_or (λ l. l == letter) (letter_of x.key) false)) (cases_Bool (bytes_eq (name_of x.key) (name_of row.key)))
+    go (found_by_short xs row letter is) (cases_Bool (option_map_or (λ l. l == letter) (letter_of x.key) false))
+        (cases_Bool (bytes_eq (name_of x.key) (name_of row.key)))
   where
     go : (Stands xs row → arg_by_short (rules_built xs) letter ≡ Some (option_built row))
-        → (option_map_or (λ l. l == letter) (letter_of x.key) false ≡ true) ⊎ (option_map_or (λ l. l == letter) (letter_of x.key) false ≡ false)
+        → (option_map_or (λ l. l == letter) (letter_of x.key) false ≡ true)
+        ⊎ (option_map_or (λ l. l == letter) (letter_of x.key) false ≡ false)
         → (bytes_eq (name_of x.key) (name_of row.key) ≡ true) ⊎ (bytes_eq (name_of x.key) (name_of row.key) ≡ false)
         → arg_by_short (rules_built (x ∷ xs)) letter ≡ Some (option_built row)
     go rest (inl e) (inl f) = rw e (built_alike x row (rw f at stands))
@@ -66,7 +70,8 @@ found_by_short (x ∷ xs) row letter is stands =
         absurd (true≢false (sym (same_name row.key) ∙ sym (ap (λ k. is_key k row.key) same) ∙ f))
     go rest (inr e) (inl f) =
         let here : option_map_or (λ l. l == letter) (letter_of x.key) false ≡ true =
-        ap (λ k. option_map_or (λ l. l == letter) (letter_of k) false) (same_key x.key row.key f) ∙ ap (λ o. option_map_or (λ l. l == letter) o false) is ∙ eq-eqb letter letter refl in
+        ap (λ k. option_map_or (λ l. l == letter) (letter_of k) false) (same_key x.key row.key f)
+            ∙ ap (λ o. option_map_or (λ l. l == letter) o false) is ∙ eq-eqb letter letter refl in
         absurd (true≢false (sym here ∙ e))
     go rest (inr e) (inr f) = rw e (rest (rw f at stands))
 

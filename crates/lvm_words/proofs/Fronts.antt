@@ -1,5 +1,6 @@
 -- The front of a command line, one pair after another.
-use Rattle.std.proofs.Common.{◌≡◌, ◌≤◌, ◌<◌, ℕ, ◌+◌, ◌-◌, true, false, List, [], ◌∷◌, ◌++◌, length, drop, get_or, Option, Some, None, refl, ap, sym, ◌∙◌, arith, append_assoc}
+use Rattle.std.proofs.Common.{◌≡◌, ◌≤◌, ◌<◌, ℕ, ◌+◌, ◌-◌, true, false, List, [], ◌∷◌, ◌++◌, length, drop, get_or, Option, Some, None, refl,
+    ap, sym, ◌∙◌, arith, append_assoc}
 use Rattle.std.proofs.Math.ListN.{drop_of_length-le}
 use Rattle.std.proofs.lemmas.List.{append-nil}
 use Rattle.std.specs.Prelude.{option_map}
@@ -15,7 +16,8 @@ abbrev pub after_names : List Word → Front → Front
 after_names names front = record front { names = names ++ front.names }
 
 -- the pairs end before a word that isn't `-d`
-ends_before : (word : Word) (rest : List Word) → is_disk_option word ≡ false → front_of (word ∷ rest) ≡ Some (record { names = []; rest = word ∷ rest })
+ends_before : (word : Word) (rest : List Word) → is_disk_option word ≡ false
+    → front_of (word ∷ rest) ≡ Some (record { names = []; rest = word ∷ rest })
 unfolding front_of
 ends_before word [] other = rw other refl
 ends_before word (name ∷ rest) other = rw other refl
@@ -24,7 +26,8 @@ lacks_name : (word : Word) → is_disk_option word ≡ true → front_of (word �
 unfolding front_of
 lacks_name word option = rw option refl
 
-misnamed : (word name : Word) (rest : List Word) → is_disk_option word ≡ true → is_disk_name name ≡ false → front_of (word ∷ name ∷ rest) ≡ None
+misnamed : (word name : Word) (rest : List Word) → is_disk_option word ≡ true → is_disk_name name ≡ false
+    → front_of (word ∷ name ∷ rest) ≡ None
 unfolding front_of
 misnamed word name rest option no_name = rw (option, no_name) refl
 
@@ -37,11 +40,14 @@ one_pair word name rest option is_name = rw (option, is_name) refl
 pub names_more : (names : List Word) (name : Word) (front : Option Front)
     → option_map (after_names names) (option_map (with_name name) front) ≡ option_map (after_names (names ++ name ∷ [])) front
 names_more names name None = refl
-names_more names name (Some front) = ap (λ (l : List Word). Some (record { names = l; rest = front.rest })) (sym (append_assoc names (name ∷ []) front.names))
+names_more names name (Some front) =
+    ap (λ (l : List Word). Some (record { names = l; rest = front.rest })) (sym (append_assoc names (name ∷ []) front.names))
 
 -- the words of a command line from a place on
-module _ {A : Type 0} (words : List (String A)) (at : ℕ) (word : String A) (within : at < length words) (is : word ≡ get_or words at word) where
-  pub ends_at : is_disk_option (string_bytes word) ≡ false → front_of (words_of (drop at words)) ≡ Some (record { names = []; rest = words_of (drop at words) })
+module _ {A : Type 0} (words : List (String A)) (at : ℕ) (word : String A) (within : at < length words) (is : word ≡ get_or words at word)
+    where
+  pub ends_at : is_disk_option (string_bytes word) ≡ false
+      → front_of (words_of (drop at words)) ≡ Some (record { names = []; rest = words_of (drop at words) })
   ends_at other = rw (from_place words at word within is) (ends_before (string_bytes word) (words_of (drop (at + 1) words)) other)
 
   pub lacks_name_at : is_disk_option (string_bytes word) ≡ true → length words - at < 2 → front_of (words_of (drop at words)) ≡ None
@@ -56,14 +62,16 @@ module _ {A : Type 0} (words : List (String A)) (at : ℕ) (word : String A) (wi
         ∙ ap (λ (l : List (String A)). word ∷ l) (from_place words (at + 1) name more name_is)
         ∙ ap (λ (n : ℕ). word ∷ name ∷ drop n words) (omega arith)
 
-    pub misnamed_at : is_disk_option (string_bytes word) ≡ true → is_disk_name (string_bytes name) ≡ false → front_of (words_of (drop at words)) ≡ None
+    pub misnamed_at : is_disk_option (string_bytes word) ≡ true → is_disk_name (string_bytes name) ≡ false
+        → front_of (words_of (drop at words)) ≡ None
     misnamed_at option no_name = rw both (misnamed (string_bytes word) (string_bytes name) (words_of (drop (at + 2) words)) option no_name)
 
     pub pair_at : is_disk_option (string_bytes word) ≡ true → is_disk_name (string_bytes name) ≡ true
         → front_of (words_of (drop at words)) ≡ option_map (with_name (string_bytes name)) (front_of (words_of (drop (at + 2) words)))
     pair_at option is_name = rw both (one_pair (string_bytes word) (string_bytes name) (words_of (drop (at + 2) words)) option is_name)
 
-pub ends_past : {A : Type 0} (words : List (String A)) (at : ℕ) → length words ≤ at → front_of (words_of (drop at words)) ≡ Some (record { names = []; rest = words_of (drop at words) })
+pub ends_past : {A : Type 0} (words : List (String A)) (at : ℕ) → length words ≤ at
+    → front_of (words_of (drop at words)) ≡ Some (record { names = []; rest = words_of (drop at words) })
 unfolding front_of
 ends_past words at past = rw (drop_of_length-le words {i = at} past) refl
 

@@ -16,7 +16,8 @@ named_with front line (Some request) e =
     let is : record { names = front.names; request = request } ≡ line = cc in
     ap (λ (l : CommandLine). Some l.names) is
 
-named_by : (front : Option Front) (line : CommandLine) → option_and_then of_disks front ≡ Some line → option_map (λ (f : Front). f.names) front ≡ Some line.names
+named_by : (front : Option Front) (line : CommandLine) → option_and_then of_disks front ≡ Some line
+    → option_map (λ (f : Front). f.names) front ≡ Some line.names
 named_by None line e = cc
 named_by (Some front) line e = named_with front line (result_ok (meaning_of_words front.rest)) e
 

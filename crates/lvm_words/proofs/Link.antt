@@ -1,5 +1,6 @@
 -- The walk of clap and our reading of the words go side by side.
-use Rattle.std.proofs.Common.{◌≡◌, ◌≢◌, ◌∙◌, ◌<◌, ◌+◌, ℕ, ◌==◌, ◌&&◌, ◌||◌, Bool, not, if◌then◌else◌, true, false, List, [], ◌∷◌, ◌++◌, length, Option, Some, None, refl, ap, ap₂, sym, subst, inl, inr, ◌⊎◌, arith}
+use Rattle.std.proofs.Common.{◌≡◌, ◌≢◌, ◌∙◌, ◌<◌, ◌+◌, ℕ, ◌==◌, ◌&&◌, ◌||◌, Bool, not, if◌then◌else◌, true, false, List, [], ◌∷◌, ◌++◌,
+    length, Option, Some, None, refl, ap, ap₂, sym, subst, inl, inr, ◌⊎◌, arith}
 use Rattle.std.proofs.lemmas.Bool.{and_parts, cases_Bool, ne_eqb, eq-eqb, true≢false}
 use Rattle.std.proofs.lemmas.List.{length_push}
 use Rattle.std.proofs.Math.Nat.{add-zero}
@@ -11,7 +12,8 @@ use Rattle.clap.specs.Faults.{built_fault, check_fault, defaults_fault, entered_
 use Rattle.clap.specs.Kinds.{Kinds, check_kinds, or_else}
 use Rattle.clap.specs.Simple.{App, built, entered, matches_of, names_of}
 use Rattle.clap.specs.Takes.{is_given}
-use Rattle.clap.specs.Walk.{Row, Rule, Text, Walk, all_of, finished, has_row, nothing_held, rows_after, settled, walked, with_default, with_values}
+use Rattle.clap.specs.Walk.{Row, Rule, Text, Walk, all_of, finished, has_row, nothing_held, rows_after, settled, walked, with_default,
+    with_values}
 use Rattle.clap.specs.declared.builder.value_parser.Reading.TheVariants as reading
 use Rattle.clap.specs.declared.error.kind.ErrorKind.TheVariants as kind
 use Rattle.clap.specs.declared.parser.matches.ValueSource.TheVariants.{CommandLine}
@@ -19,14 +21,18 @@ use Rattle.command_table.specs.declared.option_key.OptionKey.{OptionKey}
 use Rattle.command_table.specs.declared.table.OptionRow.{OptionRow}
 use Rattle.command_table.specs.declared.role.Role.TheVariants as role
 use Rattle.command_table.specs.Options.{Word, is_dashed, is_key, name_of, spells}
-use Rattle.command_table.specs.Words.{Split, is_complete, nothing_split, after_role, has_key, role_of, role_of_option, role_of_other, role_of_row, option_named}
-use Rattle.lvm_words.specs.Parser.{Lists, after_split, app_for, is_stray, listed, no_stray, rest_id, row_of_key, split_from, split_of, values_of}
+use Rattle.command_table.specs.Words.{Split, is_complete, nothing_split, after_role, has_key, role_of, role_of_option, role_of_other,
+    role_of_row, option_named}
+use Rattle.lvm_words.specs.Parser.{Lists, after_split, app_for, is_stray, listed, no_stray, rest_id, row_of_key, split_from, split_of,
+    values_of}
 use Rattle.lvm_words.proofs.Find.{rules_are_built, rules_built}
 use Rattle.lvm_words.proofs.Forms.{Form, flag, form, takes}
 use Rattle.lvm_words.proofs.Found.{Stands}
 use Rattle.lvm_words.proofs.Rows.{all_of_other, all_of_same}
 use Rattle.lvm_words.proofs.Spellings.{Spelled, not_the_rest, same_key, same_name, spelled}
-use Rattle.lvm_words.proofs.Steps.{IsFlag, IsListed, Last, Settles, TakesValue, argument, argument_fault, argument_step, at_argument, at_none, at_valued, flag_fault, flag_step, lacks_value, none, option_fault, option_step, rows_with, settles_rows, settles_well, shape_at, value_fault, value_step, valued, waits, walk_at, with_value}
+use Rattle.lvm_words.proofs.Steps.{IsFlag, IsListed, Last, Settles, TakesValue, argument, argument_fault, argument_step, at_argument,
+    at_none, at_valued, flag_fault, flag_step, lacks_value, none, option_fault, option_step, rows_with, settles_rows, settles_well,
+    shape_at, value_fault, value_step, valued, waits, walk_at, with_value}
 
 -- ---- an option that the word names
 
@@ -42,7 +48,8 @@ named : (options : List OptionRow) (word : Word) (row : OptionRow) → option_na
 named [] word row found = absurd (true≢false (sym (ap is_some found)))
 named (x ∷ xs) word row found = go (named xs word row) (cases_Bool (spells x.key word))
   where
-    later : IsNamed xs word row → spells x.key word ≡ false → (is_key x.key row.key ≡ true) ⊎ (is_key x.key row.key ≡ false) → IsNamed (x ∷ xs) word row
+    later : IsNamed xs word row → spells x.key word ≡ false → (is_key x.key row.key ≡ true) ⊎ (is_key x.key row.key ≡ false)
+        → IsNamed (x ∷ xs) word row
     later facts not_this (inl e) =
         let same : x.key ≡ row.key = same_key x.key row.key e in
         absurd (true≢false (sym facts.spells_it ∙ sym (ap (λ k. spells k word) same) ∙ not_this))
@@ -84,7 +91,8 @@ values_other key (pair ∷ rest) k word e = go (values_other key rest k word e) 
     go more (inr f) = rw f more
 
 -- an option has one more value
-lists_option : (options : List OptionRow) (split : Split) (rows : List Row) (row : OptionRow) (word : Word) → Stands options row → Lists options split rows
+lists_option : (options : List OptionRow) (split : Split) (rows : List Row) (row : OptionRow) (word : Word) → Stands options row
+    → Lists options split rows
     → Lists options (record split { given = split.given ++ (row.key, word) ∷ []; waiting = None }) (with_value row word rows)
 lists_option options split rows row word stands lists = record {
   options = λ other. go other (cases_Bool (is_key row.key other));
@@ -96,7 +104,8 @@ lists_option options split rows row word stands lists = record {
         → all_of (name_of other) (with_value row word rows) ≡ listed (values_of other (split.given ++ (row.key, word) ∷ []))
     go other (inl e) =
         let same : name_of row.key ≡ name_of other = (bytes_eq-Decides (name_of row.key) (name_of other)).0 e in
-        subst (λ name. all_of (name_of other) (with_values name reading.AsWritten CommandLine (word ∷ []) rows) ≡ listed (values_of other (split.given ++ (row.key, word) ∷ []))) (sym same)
+        subst (λ name. all_of (name_of other) (with_values name reading.AsWritten CommandLine (word ∷ []) rows)
+            ≡ listed (values_of other (split.given ++ (row.key, word) ∷ []))) (sym same)
         (all_of_same (name_of other) reading.AsWritten CommandLine (word ∷ []) rows
         ∙ ap (λ o. Some (unwrap_or o [] ++ word ∷ [])) (lists.options other)
         ∙ listed_push (values_of other split.given) word
@@ -157,12 +166,14 @@ Lacks split = length split.given + (if is_some split.waiting then 1 else 0) < le
 
 pub data Linked (options : List OptionRow) (split : Split) (walk : Walk) (fault : Kinds) : Type 0 where
   fails : Lacks split → fault ≢ [] → Linked options split walk fault
-  goes_on : (rows : List Row) (last : Last) → walk ≡ walk_at rows last → fault ≡ [] → Matches options split rows last → Linked options split walk fault
+  goes_on : (rows : List Row) (last : Last) → walk ≡ walk_at rows last → fault ≡ [] → Matches options split rows last
+      → Linked options split walk fault
 
 -- the walk after this word, beside the words that were split so
 abbrev After : List OptionRow → Split → List Row → Last → Word → Type 0
 After options split rows last word =
-    Linked options split (walked (rules_built options) [] (walk_at rows last) word) (turn_fault (shape_at options) [] (walk_at rows last) word)
+    Linked options split (walked (rules_built options) [] (walk_at rows last) word)
+        (turn_fault (shape_at options) [] (walk_at rows last) word)
 
 settles : (last : Last) → Settles last ⊎ ((row : OptionRow) × (last ≡ waits row))
 settles none = inl at_none
@@ -184,11 +195,13 @@ abbrev with_flag : Split → OptionRow → Split
 with_flag split row = record split { seen = split.seen ++ row.key ∷ []; given = split.given ++ (row.key, []) ∷ []; waiting = None }
 
 -- an option is met
-option_here : (options : List OptionRow) (split : Split) (rows : List Row) (last : Last) (word : Word) (row : OptionRow) → TakesValue options row
+option_here : (options : List OptionRow) (split : Split) (rows : List Row) (last : Last) (word : Word) (row : OptionRow)
+    → TakesValue options row
     → Spelled row.key word → Matches options split rows last → After options (with_option split row) rows last word
 option_here options split rows last word row here spelling m = go (settles last)
   where
-    stops : (before : OptionRow) → Matches options split rows (waits before) → After options (with_option split row) rows (waits before) word
+    stops : (before : OptionRow) → Matches options split rows (waits before)
+        → After options (with_option split row) rows (waits before) word
     stops before n =
         let is : turn_fault (shape_at options) [] (walk_at rows (waits before)) word ≡ kind.InvalidValue ∷ [] =
         option_fault options row word rows (waits before) spelling here ∙ lacks_value options rows before n.is_listed in
@@ -200,7 +213,8 @@ option_here options split rows last word row here spelling m = go (settles last)
     go (inl s) =
         let now = idle_now options split rows last s m in
         goes_on (rows_with rows last) (waits row)
-        (option_step options row word rows last spelling here ∙ ap (λ r. walk_at r (waits row)) (settles_rows options rows last s m.is_listed))
+        (option_step options row word rows last spelling here
+            ∙ ap (λ r. walk_at r (waits row)) (settles_rows options rows last s m.is_listed))
         (option_fault options row word rows last spelling here ∙ settles_well options rows last s m.is_listed)
         (record {
           waiting = refl;
@@ -208,7 +222,8 @@ option_here options split rows last word row here spelling m = go (settles last)
           lists = record { options = m.lists.options; others = m.lists.others; arguments = m.lists.arguments };
           count = ap (λ n. n + 1) now.1 ∙ sym (length_push split.seen row.key);
         })
-    go (inr waiting) = subst (λ l. Matches options split rows l → After options (with_option split row) rows l word) (sym waiting.1) (stops waiting.0) m
+    go (inr waiting) =
+        subst (λ l. Matches options split rows l → After options (with_option split row) rows l word) (sym waiting.1) (stops waiting.0) m
 
 -- a flag is met
 flag_here : (options : List OptionRow) (split : Split) (rows : List Row) (last : Last) (word : Word) (row : OptionRow) → IsFlag options row
@@ -233,7 +248,8 @@ flag_here options split rows last word row here spelling m = go (settles last)
         let now = idle_now options split rows last s m in
         let lists = lists_option options split (rows_with rows last) row [] here.stands m.lists in
         goes_on (with_value row [] (rows_with rows last)) none
-        (flag_step options row word rows last spelling here ∙ ap (λ r. walk_at (with_value row [] r) none) (settles_rows options rows last s m.is_listed))
+        (flag_step options row word rows last spelling here
+            ∙ ap (λ r. walk_at (with_value row [] r) none) (settles_rows options rows last s m.is_listed))
         (flag_fault options row word rows last spelling here ∙ settles_well options rows last s m.is_listed)
         (record {
           waiting = refl;
@@ -241,7 +257,8 @@ flag_here options split rows last word row here spelling m = go (settles last)
           lists = record { options = lists.options; others = lists.others; arguments = lists.arguments };
           count = add-zero (length (split.given ++ (row.key, []) ∷ [])) ∙ more_given ∙ ap (λ n. n + 1) now.1 ∙ sym more;
         })
-    go (inr waiting) = subst (λ l. Matches options split rows l → After options (with_flag split row) rows l word) (sym waiting.1) (stops waiting.0) m
+    go (inr waiting) =
+        subst (λ l. Matches options split rows l → After options (with_flag split row) rows l word) (sym waiting.1) (stops waiting.0) m
 
 -- a word that is no option
 value_here : (options : List OptionRow) (split : Split) (rows : List Row) (row : OptionRow) (word : Word) → is_dashed word ≡ false
@@ -256,7 +273,8 @@ value_here options split rows row word plain m =
       count = add-zero (length (split.given ++ (row.key, word) ∷ [])) ∙ length_push split.given (row.key, word) ∙ m.count;
     })
 
-argument_here : (options : List OptionRow) (split : Split) (rows : List Row) (last : Last) (word : Word) → Settles last → is_dashed word ≡ false
+argument_here : (options : List OptionRow) (split : Split) (rows : List Row) (last : Last) (word : Word) → Settles last
+    → is_dashed word ≡ false
     → Matches options split rows last → After options (record split { arguments = split.arguments ++ word ∷ [] }) rows last word
 argument_here options split rows last word s plain m =
     let now = idle_now options split rows last s m in
@@ -276,11 +294,14 @@ dashed_word : (options : List OptionRow) (split : Split) (rows : List Row) (last
     → After options (after_role split word (role_of_option split (option_named options word))) rows last word
 dashed_word options split rows last word m = go (option_named options word) refl
   where
-    by_form : (row : OptionRow) → IsNamed options word row → Form row → After options (after_role split word (role_of_row row)) rows last word
+    by_form : (row : OptionRow) → IsNamed options word row → Form row
+        → After options (after_role split word (role_of_row row)) rows last word
     by_form row facts (flag is zero role_is) = subst (λ r. After options (after_role split word r) rows last word) (sym role_is)
-        (flag_here options split rows last word row (record { stands = facts.stands; zero = zero }) (spelled row.key word facts.spells_it) m)
+        (flag_here options split rows last word row (record { stands = facts.stands; zero = zero }) (spelled row.key word facts.spells_it)
+            m)
     by_form row facts (takes one role_is) = subst (λ r. After options (after_role split word r) rows last word) (sym role_is)
-        (option_here options split rows last word row (record { stands = facts.stands; one = one }) (spelled row.key word facts.spells_it) m)
+        (option_here options split rows last word row (record { stands = facts.stands; one = one }) (spelled row.key word facts.spells_it)
+            m)
 
     use_row : (row : OptionRow) → IsNamed options word row → (b : Bool) → not (is_stray (if b then role.Stray else role_of_row row)) ≡ true
         → After options (after_role split word (if b then role.Stray else role_of_row row)) rows last word
@@ -296,19 +317,24 @@ other_word : (options : List OptionRow) (split : Split) (rows : List Row) (last 
     → Matches options split rows last → After options (after_role split word (role_of_other split split.waiting)) rows last word
 other_word options split rows last word plain m = go (settles last)
   where
-    as_value : (row : OptionRow) → Matches options split rows (waits row) → After options (after_role split word (role_of_other split split.waiting)) rows (waits row) word
+    as_value : (row : OptionRow) → Matches options split rows (waits row)
+        → After options (after_role split word (role_of_other split split.waiting)) rows (waits row) word
     as_value row n = subst (λ o. After options (after_role split word (role_of_other split o)) rows (waits row) word) (sym n.waiting)
         (value_here options split rows row word plain n)
 
-    go : Settles last ⊎ ((row : OptionRow) × (last ≡ waits row)) → After options (after_role split word (role_of_other split split.waiting)) rows last word
+    go : Settles last ⊎ ((row : OptionRow) × (last ≡ waits row))
+        → After options (after_role split word (role_of_other split split.waiting)) rows last word
     go (inl s) =
         let is : split.waiting ≡ None = (idle_now options split rows last s m).0 in
-        subst (λ o. After options (after_role split word (role_of_other split o)) rows last word) (sym is) (argument_here options split rows last word s plain m)
-    go (inr waiting) = subst (λ l. Matches options split rows l → After options (after_role split word (role_of_other split split.waiting)) rows l word)
+        subst (λ o. After options (after_role split word (role_of_other split o)) rows last word) (sym is)
+            (argument_here options split rows last word s plain m)
+    go (inr waiting) =
+        subst (λ l. Matches options split rows l → After options (after_role split word (role_of_other split split.waiting)) rows l word)
         (sym waiting.1) (as_value waiting.0) m
 
 one_word : (options : List OptionRow) (split : Split) (rows : List Row) (last : Last) (word : Word)
-    → Matches options split rows last → not (is_stray (role_of options split word)) ≡ true → After options (after_split options split word) rows last word
+    → Matches options split rows last → not (is_stray (role_of options split word)) ≡ true
+    → After options (after_split options split word) rows last word
 one_word options split rows last word m fine = go (cases_Bool (is_dashed word))
   where
     go : (is_dashed word ≡ true) ⊎ (is_dashed word ≡ false) → After options (after_split options split word) rows last word
@@ -316,7 +342,8 @@ one_word options split rows last word m fine = go (cases_Bool (is_dashed word))
     go (inr e) = rw e (other_word options split rows last word e m)
 
 -- what lacks a value stays so
-lacks_role : (split : Split) (word : Word) (waiting : Option OptionRow) → split.waiting ≡ waiting → Lacks split → Lacks (after_role split word (role_of_other split waiting))
+lacks_role : (split : Split) (word : Word) (waiting : Option OptionRow) → split.waiting ≡ waiting → Lacks split
+    → Lacks (after_role split word (role_of_other split waiting))
 lacks_role split word None is lacks =
     let less : length split.given + 0 < length split.seen = rw is at lacks in
     rw is less
@@ -365,14 +392,17 @@ pub linked : (options : List OptionRow) (words : List Word) (split : Split) (row
     (walk_fault (shape_at options) [] (walk_at rows last) words)
 unfolding walk_fault no_stray
 linked options [] split rows last m fine = goes_on rows last refl refl m
-linked options (word ∷ words) split rows last m fine = go (one_word options split rows last word m both.0) (λ r l n. linked options words (after_split options split word) r l n both.1)
+linked options (word ∷ words) split rows last m fine =
+    go (one_word options split rows last word m both.0) (λ r l n. linked options words (after_split options split word) r l n both.1)
   where
     both : (not (is_stray (role_of options split word)) ≡ true) × (no_stray options (after_split options split word) words ≡ true)
     both = and_parts (not (is_stray (role_of options split word))) (no_stray options (after_split options split word) words) fine
 
-    go : Linked options (after_split options split word) (walked (rules_built options) [] (walk_at rows last) word) (turn_fault (shape_at options) [] (walk_at rows last) word)
+    go : Linked options (after_split options split word) (walked (rules_built options) [] (walk_at rows last) word)
+        (turn_fault (shape_at options) [] (walk_at rows last) word)
         → ((r : List Row) (l : Last) → Matches options (after_split options split word) r l
-        → Linked options (split_from options (after_split options split word) words) (fold (walked (rules_built options) []) (walk_at r l) words)
+        → Linked options (split_from options (after_split options split word) words)
+        (fold (walked (rules_built options) []) (walk_at r l) words)
         (walk_fault (shape_at options) [] (walk_at r l) words))
         → Linked options (split_from options (after_split options split word) words)
         (fold (walked (rules_built options) []) (walked (rules_built options) [] (walk_at rows last) word) words)
@@ -383,7 +413,8 @@ linked options (word ∷ words) split rows last m fine = go (one_word options sp
         subst (λ k. Linked options (split_from options (after_split options split word) words)
         (fold (walked (rules_built options) []) (walked (rules_built options) [] (walk_at rows last) word) words)
         (or_else k (walk_fault (shape_at options) [] (walked (rules_built options) [] (walk_at rows last) word) words))) (sym fine_now)
-        (subst (λ w. Linked options (split_from options (after_split options split word) words) (fold (walked (rules_built options) []) w words)
+        (subst (λ w. Linked options (split_from options (after_split options split word) words)
+            (fold (walked (rules_built options) []) w words)
         (walk_fault (shape_at options) [] w words)) (sym is) (rest r l n))
 
 -- ---- the end of the words
@@ -397,15 +428,18 @@ default_none rows id = go (has_row id rows)
 
 no_default : (options : List OptionRow) (rows : List Row) → fold with_default rows (rules_built options) ≡ rows
 no_default [] rows = default_none rows rest_id
-no_default (row ∷ options) rows = ap (λ r. fold with_default r (rules_built options)) (default_none rows (name_of row.key)) ∙ no_default options rows
+no_default (row ∷ options) rows =
+    ap (λ r. fold with_default r (rules_built options)) (default_none rows (name_of row.key)) ∙ no_default options rows
 
 no_default_fault : (options : List OptionRow) (rows : List Row) → defaults_fault rows (rules_built options) ≡ []
 unfolding defaults_fault
 no_default_fault [] rows = rw (or_true (has_row rest_id rows)) refl
 no_default_fault (row ∷ options) rows =
-    rw (or_true (has_row (name_of row.key) rows)) (ap (λ r. defaults_fault r (rules_built options)) (default_none rows (name_of row.key)) ∙ no_default_fault options rows)
+    rw (or_true (has_row (name_of row.key) rows))
+        (ap (λ r. defaults_fault r (rules_built options)) (default_none rows (name_of row.key)) ∙ no_default_fault options rows)
 
-none_required : (options : List OptionRow) (rows : List Row) → list_any (λ (a : Rule). a.required && not (is_given a.id rows)) (rules_built options) ≡ false
+none_required : (options : List OptionRow) (rows : List Row)
+    → list_any (λ (a : Rule). a.required && not (is_given a.id rows)) (rules_built options) ≡ false
 none_required [] rows = refl
 none_required (row ∷ options) rows = none_required options rows
 
@@ -435,49 +469,62 @@ the_walk options words = fold (walked (rules_built options) []) (walk_at [] none
 abbrev the_fault : List OptionRow → List Word → Kinds
 the_fault options words = walk_fault (shape_at options) [] (walk_at [] none) words
 
-fault_is : (options : List OptionRow) (words : List Word) → fault_of (app_for options) words ≡ from_walk options (the_walk options words) (the_fault options words)
+fault_is : (options : List OptionRow) (words : List Word)
+    → fault_of (app_for options) words ≡ from_walk options (the_walk options words) (the_fault options words)
 fault_is options words = ap (λ a. built_fault a nothing_held words) (built_is options)
 
-matches_are : (options : List OptionRow) (words : List Word) → matches_of (app_for options) words ≡ finished (rules_built options) (the_walk options words).held
+matches_are : (options : List OptionRow) (words : List Word)
+    → matches_of (app_for options) words ≡ finished (rules_built options) (the_walk options words).held
 matches_are options words = ap (λ a. rows_after a.top.rules (names_of a) words) (built_is options)
 
-ends_well : (options : List OptionRow) (rows : List Row) (last : Last) → Settles last → IsListed options last → from_walk options (walk_at rows last) [] ≡ []
+ends_well : (options : List OptionRow) (rows : List Row) (last : Last) → Settles last → IsListed options last
+    → from_walk options (walk_at rows last) [] ≡ []
 ends_well options rows last s has =
     ap (λ k. or_else k (or_else (defaults_fault (settled (rules_built options) (walk_at rows last).held).rows (rules_built options))
-    (check_fault (shape_at options) (finished (rules_built options) (walk_at rows last).held) false))) (settles_well options rows last s has)
-    ∙ ap (λ k. or_else k (check_fault (shape_at options) (finished (rules_built options) (walk_at rows last).held) false)) (no_default_fault options _)
+    (check_fault (shape_at options) (finished (rules_built options) (walk_at rows last).held) false)))
+        (settles_well options rows last s has)
+    ∙ ap (λ k. or_else k (check_fault (shape_at options) (finished (rules_built options) (walk_at rows last).held) false))
+    (no_default_fault options _)
     ∙ ap (λ b. check_kinds false false b) (none_required options _)
 
-ends_badly : (options : List OptionRow) (rows : List Row) (row : OptionRow) → TakesValue options row → from_walk options (walk_at rows (waits row)) [] ≡ kind.InvalidValue ∷ []
+ends_badly : (options : List OptionRow) (rows : List Row) (row : OptionRow) → TakesValue options row
+    → from_walk options (walk_at rows (waits row)) [] ≡ kind.InvalidValue ∷ []
 ends_badly options rows row here =
     ap (λ k. or_else k (or_else (defaults_fault (settled (rules_built options) (walk_at rows (waits row)).held).rows (rules_built options))
-    (check_fault (shape_at options) (finished (rules_built options) (walk_at rows (waits row)).held) false))) (lacks_value options rows row here)
+    (check_fault (shape_at options) (finished (rules_built options) (walk_at rows (waits row)).held) false)))
+        (lacks_value options rows row here)
 
 finished_is : (options : List OptionRow) (rows : List Row) (last : Last) → Settles last → IsListed options last
     → finished (rules_built options) (walk_at rows last).held ≡ rows_with rows last
 finished_is options rows last s has = no_default options _ ∙ settles_rows options rows last s has
 
 at_start : (options : List OptionRow) → Matches options nothing_split [] none
-at_start options = record { waiting = refl; is_listed = tt; lists = record { options = λ key. refl; others = λ key none_is. refl; arguments = refl }; count = refl }
+at_start options =
+    record { waiting = refl; is_listed = tt; lists = record { options = λ key. refl; others = λ key none_is. refl; arguments = refl };
+        count = refl }
 
 not_complete : (split : Split) → length split.given < length split.seen → is_complete split ≡ false
 not_complete split less = ne_eqb (length split.seen) (length split.given) (λ e. omega (arith, less, e))
 
-ends_whole : (options : List OptionRow) (words : List Word) (rows : List Row) (last : Last) → Settles last → the_walk options words ≡ walk_at rows last
+ends_whole : (options : List OptionRow) (words : List Word) (rows : List Row) (last : Last) → Settles last
+    → the_walk options words ≡ walk_at rows last
     → the_fault options words ≡ [] → Matches options (split_of options words) rows last → Parsed options words
 ends_whole options words rows last s is fine m =
     let fault : fault_of (app_for options) words ≡ [] =
     fault_is options words ∙ ap₂ (from_walk options) is fine ∙ ends_well options rows last s m.is_listed in
     let complete : is_complete (split_of options words) ≡ true =
-    eq-eqb (length (split_of options words).seen) (length (split_of options words).given) (sym (idle_now options (split_of options words) rows last s m).1) in
+    eq-eqb (length (split_of options words).seen) (length (split_of options words).given)
+        (sym (idle_now options (split_of options words) rows last s m).1) in
     record {
       fails = λ e. absurd (true≢false (sym complete ∙ e));
       passes = λ e. fault;
       lists = λ e. subst (Lists options (split_of options words))
-          (sym (matches_are options words ∙ ap (λ (w : Walk). finished (rules_built options) w.held) is ∙ finished_is options rows last s m.is_listed)) m.lists;
+          (sym (matches_are options words ∙ ap (λ (w : Walk). finished (rules_built options) w.held) is
+              ∙ finished_is options rows last s m.is_listed)) m.lists;
     }
 
-ends_open : (options : List OptionRow) (words : List Word) (rows : List Row) (row : OptionRow) → the_walk options words ≡ walk_at rows (waits row)
+ends_open : (options : List OptionRow) (words : List Word) (rows : List Row) (row : OptionRow)
+    → the_walk options words ≡ walk_at rows (waits row)
     → the_fault options words ≡ [] → Matches options (split_of options words) rows (waits row) → Parsed options words
 ends_open options words rows row is fine m =
     let fault : fault_of (app_for options) words ≡ kind.InvalidValue ∷ [] =
@@ -507,5 +554,6 @@ parsed options words fine = go (linked options words nothing_split [] none (at_s
       where
         by_last : Settles last ⊎ ((row : OptionRow) × (last ≡ waits row)) → Parsed options words
         by_last (inl s) = ends_whole options words rows last s is fine_now m
-        by_last (inr waiting) = subst (λ l. the_walk options words ≡ walk_at rows l → Matches options (split_of options words) rows l → Parsed options words)
+        by_last (inr waiting) =
+            subst (λ l. the_walk options words ≡ walk_at rows l → Matches options (split_of options words) rows l → Parsed options words)
             (sym waiting.1) (λ i n. ends_open options words rows waiting.0 i fine_now n) is m

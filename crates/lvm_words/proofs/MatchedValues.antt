@@ -1,5 +1,6 @@
 -- The value of an option among the matches and among the words.
-use Rattle.std.proofs.Common.{◌≡◌, ◌∙◌, Bool, if◌then◌else◌, true, false, List, [], ◌∷◌, ◌++◌, Option, Some, None, refl, ap, sym, inl, inr, ◌⊎◌}
+use Rattle.std.proofs.Common.{◌≡◌, ◌∙◌, Bool, if◌then◌else◌, true, false, List, [], ◌∷◌, ◌++◌, Option, Some, None, refl, ap, sym, inl, inr,
+    ◌⊎◌}
 use Rattle.std.proofs.lemmas.Bool.{cases_Bool}
 use Rattle.std.proofs.Math.Path.{fun_ext}
 use Rattle.std.specs.Prelude.{is_some, find, option_map, slice_get}
@@ -28,7 +29,8 @@ first_given key (pair ∷ given) = go (first_given key given) (cases_Bool (is_ke
 first_found : (id : Text) (rows : List Row) → first_of id rows ≡ option_and_then (λ values. slice_get values 0) (all_of id rows)
 first_found id rows = go (find (λ (r : Row). bytes_eq r.id id) rows)
   where
-    go : (o : Option Row) → option_and_then (λ (r : Row). slice_get r.values 0) o ≡ option_and_then (λ (values : List Text). slice_get values 0) (option_map (λ (r : Row). r.values) o)
+    go : (o : Option Row) → option_and_then (λ (r : Row). slice_get r.values 0) o
+        ≡ option_and_then (λ (values : List Text). slice_get values 0) (option_map (λ (r : Row). r.values) o)
     go None = refl
     go (Some r) = refl
 
@@ -40,9 +42,11 @@ first_listed (word ∷ words) = refl
 abbrev found_for : List OptionRow → List Row → OptionKey → Option Word
 found_for options rows key = if is_some (row_of_key options key) then first_of (name_of key) rows else None
 
-found_with : (options : List OptionRow) (rows : List Row) (key : OptionKey) → value_in (pairs_of options rows) key ≡ found_for options rows key
+found_with : (options : List OptionRow) (rows : List Row) (key : OptionKey)
+    → value_in (pairs_of options rows) key ≡ found_for options rows key
 found_with [] rows key = refl
-found_with (row ∷ options) rows key = go (found_with options rows key) (first_of (name_of row.key) rows) refl (cases_Bool (is_key row.key key))
+found_with (row ∷ options) rows key =
+    go (found_with options rows key) (first_of (name_of row.key) rows) refl (cases_Bool (is_key row.key key))
   where
     unfound : (b : Bool) (o : Option Word) → o ≡ None → (if b then o else None) ≡ None
     unfound true o e = e
@@ -62,14 +66,17 @@ found_with (row ∷ options) rows key = go (found_with options rows key) (first_
 
 value_alike : (options : List OptionRow) (split : Split) (rows : List Row) → Lists options split rows → (key : OptionKey)
     → value_in (pairs_of options rows) key ≡ value_in split.given key
-value_alike options split rows lists key = found_with options rows key ∙ go (row_of_key options key) refl ∙ sym (first_given key split.given)
+value_alike options split rows lists key =
+    found_with options rows key ∙ go (row_of_key options key) refl ∙ sym (first_given key split.given)
   where
-    go : (o : Option OptionRow) → row_of_key options key ≡ o → (if is_some o then first_of (name_of key) rows else None) ≡ slice_get (values_of key split.given) 0
+    go : (o : Option OptionRow) → row_of_key options key ≡ o
+        → (if is_some o then first_of (name_of key) rows else None) ≡ slice_get (values_of key split.given) 0
     go None is = ap (λ words. slice_get words 0) (sym (lists.others key is))
     go (Some row) is =
         first_found (name_of key) rows
         ∙ ap (option_and_then (λ (values : List Word). slice_get values 0)) (lists.options key)
         ∙ first_listed (values_of key split.given)
 
-pub given_alike : (options : List OptionRow) (split : Split) (rows : List Row) → Lists options split rows → value_in (pairs_of options rows) ≡ value_in split.given
+pub given_alike : (options : List OptionRow) (split : Split) (rows : List Row) → Lists options split rows
+    → value_in (pairs_of options rows) ≡ value_in split.given
 given_alike options split rows lists = fun_ext (value_alike options split rows lists)

@@ -20,16 +20,19 @@ module _ (options : List OptionRow) (words : List Word) (p : Parsed options word
   complete_where_none : fault_of (app_for options) words ≡ [] → is_complete (split_of options words) ≡ true
   complete_where_none none = go (cases_Bool (is_complete (split_of options words)))
     where
-      go : (is_complete (split_of options words) ≡ true) ⊎ (is_complete (split_of options words) ≡ false) → is_complete (split_of options words) ≡ true
+      go : (is_complete (split_of options words) ≡ true) ⊎ (is_complete (split_of options words) ≡ false)
+          → is_complete (split_of options words) ≡ true
       go (inl e) = e
       go (inr e) = absurd (p.fails e none)
 
-  pub complete_on_ok : {T : Type 0} (r : Result T Error) → FailsBy (fault_of (app_for options) words) r → OnOk r (is_complete (split_of options words) ≡ true)
+  pub complete_on_ok : {T : Type 0} (r : Result T Error) → FailsBy (fault_of (app_for options) words) r
+      → OnOk r (is_complete (split_of options words) ≡ true)
   complete_on_ok (Ok m) none = complete_where_none none
   complete_on_ok (Err e) has = tt
 
   pub lists_on_ok : (r : Result ArgMatches Error) → FailsBy (fault_of (app_for options) words) r
-      → IfOk r (λ m. rows_of (found_of m) ≡ matches_of (app_for options) words) → IfOk r (λ m. Lists options (split_of options words) (rows_of (found_of m)))
+      → IfOk r (λ m. rows_of (found_of m) ≡ matches_of (app_for options) words)
+      → IfOk r (λ m. Lists options (split_of options words) (rows_of (found_of m)))
   lists_on_ok (Ok m) none is = subst (Lists options (split_of options words)) (sym is) (p.lists (complete_where_none none))
   lists_on_ok (Err e) has is = tt
 
@@ -39,7 +42,8 @@ module _ (options : List OptionRow) (words : List Word) (p : Parsed options word
   lacks_on_err (Err e) has = λ other. go other has (cases_Bool (is_complete (split_of options words)))
     where
       go : kind_of e ≢ kind.OutOfMemory → HasKind (fault_of (app_for options) words) e
-          → (is_complete (split_of options words) ≡ true) ⊎ (is_complete (split_of options words) ≡ false) → is_complete (split_of options words) ≡ false
+          → (is_complete (split_of options words) ≡ true) ⊎ (is_complete (split_of options words) ≡ false)
+          → is_complete (split_of options words) ≡ false
       go other kinds (inr no_value) = no_value
       go other (inl memory) (inl yes_all) = absurd (other memory)
       go other (inr among) (inl yes_all) = absurd (subst (IsAmong (kind_of e)) (p.passes yes_all) among)

@@ -45,14 +45,16 @@ exchange false b c d = refl
 
 all_both : (p q : OptionRow → Bool) (rows : List OptionRow) → list_all (λ row. p row && q row) rows ≡ (list_all p rows && list_all q rows)
 all_both p q [] = refl
-all_both p q (row ∷ rows) = ap (λ b. (p row && q row) && b) (all_both p q rows) ∙ exchange (p row) (q row) (list_all p rows) (list_all q rows)
+all_both p q (row ∷ rows) =
+    ap (λ b. (p row && q row) && b) (all_both p q rows) ∙ exchange (p row) (q row) (list_all p rows) (list_all q rows)
 
 all_true : (rows : List OptionRow) → list_all (λ (row : OptionRow). true) rows ≡ true
 all_true [] = refl
 all_true (row ∷ rows) = all_true rows
 
 -- no other option of the list has the key
-others_pass : (pair : OptionKey × Word) (rows : List OptionRow) → list_any (λ (row : OptionRow). is_key pair.0 row.key) rows ≡ false → list_all (pair_passes pair) rows ≡ true
+others_pass : (pair : OptionKey × Word) (rows : List OptionRow) → list_any (λ (row : OptionRow). is_key pair.0 row.key) rows ≡ false
+    → list_all (pair_passes pair) rows ≡ true
 others_pass pair [] none = refl
 others_pass pair (row ∷ rows) none = go (others_pass pair rows) (cases_Bool (is_key pair.0 row.key))
   where
@@ -61,7 +63,8 @@ others_pass pair (row ∷ rows) none = go (others_pass pair rows) (cases_Bool (i
     go rest (inl e) = absurd (true≢false (rw e at none))
     go rest (inr e) = rw e (rest (rw e at none))
 
-pair_alike : (pair : OptionKey × Word) (rows : List OptionRow) → distinct rows ≡ true → list_all (pair_passes pair) rows ≡ given_passes rows pair
+pair_alike : (pair : OptionKey × Word) (rows : List OptionRow) → distinct rows ≡ true
+    → list_all (pair_passes pair) rows ≡ given_passes rows pair
 unfolding distinct
 pair_alike pair [] apart = refl
 pair_alike pair (row ∷ rows) apart = go (pair_alike pair rows both.1) (cases_Bool (is_key pair.0 row.key))
@@ -74,13 +77,15 @@ pair_alike pair (row ∷ rows) apart = go (pair_alike pair rows both.1) (cases_B
     go rest (inl e) =
         let back : is_key row.key pair.0 ≡ true = key_either_way row.key pair.0 ∙ e in
         let none : list_any (λ (r : OptionRow). is_key pair.0 r.key) rows ≡ false =
-        ap (λ k. list_any (λ (r : OptionRow). is_key k r.key) rows) (same_key pair.0 row.key e) ∙ not-true (list_any (λ (r : OptionRow). is_key row.key r.key) rows) both.0 in
+        ap (λ k. list_any (λ (r : OptionRow). is_key k r.key) rows) (same_key pair.0 row.key e)
+            ∙ not-true (list_any (λ (r : OptionRow). is_key row.key r.key) rows) both.0 in
         rw (e, back) (ap (λ b. value_passes row.kind pair.1 && b) (others_pass pair rows none) ∙ and-true (value_passes row.kind pair.1))
     go rest (inr e) =
         let back : is_key row.key pair.0 ≡ false = key_either_way row.key pair.0 ∙ e in
         rw (e, back) rest
 
-pub rows_pass : (rows : List OptionRow) (given : List (OptionKey × Word)) → distinct rows ≡ true → list_all (row_passes given) rows ≡ list_all (given_passes rows) given
+pub rows_pass : (rows : List OptionRow) (given : List (OptionKey × Word)) → distinct rows ≡ true
+    → list_all (row_passes given) rows ≡ list_all (given_passes rows) given
 rows_pass rows [] apart = all_true rows
 rows_pass rows (pair ∷ given) apart =
     ap (λ p. list_all p rows) (fun_ext (λ row. one_more pair given row))

@@ -1,5 +1,6 @@
 -- What clap's matches ask for is what the words mean.
-use Rattle.std.proofs.Common.{◌≡◌, ◌∙◌, ◌+◌, ℕ, ◌&&◌, Bool, if◌then◌else◌, true, false, List, [], ◌∷◌, length, Option, Some, None, Result, Ok, Err, refl, ap, ap₂, sym, inl, inr, ◌⊎◌}
+use Rattle.std.proofs.Common.{◌≡◌, ◌∙◌, ◌+◌, ℕ, ◌&&◌, Bool, if◌then◌else◌, true, false, List, [], ◌∷◌, length, Option, Some, None, Result,
+    Ok, Err, refl, ap, ap₂, sym, inl, inr, ◌⊎◌}
 use Rattle.std.proofs.lemmas.Bool.{cases_Bool, true≢false}
 use Rattle.std.proofs.Math.Path.{fun_ext}
 use Rattle.std.specs.Prelude.{is_some, unwrap_or}
@@ -19,7 +20,8 @@ use Rattle.command_table.specs.Meaning.{at_place, meaning_with, request_by_name,
 use Rattle.command_table.specs.Options.{Word}
 use Rattle.command_table.specs.Table.{is_for_words, options_of}
 use Rattle.command_table.specs.Words.{Split, is_complete, nothing_split, numbered_from, read}
-use Rattle.lvm_words.specs.Parser.{Lists, arguments_in, arguments_pass, listed, no_stray, pairs_of, request_found, split_of, value_passes, values_of, values_pass}
+use Rattle.lvm_words.specs.Parser.{Lists, arguments_in, arguments_pass, listed, no_stray, pairs_of, request_found, split_of, value_passes,
+    values_of, values_pass}
 use Rattle.lvm_words.proofs.FaultFree.{all_pass, bare, distinct_options, fault_free, given_passes, split_read}
 use Rattle.lvm_words.proofs.MatchedValues.{given_alike}
 use Rattle.lvm_words.proofs.Passing.{row_passes, rows_pass}
@@ -47,7 +49,8 @@ fault_or_not None = refl
 fault_or_not (Some fault) = refl
 
 -- a word strays
-pub strays_mean_nothing : (name : CommandName) (words : List Word) (fine : Bool) → fine ≡ no_stray (options_of name) nothing_split words → fine ≡ false → None ≡ asked name words
+pub strays_mean_nothing : (name : CommandName) (words : List Word) (fine : Bool) → fine ≡ no_stray (options_of name) nothing_split words
+    → fine ≡ false → None ≡ asked name words
 strays_mean_nothing name words fine is off = go (read name (numbered_from 1 words)).fault refl
   where
     go : (fault : Option (Fault × ℕ)) → (read name (numbered_from 1 words)).fault ≡ fault
@@ -59,7 +62,8 @@ strays_mean_nothing name words fine is off = go (read name (numbered_from 1 word
         absurd (true≢false (sym yes ∙ sym is ∙ off))
 
 -- an option lacks its value
-pub open_means_nothing : (name : CommandName) (words : List Word) → is_complete (split_of (options_of name) words) ≡ false → None ≡ asked name words
+pub open_means_nothing : (name : CommandName) (words : List Word) → is_complete (split_of (options_of name) words) ≡ false
+    → None ≡ asked name words
 open_means_nothing name words open_is =
     let none : request_of name (split_of (options_of name) words) ≡ None = rw open_is refl in
     sym (ap (λ split. result_ok (meaning_with (read name (numbered_from 1 words)).fault (request_of name split))) (split_is name words)
@@ -71,27 +75,33 @@ result_of None = refl
 result_of (Some request) = refl
 
 -- no word strays, and no option lacks its value
-fine_words : (name : CommandName) (words : List Word) → no_stray (options_of name) nothing_split words ≡ true → is_complete (split_of (options_of name) words) ≡ true
+fine_words : (name : CommandName) (words : List Word) → no_stray (options_of name) nothing_split words ≡ true
+    → is_complete (split_of (options_of name) words) ≡ true
     → asked name words ≡ (if all_pass name (split_of (options_of name) words)
     then request_by_name name (value_in (split_of (options_of name) words).given) (split_of (options_of name) words).arguments else None)
-fine_words name words fine complete = go (cases_Bool (all_pass name (split_of (options_of name) words))) (read name (numbered_from 1 words)).fault refl
+fine_words name words fine complete =
+    go (cases_Bool (all_pass name (split_of (options_of name) words))) (read name (numbered_from 1 words)).fault refl
   where
     same : bare (numbered_from 1 words) ≡ words
     same = bare_numbered 1 words
 
-    whole : request_of name (read name (numbered_from 1 words)).split ≡ request_by_name name (value_in (split_of (options_of name) words).given) (split_of (options_of name) words).arguments
+    whole : request_of name (read name (numbered_from 1 words)).split
+        ≡ request_by_name name (value_in (split_of (options_of name) words).given) (split_of (options_of name) words).arguments
     whole = ap (request_of name) (split_is name words) ∙ rw complete refl
 
     go : (all_pass name (split_of (options_of name) words) ≡ true) ⊎ (all_pass name (split_of (options_of name) words) ≡ false)
         → (fault : Option (Fault × ℕ)) → (read name (numbered_from 1 words)).fault ≡ fault
         → result_ok (meaning_with fault (request_of name (read name (numbered_from 1 words)).split))
         ≡ (if all_pass name (split_of (options_of name) words)
-        then request_by_name name (value_in (split_of (options_of name) words).given) (split_of (options_of name) words).arguments else None)
+        then request_by_name name (value_in (split_of (options_of name) words).given) (split_of (options_of name) words).arguments
+            else None)
     go (inl e) None is = rw e (result_of _ ∙ whole)
     go (inr e) (Some fault) is = rw e refl
     go (inl e) (Some fault) is =
         let none : (read name (numbered_from 1 words)).fault ≡ None =
-        (fault_free name (numbered_from 1 words)).1 (ap (no_stray (options_of name) nothing_split) same ∙ fine, ap (λ ws. all_pass name (split_of (options_of name) ws)) same ∙ e) in
+        (fault_free name (numbered_from 1 words)).1
+            (ap (no_stray (options_of name) nothing_split) same ∙ fine,
+            ap (λ ws. all_pass name (split_of (options_of name) ws)) same ∙ e) in
         absurd (true≢false (ap is_some (sym is ∙ none)))
     go (inr e) None is =
         let passes : all_pass name (split_of (options_of name) words) ≡ true =
@@ -104,25 +114,31 @@ all_listed : (p : Word → Bool) (words : List Word) → option_map_or (list_all
 all_listed p [] = refl
 all_listed p (word ∷ words) = refl
 
-row_alike : (options : List OptionRow) (split : Split) (rows : List Row) → Lists options split rows → (row : OptionRow) → values_pass rows row ≡ row_passes split.given row
+row_alike : (options : List OptionRow) (split : Split) (rows : List Row) → Lists options split rows → (row : OptionRow)
+    → values_pass rows row ≡ row_passes split.given row
 row_alike options split rows lists row =
-    ap (λ o. option_map_or (list_all (value_passes row.kind)) o true) (lists.options row.key) ∙ all_listed (value_passes row.kind) (values_of row.key split.given)
+    ap (λ o. option_map_or (list_all (value_passes row.kind)) o true) (lists.options row.key)
+        ∙ all_listed (value_passes row.kind) (values_of row.key split.given)
 
 arguments_are : (words : List Word) → unwrap_or (listed words) [] ≡ words
 arguments_are [] = refl
 arguments_are (word ∷ words) = refl
 
 pub matches_ask : (name : CommandName) (words : List Word) (rows : List Row) → no_stray (options_of name) nothing_split words ≡ true
-    → is_complete (split_of (options_of name) words) ≡ true → Lists (options_of name) (split_of (options_of name) words) rows → request_found name rows ≡ asked name words
+    → is_complete (split_of (options_of name) words) ≡ true → Lists (options_of name) (split_of (options_of name) words) rows
+    → request_found name rows ≡ asked name words
 matches_ask name words rows fine complete lists =
-    ap₂ (λ a ws. if a && arguments_pass name 0 ws then request_by_name name (value_in (pairs_of (options_of name) rows)) ws else None) passes arguments
-    ∙ ap (λ given. if all_pass name split then request_by_name name given split.arguments else None) (given_alike (options_of name) split rows lists)
+    ap₂ (λ a ws. if a && arguments_pass name 0 ws then request_by_name name (value_in (pairs_of (options_of name) rows)) ws else None)
+        passes arguments
+    ∙ ap (λ given. if all_pass name split then request_by_name name given split.arguments else None)
+    (given_alike (options_of name) split rows lists)
     ∙ sym (fine_words name words fine complete)
   where
     split : Split
     split = split_of (options_of name) words
 
-    passes : list_all (values_pass rows) (options_of name) ≡ list_all (given_passes (options_of name)) (split_of (options_of name) words).given
+    passes : list_all (values_pass rows) (options_of name)
+        ≡ list_all (given_passes (options_of name)) (split_of (options_of name) words).given
     passes = ap (λ p. list_all p (options_of name)) (fun_ext (row_alike (options_of name) (split_of (options_of name) words) rows lists))
         ∙ rows_pass (options_of name) (split_of (options_of name) words).given (distinct_options name)
 
@@ -131,15 +147,19 @@ matches_ask name words rows fine complete lists =
 
 -- ---- the calls
 
-pub request_alike : (name : CommandName) (rows : List Row) (pairs : List (OptionKey × Word)) (words : List Word) → pairs ≡ pairs_of (options_of name) rows
+pub request_alike : (name : CommandName) (rows : List Row) (pairs : List (OptionKey × Word)) (words : List Word)
+    → pairs ≡ pairs_of (options_of name) rows
     → words ≡ arguments_in rows → list_all (values_pass rows) (options_of name) ≡ true → arguments_pass name 0 words ≡ true
     → request_by_name name (value_in pairs) words ≡ request_found name rows
 request_alike name rows pairs words same_pairs same_words options_fine words_fine =
     let fine : arguments_pass name 0 (arguments_in rows) ≡ true = ap (arguments_pass name 0) (sym same_words) ∙ words_fine in
     ap₂ (λ ps ws. request_by_name name (value_in ps) ws) same_pairs same_words
-    ∙ sym (ap₂ (λ a b. if a && b then request_by_name name (value_in (pairs_of (options_of name) rows)) (arguments_in rows) else None) options_fine fine)
+    ∙ sym (ap₂ (λ a b. if a && b then request_by_name name (value_in (pairs_of (options_of name) rows)) (arguments_in rows) else None)
+    options_fine fine)
 
-pub named_words : (name : CommandName) (words : List Word) → is_for_words name ≡ true → asked name words ≡ result_ok (request_named (Some name) words)
+pub named_words : (name : CommandName) (words : List Word) → is_for_words name ≡ true
+    → asked name words ≡ result_ok (request_named (Some name) words)
 named_words name words stands =
     at_any_place (length words + 1) (request_read name (read name (numbered_from 1 words)))
-    ∙ sym (ap (λ b. result_ok (if b then at_place (length words + 1) (request_read name (read name (numbered_from 1 words))) else Err (fault.NotHere, 0))) stands)
+    ∙ sym (ap (λ b. result_ok (if b then at_place (length words + 1) (request_read name (read name (numbered_from 1 words))) else Err
+    (fault.NotHere, 0))) stands)

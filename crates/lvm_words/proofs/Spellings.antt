@@ -8,7 +8,8 @@ use Rattle.std.specs.Str.{bytes_eq, chars}
 use Rattle.clap.specs.Lexer.{long_of, short_of}
 use Rattle.clap.proofs.OnLiterals.{clap_on_literals}
 use Rattle.command_table.specs.declared.option_key.OptionKey.{OptionKey}
-use Rattle.command_table.specs.declared.option_key.OptionKey.TheVariants.{Abort, Alloc, Extents, MetadataCopies, Mirrors, Name, PhysicalExtentSize, Size, Stripes, StripeSize, Workers}
+use Rattle.command_table.specs.declared.option_key.OptionKey.TheVariants.{Abort, Alloc, Extents, MetadataCopies, Mirrors, Name,
+    PhysicalExtentSize, Size, Stripes, StripeSize, Workers}
 use Rattle.command_table.specs.Options.{Word, is_key, letter_of, name_of, spells}
 use Rattle.lvm_words.specs.Parser.{rest_id}
 
@@ -126,11 +127,14 @@ some_is : (a b : ℕ) → Some a ≡ Some b → a ≡ b
 some_is a b e = ap (λ o. unwrap_or o 0) e
 
 abbrev At : ℕ → Type 0
-At letter = (long_of (45 ∷ letter ∷ []) ≡ None) × (short_of (45 ∷ letter ∷ []) ≡ Some (letter ∷ [])) × (bytes_eq (45 ∷ letter ∷ []) (45 ∷ 45 ∷ []) ≡ false)
+At letter =
+    (long_of (45 ∷ letter ∷ []) ≡ None) × (short_of (45 ∷ letter ∷ []) ≡ Some (letter ∷ []))
+        × (bytes_eq (45 ∷ letter ∷ []) (45 ∷ 45 ∷ []) ≡ false)
     × (slice_get (chars (letter ∷ [])) 0 ≡ Some letter) × (drop (length (encode_utf8 letter)) (letter ∷ []) ≡ [])
 
 pub short_word_of : (key : OptionKey) (letter : ℕ) → letter_of key ≡ Some letter
-    → (long_of (45 ∷ letter ∷ []) ≡ None) × (short_of (45 ∷ letter ∷ []) ≡ Some (letter ∷ [])) × (bytes_eq (45 ∷ letter ∷ []) (45 ∷ 45 ∷ []) ≡ false)
+    → (long_of (45 ∷ letter ∷ []) ≡ None) × (short_of (45 ∷ letter ∷ []) ≡ Some (letter ∷ []))
+    × (bytes_eq (45 ∷ letter ∷ []) (45 ∷ 45 ∷ []) ≡ false)
     × (slice_get (chars (letter ∷ [])) 0 ≡ Some letter) × (drop (length (encode_utf8 letter)) (letter ∷ []) ≡ [])
 unfolding clap_on_literals
 short_word_of Abort letter e = absurd (true≢false (sym (ap is_some e)))
@@ -147,7 +151,9 @@ short_word_of Workers letter e = absurd (true≢false (sym (ap is_some e)))
 
 -- ---- what a word that spells an option is
 
-spelled_from : (key : OptionKey) (word : Word) → (bytes_eq (45 ∷ 45 ∷ name_of key) word ≡ true) ⊎ (option_map_or (λ letter. bytes_eq (45 ∷ letter ∷ []) word) (letter_of key) false ≡ true)
+spelled_from : (key : OptionKey) (word : Word)
+    → (bytes_eq (45 ∷ 45 ∷ name_of key) word ≡ true)
+    ⊎ (option_map_or (λ letter. bytes_eq (45 ∷ letter ∷ []) word) (letter_of key) false ≡ true)
     → Spelled key word
 spelled_from key word (inl e) = subst (Spelled key) ((bytes_eq-Decides (45 ∷ 45 ∷ name_of key) word).0 e) long
 spelled_from key word (inr e) = go (letter_of key) refl e

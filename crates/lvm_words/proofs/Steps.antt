@@ -7,7 +7,8 @@ use Rattle.clap.specs.Lexer.{long_of, short_of}
 use Rattle.clap.specs.Faults.{flags_fault, settle_fault, turn_fault}
 use Rattle.clap.specs.Kinds.{Kinds, or_else}
 use Rattle.clap.specs.Simple.{Shape, new_shape}
-use Rattle.clap.specs.Walk.{Row, Text, Waiting, Walk, bundle_met, idle, option, positional, settled_rows, subcommand_met, walked, with_values}
+use Rattle.clap.specs.Walk.{Row, Text, Waiting, Walk, bundle_met, idle, option, positional, settled_rows, subcommand_met, walked,
+    with_values}
 use Rattle.clap.specs.declared.builder.value_parser.Reading.TheVariants as reading
 use Rattle.clap.specs.declared.error.kind.ErrorKind.TheVariants as kind
 use Rattle.clap.specs.declared.parser.matches.ValueSource.TheVariants.{CommandLine}
@@ -105,18 +106,23 @@ long_step : (options : List OptionRow) (row : OptionRow) (rows : List Row) (last
     ≡ walk_at (settled_rows (rules_built options) (pending_for last) rows) (waits row)
 unfolding walked
 long_step options row rows last takes =
-    rw (no_subcommand (waiting_for last) (45 ∷ 45 ∷ name_of row.key), not_only_hyphens row.key, long_word_of row.key, found_by_long options row takes.stands, takes.one) refl
+    rw (no_subcommand (waiting_for last) (45 ∷ 45 ∷ name_of row.key), not_only_hyphens row.key, long_word_of row.key,
+        found_by_long options row takes.stands, takes.one) refl
 
-short_step : (options : List OptionRow) (row : OptionRow) (letter : ℕ) (rows : List Row) (last : Last) → letter_of row.key ≡ Some letter → TakesValue options row
+short_step : (options : List OptionRow) (row : OptionRow) (letter : ℕ) (rows : List Row) (last : Last) → letter_of row.key ≡ Some letter
+    → TakesValue options row
     → walked (rules_built options) [] (walk_at rows last) (45 ∷ letter ∷ [])
     ≡ walk_at (settled_rows (rules_built options) (pending_for last) rows) (waits row)
 unfolding walked bundle_met
 short_step options row letter rows last is takes =
     let facts = short_word_of row.key letter is in
-    rw (no_subcommand (waiting_for last) (45 ∷ letter ∷ []), facts.2, facts.0, facts.1, facts.3, facts.4, found_by_short options row letter is takes.stands, takes.one) refl
+    rw (no_subcommand (waiting_for last) (45 ∷ letter ∷ []), facts.2, facts.0, facts.1, facts.3, facts.4,
+        found_by_short options row letter is takes.stands, takes.one) refl
 
-pub option_step : (options : List OptionRow) (row : OptionRow) (word : Word) (rows : List Row) (last : Last) → Spelled row.key word → TakesValue options row
-    → walked (rules_built options) [] (walk_at rows last) word ≡ walk_at (settled_rows (rules_built options) (pending_for last) rows) (waits row)
+pub option_step : (options : List OptionRow) (row : OptionRow) (word : Word) (rows : List Row) (last : Last) → Spelled row.key word
+    → TakesValue options row
+    → walked (rules_built options) [] (walk_at rows last) word
+    ≡ walk_at (settled_rows (rules_built options) (pending_for last) rows) (waits row)
 option_step options row _ rows last long takes = long_step options row rows last takes
 option_step options row _ rows last (short letter is) takes = short_step options row letter rows last is takes
 
@@ -124,18 +130,22 @@ option_step options row _ rows last (short letter is) takes = short_step options
 long_fault : (options : List OptionRow) (row : OptionRow) (rows : List Row) (last : Last) → TakesValue options row
     → turn_fault (shape_at options) [] (walk_at rows last) (45 ∷ 45 ∷ name_of row.key) ≡ last_fault options rows last
 long_fault options row rows last takes =
-    rw (no_subcommand (waiting_for last) (45 ∷ 45 ∷ name_of row.key), not_only_hyphens row.key, long_word_of row.key, found_by_long options row takes.stands, takes.one)
+    rw (no_subcommand (waiting_for last) (45 ∷ 45 ∷ name_of row.key), not_only_hyphens row.key, long_word_of row.key,
+        found_by_long options row takes.stands, takes.one)
     (or_none (last_fault options rows last))
 
-short_fault : (options : List OptionRow) (row : OptionRow) (letter : ℕ) (rows : List Row) (last : Last) → letter_of row.key ≡ Some letter → TakesValue options row
+short_fault : (options : List OptionRow) (row : OptionRow) (letter : ℕ) (rows : List Row) (last : Last) → letter_of row.key ≡ Some letter
+    → TakesValue options row
     → turn_fault (shape_at options) [] (walk_at rows last) (45 ∷ letter ∷ []) ≡ last_fault options rows last
 unfolding bundle_met flags_fault
 short_fault options row letter rows last is takes =
     let facts = short_word_of row.key letter is in
-    rw (no_subcommand (waiting_for last) (45 ∷ letter ∷ []), facts.2, facts.0, facts.1, facts.3, facts.4, found_by_short options row letter is takes.stands, takes.one)
+    rw (no_subcommand (waiting_for last) (45 ∷ letter ∷ []), facts.2, facts.0, facts.1, facts.3, facts.4,
+        found_by_short options row letter is takes.stands, takes.one)
     (or_none (last_fault options rows last))
 
-pub option_fault : (options : List OptionRow) (row : OptionRow) (word : Word) (rows : List Row) (last : Last) → Spelled row.key word → TakesValue options row
+pub option_fault : (options : List OptionRow) (row : OptionRow) (word : Word) (rows : List Row) (last : Last) → Spelled row.key word
+    → TakesValue options row
     → turn_fault (shape_at options) [] (walk_at rows last) word ≡ last_fault options rows last
 option_fault options row _ rows last long takes = long_fault options row rows last takes
 option_fault options row _ rows last (short letter is) takes = short_fault options row letter rows last is takes
@@ -147,18 +157,23 @@ long_flag : (options : List OptionRow) (row : OptionRow) (rows : List Row) (last
     ≡ walk_at (with_value row [] (settled_rows (rules_built options) (pending_for last) rows)) none
 unfolding walked
 long_flag options row rows last flag =
-    rw (no_subcommand (waiting_for last) (45 ∷ 45 ∷ name_of row.key), not_only_hyphens row.key, long_word_of row.key, found_by_long options row flag.stands, flag.zero) refl
+    rw (no_subcommand (waiting_for last) (45 ∷ 45 ∷ name_of row.key), not_only_hyphens row.key, long_word_of row.key,
+        found_by_long options row flag.stands, flag.zero) refl
 
-short_flag : (options : List OptionRow) (row : OptionRow) (letter : ℕ) (rows : List Row) (last : Last) → letter_of row.key ≡ Some letter → IsFlag options row
+short_flag : (options : List OptionRow) (row : OptionRow) (letter : ℕ) (rows : List Row) (last : Last) → letter_of row.key ≡ Some letter
+    → IsFlag options row
     → walked (rules_built options) [] (walk_at rows last) (45 ∷ letter ∷ [])
     ≡ walk_at (with_value row [] (settled_rows (rules_built options) (pending_for last) rows)) none
 unfolding walked bundle_met
 short_flag options row letter rows last is flag =
     let facts = short_word_of row.key letter is in
-    rw (no_subcommand (waiting_for last) (45 ∷ letter ∷ []), facts.2, facts.0, facts.1, facts.3, facts.4, found_by_short options row letter is flag.stands, flag.zero) refl
+    rw (no_subcommand (waiting_for last) (45 ∷ letter ∷ []), facts.2, facts.0, facts.1, facts.3, facts.4,
+        found_by_short options row letter is flag.stands, flag.zero) refl
 
-pub flag_step : (options : List OptionRow) (row : OptionRow) (word : Word) (rows : List Row) (last : Last) → Spelled row.key word → IsFlag options row
-    → walked (rules_built options) [] (walk_at rows last) word ≡ walk_at (with_value row [] (settled_rows (rules_built options) (pending_for last) rows)) none
+pub flag_step : (options : List OptionRow) (row : OptionRow) (word : Word) (rows : List Row) (last : Last) → Spelled row.key word
+    → IsFlag options row
+    → walked (rules_built options) [] (walk_at rows last) word
+    ≡ walk_at (with_value row [] (settled_rows (rules_built options) (pending_for last) rows)) none
 flag_step options row _ rows last long flag = long_flag options row rows last flag
 flag_step options row _ rows last (short letter is) flag = short_flag options row letter rows last is flag
 
@@ -166,25 +181,31 @@ flag_step options row _ rows last (short letter is) flag = short_flag options ro
 long_flag_fault : (options : List OptionRow) (row : OptionRow) (rows : List Row) (last : Last) → IsFlag options row
     → turn_fault (shape_at options) [] (walk_at rows last) (45 ∷ 45 ∷ name_of row.key) ≡ last_fault options rows last
 long_flag_fault options row rows last flag =
-    rw (no_subcommand (waiting_for last) (45 ∷ 45 ∷ name_of row.key), not_only_hyphens row.key, long_word_of row.key, found_by_long options row flag.stands, flag.zero)
+    rw (no_subcommand (waiting_for last) (45 ∷ 45 ∷ name_of row.key), not_only_hyphens row.key, long_word_of row.key,
+        found_by_long options row flag.stands, flag.zero)
     (or_none (or_else (last_fault options rows last) []) ∙ or_none (last_fault options rows last))
 
-short_flag_fault : (options : List OptionRow) (row : OptionRow) (letter : ℕ) (rows : List Row) (last : Last) → letter_of row.key ≡ Some letter → IsFlag options row
+short_flag_fault : (options : List OptionRow) (row : OptionRow) (letter : ℕ) (rows : List Row) (last : Last)
+    → letter_of row.key ≡ Some letter → IsFlag options row
     → turn_fault (shape_at options) [] (walk_at rows last) (45 ∷ letter ∷ []) ≡ last_fault options rows last
 unfolding bundle_met flags_fault
 short_flag_fault options row letter rows last is flag =
     let facts = short_word_of row.key letter is in
-    rw (no_subcommand (waiting_for last) (45 ∷ letter ∷ []), facts.2, facts.0, facts.1, facts.3, facts.4, found_by_short options row letter is flag.stands, flag.zero)
-    (or_none (or_else (or_else (last_fault options rows last) []) []) ∙ or_none (or_else (last_fault options rows last) []) ∙ or_none (last_fault options rows last))
+    rw (no_subcommand (waiting_for last) (45 ∷ letter ∷ []), facts.2, facts.0, facts.1, facts.3, facts.4,
+        found_by_short options row letter is flag.stands, flag.zero)
+    (or_none (or_else (or_else (last_fault options rows last) []) []) ∙ or_none (or_else (last_fault options rows last) [])
+        ∙ or_none (last_fault options rows last))
 
-pub flag_fault : (options : List OptionRow) (row : OptionRow) (word : Word) (rows : List Row) (last : Last) → Spelled row.key word → IsFlag options row
+pub flag_fault : (options : List OptionRow) (row : OptionRow) (word : Word) (rows : List Row) (last : Last) → Spelled row.key word
+    → IsFlag options row
     → turn_fault (shape_at options) [] (walk_at rows last) word ≡ last_fault options rows last
 flag_fault options row _ rows last long flag = long_flag_fault options row rows last flag
 flag_fault options row _ rows last (short letter is) flag = short_flag_fault options row letter rows last is flag
 
 -- ---- a word that is no option
 
-plain_word_of : (word : Word) → is_dashed word ≡ false → (long_of word ≡ None) × (short_of word ≡ None) × (bytes_eq word (45 ∷ 45 ∷ []) ≡ false)
+plain_word_of : (word : Word) → is_dashed word ≡ false
+    → (long_of word ≡ None) × (short_of word ≡ None) × (bytes_eq word (45 ∷ 45 ∷ []) ≡ false)
 plain_word_of [] plain = (refl, refl, refl)
 plain_word_of (x ∷ xs) plain = (rw plain refl, rw plain refl, rw plain refl)
 
@@ -192,7 +213,8 @@ same_text : (id : Text) → bytes_eq id id ≡ true
 same_text id = (bytes_eq-Decides id id).1 refl
 
 -- the value of the option before it
-pub value_step : (options : List OptionRow) (row : OptionRow) (word : Word) (rows : List Row) → is_dashed word ≡ false → TakesValue options row
+pub value_step : (options : List OptionRow) (row : OptionRow) (word : Word) (rows : List Row) → is_dashed word ≡ false
+    → TakesValue options row
     → walked (rules_built options) [] (walk_at rows (waits row)) word ≡ walk_at rows (valued row word)
 unfolding walked
 value_step options row word rows plain takes =
@@ -212,7 +234,8 @@ pub data Settles : Last → Type 0 where
   at_argument : (word : Word) → Settles (argument word)
 
 pub argument_step : (options : List OptionRow) (word : Word) (rows : List Row) (last : Last) → Settles last → is_dashed word ≡ false
-    → walked (rules_built options) [] (walk_at rows last) word ≡ walk_at (settled_rows (rules_built options) (pending_for last) rows) (argument word)
+    → walked (rules_built options) [] (walk_at rows last) word
+    ≡ walk_at (settled_rows (rules_built options) (pending_for last) rows) (argument word)
 unfolding walked
 argument_step options word rows none at_none plain =
     let facts = plain_word_of word plain in
@@ -244,11 +267,13 @@ settles_rows options rows none at_none listed = refl
 settles_rows options rows _ (at_valued row word) listed = rw (found_by_id options row listed.stands) refl
 settles_rows options rows _ (at_argument word) listed = rw (found_rest_by_id options) refl
 
-pub settles_well : (options : List OptionRow) (rows : List Row) (last : Last) → Settles last → IsListed options last → last_fault options rows last ≡ []
+pub settles_well : (options : List OptionRow) (rows : List Row) (last : Last) → Settles last → IsListed options last
+    → last_fault options rows last ≡ []
 settles_well options rows none at_none listed = refl
 settles_well options rows _ (at_valued row word) listed = rw (found_by_id options row listed.stands, listed.one) refl
 settles_well options rows _ (at_argument word) listed = rw (found_rest_by_id options) refl
 
 -- an option without its value fails
-pub lacks_value : (options : List OptionRow) (rows : List Row) (row : OptionRow) → TakesValue options row → last_fault options rows (waits row) ≡ kind.InvalidValue ∷ []
+pub lacks_value : (options : List OptionRow) (rows : List Row) (row : OptionRow) → TakesValue options row
+    → last_fault options rows (waits row) ≡ kind.InvalidValue ∷ []
 lacks_value options rows row takes = rw (found_by_id options row takes.stands, takes.one) refl

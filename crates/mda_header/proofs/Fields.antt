@@ -1,5 +1,6 @@
 -- A sector has one reading, and none where it is refused.
-use Rattle.std.proofs.Common.{◌≡◌, ◌≢◌, ◌≤◌, ◌↔◌, IsTrue, ℕ, ◌%◌, Bool, true, false, List, Option, None, Some, MatchOption, refl, sym, ap, ◌∙◌, subst, arith}
+use Rattle.std.proofs.Common.{◌≡◌, ◌≢◌, ◌≤◌, ◌↔◌, IsTrue, ℕ, ◌%◌, Bool, true, false, List, Option, None, Some, MatchOption, refl, sym, ap,
+    ◌∙◌, subst, arith}
 use Rattle.sector_base.specs.Fields.{field}
 use Rattle.mda_header.specs.declared.header.Locn.{Locn}
 use Rattle.mda_header.specs.declared.header.MdaHeader.{MdaHeader}
@@ -8,11 +9,13 @@ use Rattle.mda_header.specs.declared.refusal.MdaRefusal.TheVariants.{BadSum, Bad
 use Rattle.mda_header.specs.Header.{IsCommitted, IsHeader, IsInside, IsPrecommitted, IsRefused, locn_at}
 
 -- a committed entry that stands is inside of the area
-committed_inside : (sector : List ℕ) (size : ℕ) (committed : Option Locn) → IsCommitted sector size committed → (locn_at sector 40).offset ≢ 0 → IsInside size (locn_at sector 40)
+committed_inside : (sector : List ℕ) (size : ℕ) (committed : Option Locn) → IsCommitted sector size committed
+    → (locn_at sector 40).offset ≢ 0 → IsInside size (locn_at sector 40)
 committed_inside sector size None is some = absurd (some is)
 committed_inside sector size (Some locn) is some = subst (IsInside size) is.0 is.1
 
-pub IsRefused-no_header : (sector : List ℕ) (header : MdaHeader) (refusal : MdaRefusal) → IsRefused sector header.start header.size refusal → ¬ IsHeader sector header
+pub IsRefused-no_header : (sector : List ℕ) (header : MdaHeader) (refusal : MdaRefusal) → IsRefused sector header.start header.size refusal
+    → ¬ IsHeader sector header
 IsRefused-no_header sector header (BadSum said found) h is = h.2 (sym h.0 ∙ is.sound.checksum_is ∙ sym h.1)
 IsRefused-no_header sector header BadMagic h is = h.1 is.sound.magic
 IsRefused-no_header sector header (BadVersion said) h is = h.3 (sym h.2 ∙ is.sound.version)
@@ -47,7 +50,8 @@ pub one_reading : (sector : List ℕ) (a b : MdaHeader) → IsHeader sector a �
 one_reading sector a b is is' =
     let size : a.size ≡ b.size = sym is.size ∙ is'.size in
     let committed : IsCommitted sector b.size a.committed = subst (λ (n : ℕ). IsCommitted sector n a.committed) size is.committed in
-    let precommitted : IsPrecommitted sector b.size a.precommitted = subst (λ (n : ℕ). IsPrecommitted sector n a.precommitted) size is.precommitted in
+    let precommitted : IsPrecommitted sector b.size a.precommitted =
+        subst (λ (n : ℕ). IsPrecommitted sector n a.precommitted) size is.precommitted in
     λ i. record {
       start = (sym is.start ∙ is'.start) i;
       size = size i;
@@ -57,16 +61,20 @@ one_reading sector a b is is' =
     }
 
 -- what stands inside of the area is read as entry 0, and an offset of 0 as none
-pub inside_committed : (sector : List ℕ) (size : ℕ) (read : Option Locn) (locn : Locn) → locn ≡ locn_at sector 40 → MatchOption read (¬ IsInside size locn) (λ text. (text ≡ locn) × IsInside size locn) → IsInside size locn → IsCommitted sector size read
+pub inside_committed : (sector : List ℕ) (size : ℕ) (read : Option Locn) (locn : Locn) → locn ≡ locn_at sector 40
+    → MatchOption read (¬ IsInside size locn) (λ text. (text ≡ locn) × IsInside size locn) → IsInside size locn
+    → IsCommitted sector size read
 inside_committed sector size None locn at is inside = absurd (is inside)
 inside_committed sector size (Some text) locn at is inside = (is.0 ∙ at, subst (IsInside size) (sym is.0) inside)
 
-pub none_committed : (sector : List ℕ) (size : ℕ) (read : Option Locn) (locn : Locn) → locn ≡ locn_at sector 40 → MatchOption read (¬ IsInside size locn) (λ text. (text ≡ locn) × IsInside size locn) → locn.offset ≡ 0 → IsCommitted sector size read
+pub none_committed : (sector : List ℕ) (size : ℕ) (read : Option Locn) (locn : Locn) → locn ≡ locn_at sector 40
+    → MatchOption read (¬ IsInside size locn) (λ text. (text ≡ locn) × IsInside size locn) → locn.offset ≡ 0 → IsCommitted sector size read
 none_committed sector size None locn at is none = ap (λ (l : Locn). l.offset) (sym at) ∙ none
 none_committed sector size (Some text) locn at is none =
     let behind : 512 ≤ locn.offset = is.1.behind_header in
     absurd (omega arith)
 
-pub inside_precommitted : (sector : List ℕ) (size : ℕ) (read : Option Locn) (locn : Locn) → locn ≡ locn_at sector 64 → MatchOption read (¬ IsInside size locn) (λ text. (text ≡ locn) × IsInside size locn) → IsPrecommitted sector size read
+pub inside_precommitted : (sector : List ℕ) (size : ℕ) (read : Option Locn) (locn : Locn) → locn ≡ locn_at sector 64
+    → MatchOption read (¬ IsInside size locn) (λ text. (text ≡ locn) × IsInside size locn) → IsPrecommitted sector size read
 inside_precommitted sector size None locn at is = λ inside. is (subst (IsInside size) (sym at) inside)
 inside_precommitted sector size (Some text) locn at is = (is.0 ∙ at, subst (IsInside size) (sym is.0) is.1)

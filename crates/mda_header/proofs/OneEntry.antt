@@ -9,7 +9,8 @@ use Rattle.mda_header.specs.Header.{HoldsNothing, HoldsText, IsEntry, IsRefused,
 use Rattle.mda_header.proofs.OneRefusal.{one_refusal}
 
 -- a header whose text lies in the area isn't refused
-text_or_refusal : (sector : List ℕ) (start size : ℕ) (refusal : MdaRefusal) → HoldsText sector start size → IsRefused sector start size refusal → ⊥
+text_or_refusal : (sector : List ℕ) (start size : ℕ) (refusal : MdaRefusal) → HoldsText sector start size
+    → IsRefused sector start size refusal → ⊥
 text_or_refusal sector start size (BadSum said found) is h = h.2 (sym h.0 ∙ is.of_area.sound.checksum_is ∙ sym h.1)
 text_or_refusal sector start size BadMagic is h = h.1 is.of_area.sound.magic
 text_or_refusal sector start size (BadVersion said) is h = h.3 (sym h.2 ∙ is.of_area.sound.version)
@@ -40,4 +41,5 @@ one_entry sector start size (Text locn) (Refused refusal) h k = absurd (text_or_
 one_entry sector start size (Refused refusal) Ignored h k = absurd (h.2 k)
 one_entry sector start size (Refused refusal) Nothing h k = absurd (h.1 k.0)
 one_entry sector start size (Refused refusal) (Text locn) h k = absurd (text_or_refusal sector start size refusal k.0 h.0)
-one_entry sector start size (Refused refusal) (Refused refusal') h k = ap (λ (r : MdaRefusal). Refused r) (one_refusal sector start size refusal refusal' h.0 k.0)
+one_entry sector start size (Refused refusal) (Refused refusal') h k =
+    ap (λ (r : MdaRefusal). Refused r) (one_refusal sector start size refusal refusal' h.0 k.0)

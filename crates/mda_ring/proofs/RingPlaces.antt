@@ -21,7 +21,8 @@ once_round size x big below =
 
 -- a byte stands behind its text's offset, or once round before it
 pub byte_place-cases : (size offset j : ℕ) → 512 ≤ offset → offset < size → j ≤ size - 512
-    → ((offset + j < size) × (byte_place size offset j ≡ offset + j)) ⊎ ((size ≤ offset + j) × (byte_place size offset j + (size - 512) ≡ offset + j))
+    → ((offset + j < size) × (byte_place size offset j ≡ offset + j))
+    ⊎ ((size ≤ offset + j) × (byte_place size offset j + (size - 512) ≡ offset + j))
 byte_place-cases size offset j behind before fits =
     elim (once_round size (offset - 512 + j) (omega arith) (omega arith)) [
       | inl low ↦ inl (omega arith, low.1 ∙ omega arith)

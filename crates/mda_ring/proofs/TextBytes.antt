@@ -1,8 +1,10 @@
 -- The bytes of a text in the sectors of a ring, and in those that it is put into.
-use Rattle.std.proofs.Common.{◌≡◌, ℕ, ◌+◌, ◌-◌, ◌*◌, ◌/◌, ◌%◌, ◌<◌, ◌≤◌, min, List, [], ◌∷◌, ◌++◌, length, take, drop, map, replicate, get_or, ◌⊎◌, inl, inr, refl, sym, ap, ◌∙◌, cond, nat_eq, arith, length-append}
+use Rattle.std.proofs.Common.{◌≡◌, ℕ, ◌+◌, ◌-◌, ◌*◌, ◌/◌, ◌%◌, ◌<◌, ◌≤◌, min, List, [], ◌∷◌, ◌++◌, length, take, drop, map, replicate,
+    get_or, ◌⊎◌, inl, inr, refl, sym, ap, ◌∙◌, cond, nat_eq, arith, length-append}
 use Rattle.std.proofs.Math.Nat.{mod-eq_of_lt}
 use Rattle.std.proofs.lemmas.Bool.{cases_lt}
-use Rattle.std.proofs.lemmas.List.{drop-replicate, drop_min, ext_get_or, get_or-append_right, get_or-drop, get_or-replicate, get_or-take, get_or_append_left, get_or_at, get_or_past, take_at, take_min, take_rest}
+use Rattle.std.proofs.lemmas.List.{drop-replicate, drop_min, ext_get_or, get_or-append_right, get_or-drop, get_or-replicate, get_or-take,
+    get_or_append_left, get_or_at, get_or_past, take_at, take_min, take_rest}
 use Rattle.std.proofs.lemmas.List.FromFn.{fill_by_all, get_or-map-range_with_len, length-map-range_with_len, map-range_with_len_more}
 use Rattle.std.specs.List.{range_with_len}
 use Rattle.sector_base.specs.Fields.{with_bytes}
@@ -12,9 +14,11 @@ use Rattle.mda_ring.specs.Texts.{AreRead, byte_in, with_zeros, text_sectors, tex
 use Rattle.mda_ring.proofs.RingPlaces.{byte_place-cases, mod-once, ring_sector-cases}
 
 -- a place in the list of a text's sectors, without a remainder
-list_place-cases : (size offset count total j : ℕ) → size % 512 ≡ 0 → 1536 ≤ size → 512 ≤ offset → offset < size → count ≤ size - 512 → total ≡ touched_count size offset count → j < count
+list_place-cases : (size offset count total j : ℕ) → size % 512 ≡ 0 → 1536 ≤ size → 512 ≤ offset → offset < size → count ≤ size - 512
+    → total ≡ touched_count size offset count → j < count
     → ((offset % 512 + j < 512 * total) × ((offset % 512 + j) % (512 * total) ≡ offset % 512 + j))
-    ⊎ ((512 * total ≡ size - 512) × (512 * total ≤ offset % 512 + j) × ((offset % 512 + j) % (512 * total) + (size - 512) ≡ offset % 512 + j))
+    ⊎ ((512 * total ≡ size - 512) × (512 * total ≤ offset % 512 + j)
+    × ((offset % 512 + j) % (512 * total) + (size - 512) ≡ offset % 512 + j))
 list_place-cases size offset count total j whole big behind before short is within =
     elim (cases_lt (offset % 512 + j) (512 * total)) [
       | inl low ↦ inl (low, mod-eq_of_lt low)
@@ -24,7 +28,8 @@ list_place-cases size offset count total j whole big behind before short is with
     ]
 
 -- byte j of a text is in the sector of the list that it stands in, at its place there
-same_place : (size offset count total j : ℕ) → size % 512 ≡ 0 → 1536 ≤ size → 512 ≤ offset → offset < size → count ≤ size - 512 → total ≡ touched_count size offset count → j < count
+same_place : (size offset count total j : ℕ) → size % 512 ≡ 0 → 1536 ≤ size → 512 ≤ offset → offset < size → count ≤ size - 512
+    → total ≡ touched_count size offset count → j < count
     → let at : ℕ = (offset % 512 + j) % (512 * total) in
     (at / 512 < total) × (ring_sector size offset (at / 512) ≡ byte_place size offset j / 512) × (at % 512 ≡ byte_place size offset j % 512)
 same_place size offset count total j whole big behind before short is within =
@@ -59,7 +64,8 @@ same_place size offset count total j whole big behind before short is within =
     ]
 
 -- the list of a text's sectors has its bytes
-byte_in-text : (sector_at : ℕ → List ℕ) (size offset count : ℕ) (sectors : List (List ℕ)) (j : ℕ) → size % 512 ≡ 0 → 1536 ≤ size → 512 ≤ offset → offset < size → count ≤ size - 512 → length sectors ≡ touched_count size offset count
+byte_in-text : (sector_at : ℕ → List ℕ) (size offset count : ℕ) (sectors : List (List ℕ)) (j : ℕ) → size % 512 ≡ 0 → 1536 ≤ size
+    → 512 ≤ offset → offset < size → count ≤ size - 512 → length sectors ≡ touched_count size offset count
     → AreRead sector_at size offset sectors → j < count → text_byte sector_at size offset j ≡ byte_in sectors (offset % 512 + j)
 byte_in-text sector_at size offset count sectors j whole big behind before short is read within =
     let at : ℕ = (offset % 512 + j) % (512 * length sectors) in
@@ -69,8 +75,10 @@ byte_in-text sector_at size offset count sectors j whole big behind before short
     ∙ ap (λ (l : List ℕ). get_or l (at % 512) 0) (sym (read.each (at / 512) same.0))
 
 -- the bytes that are taken from the list are those of the text
-pub bytes-text_at : (sector_at : ℕ → List ℕ) (size offset count : ℕ) (sectors : List (List ℕ)) (bytes : List ℕ) → size % 512 ≡ 0 → 1536 ≤ size → 512 ≤ offset → offset < size → count ≤ size - 512 → length sectors ≡ touched_count size offset count
-    → AreRead sector_at size offset sectors → bytes ≡ map (λ m. byte_in sectors (offset % 512 + m)) (range_with_len 0 count) → bytes ≡ text_at sector_at size offset count
+pub bytes-text_at : (sector_at : ℕ → List ℕ) (size offset count : ℕ) (sectors : List (List ℕ)) (bytes : List ℕ) → size % 512 ≡ 0
+    → 1536 ≤ size → 512 ≤ offset → offset < size → count ≤ size - 512 → length sectors ≡ touched_count size offset count
+    → AreRead sector_at size offset sectors → bytes ≡ map (λ m. byte_in sectors (offset % 512 + m)) (range_with_len 0 count)
+    → bytes ≡ text_at sector_at size offset count
 bytes-text_at sector_at size offset count sectors bytes whole big behind before short is read taken =
     let long : length bytes ≡ count = ap length taken ∙ length-map-range_with_len (λ m. byte_in sectors (offset % 512 + m)) 0 count in
     fill_by_all (text_byte sector_at size offset) bytes count 0 long
@@ -103,7 +111,8 @@ byte_in-text_sectors text total j within =
     let long : length (text_sectors text total) ≡ total = length-map-range_with_len (text_sector text) 0 total in
     let here : j % (512 * length (text_sectors text total)) ≡ j = ap (λ (n : ℕ). j % (512 * n)) long ∙ mod-eq_of_lt within in
     ap (λ (n : ℕ). get_or (get_or (text_sectors text total) (n / 512) []) (n % 512) 0) here
-    ∙ ap (λ (l : List ℕ). get_or l (j % 512) 0) (get_or-map-range_with_len (text_sector text) 0 total (j / 512) (j / 512) [] (omega arith) (omega arith))
+    ∙ ap (λ (l : List ℕ). get_or l (j % 512) 0)
+    (get_or-map-range_with_len (text_sector text) 0 total (j / 512) (j / 512) [] (omega arith) (omega arith))
     ∙ get_or-text_sector text j
 
 pub get_or-with_zero : (text : List ℕ) (j : ℕ) → j < length text + 1 → get_or (text ++ 0 ∷ []) j 0 ≡ get_or text j 0
@@ -117,11 +126,13 @@ pub length-with_zero : (text : List ℕ) → length (text ++ 0 ∷ []) ≡ lengt
 length-with_zero text = length-append text (0 ∷ [])
 
 -- what is taken from the sectors of a text is the text and its zero byte
-pub bytes-text_sectors : (text : List ℕ) (sectors : List (List ℕ)) (bytes : List ℕ) (skip count : ℕ) → sectors ≡ text_sectors text (need (length text + 1)) → skip ≡ 0 → count ≡ length text + 1
+pub bytes-text_sectors : (text : List ℕ) (sectors : List (List ℕ)) (bytes : List ℕ) (skip count : ℕ)
+    → sectors ≡ text_sectors text (need (length text + 1)) → skip ≡ 0 → count ≡ length text + 1
     → bytes ≡ map (λ m. byte_in sectors (skip + m)) (range_with_len 0 count) → bytes ≡ text ++ 0 ∷ []
 bytes-text_sectors text sectors bytes skip count put aligned long taken =
     let total : ℕ = need (length text + 1) in
-    let all : length bytes ≡ length text + 1 = ap length taken ∙ length-map-range_with_len (λ m. byte_in sectors (skip + m)) 0 count ∙ long in
+    let all : length bytes ≡ length text + 1 =
+        ap length taken ∙ length-map-range_with_len (λ m. byte_in sectors (skip + m)) 0 count ∙ long in
     let each : (k : ℕ) → k < length text + 1 → get_or bytes k 0 ≡ get_or (text ++ 0 ∷ []) k 0 = λ k within.
     ap (λ (l : List ℕ). get_or l k 0) taken
     ∙ get_or-map-range_with_len (λ m. byte_in sectors (skip + m)) 0 count k k 0 (omega arith) (omega arith)
@@ -133,7 +144,8 @@ bytes-text_sectors text sectors bytes skip count put aligned long taken =
     ext_get_or 0 bytes (text ++ 0 ∷ []) (all ∙ sym (length-with_zero text)) (λ k within. each k (omega arith))
 
 -- the text stands where its sectors are
-pub text_at-text_sectors : (sector_at : ℕ → List ℕ) (size offset total : ℕ) (text : List ℕ) → size % 512 ≡ 0 → 1536 ≤ size → 512 ≤ offset → offset < size → offset % 512 ≡ 0 → 512 * total ≤ size - 512 → total ≡ need (length text + 1)
+pub text_at-text_sectors : (sector_at : ℕ → List ℕ) (size offset total : ℕ) (text : List ℕ) → size % 512 ≡ 0 → 1536 ≤ size → 512 ≤ offset
+    → offset < size → offset % 512 ≡ 0 → 512 * total ≤ size - 512 → total ≡ need (length text + 1)
     → AreRead sector_at size offset (text_sectors text total) → text_at sector_at size offset (length text + 1) ≡ text ++ 0 ∷ []
 text_at-text_sectors sector_at size offset total text whole big behind before aligned short is read =
     let long : length (text_sectors text total) ≡ total = length-map-range_with_len (text_sector text) 0 total in
@@ -142,7 +154,8 @@ text_at-text_sectors sector_at size offset total text whole big behind before al
     get_or-with_zero text k within
     ∙ sym (byte_in-text_sectors text total k (omega arith))
     ∙ ap (byte_in (text_sectors text total)) (omega arith)
-    ∙ sym (byte_in-text sector_at size offset (length text + 1) (text_sectors text total) k whole big behind before (omega arith) (omega arith) read within)))
+    ∙ sym (byte_in-text sector_at size offset (length text + 1) (text_sectors text total) k whole big behind before (omega arith)
+    (omega arith) read within)))
 
 -- the zero byte of a text is dropped again
 pub without_zero-zero : (text : List ℕ) → without_zero (text ++ 0 ∷ []) ≡ text
@@ -157,7 +170,8 @@ pub scattered_more : (text : List ℕ) (k : ℕ) → text_sectors text (k + 1) �
 scattered_more text k = map-range_with_len_more (text_sector text) 0 k k (omega arith)
 
 -- bytes that are put over zeros are filled up
-pub with_zeros-put : (zeros bytes : List ℕ) (k start m : ℕ) → start ≡ min (512 * k) (length bytes) → zeros ≡ replicate 512 0 → m ≡ min (length (take (length bytes - start) (drop start bytes))) 512
+pub with_zeros-put : (zeros bytes : List ℕ) (k start m : ℕ) → start ≡ min (512 * k) (length bytes) → zeros ≡ replicate 512 0
+    → m ≡ min (length (take (length bytes - start) (drop start bytes))) 512
     → with_bytes zeros 0 (take m (take (length bytes - start) (drop start bytes))) ≡ text_sector bytes k
 with_zeros-put zeros bytes k start m begins all is =
     let rest : List ℕ = drop start bytes in

@@ -28,4 +28,5 @@ pub record IsInRing (size : ℕ) (place : Place) : Type 0 where
 -- no sector of the place is touched by the committed text
 abbrev pub IsApart : ℕ → Option Locn → Place → Type 0
 IsApart size None place = Unit {0}
-IsApart size (Some text) place = (sector : ℕ) → Touches size place.offset (512 * place.sectors) sector → ¬ Touches size text.offset text.size sector
+IsApart size (Some text) place =
+    (sector : ℕ) → Touches size place.offset (512 * place.sectors) sector → ¬ Touches size text.offset text.size sector

@@ -28,7 +28,8 @@ spans_count spans = spans.0.count + option_map_or (λ (rest : Span). rest.count)
 
 -- the sector of the disk that is number k of the spans' sectors, one span behind the other
 abbrev pub nth_sector : Span × Option Span → ℕ → ℕ
-nth_sector spans k = if nat_lt k spans.0.count then spans.0.first + k else option_map_or (λ (rest : Span). rest.first + (k - spans.0.count)) spans.1 0
+nth_sector spans k =
+    if nat_lt k spans.0.count then spans.0.first + k else option_map_or (λ (rest : Span). rest.first + (k - spans.0.count)) spans.1 0
 
 -- whether one of the spans covers this sector of this disk
 abbrev pub spans_cover : Span × Option Span → ℕ → ℕ → Bool

@@ -1,5 +1,6 @@
 -- What is pushed into a table goes last.
-use Rattle.std.proofs.Common.{◌≡◌, ℕ, ◌+◌, false, true≢false, nat_eq, List, [], ◌∷◌, ◌++◌, take, slice_get, Option, Some, None, is_some, Result, Ok, Err, is_err, refl, ap, ◌∙◌}
+use Rattle.std.proofs.Common.{◌≡◌, ℕ, ◌+◌, false, true≢false, nat_eq, List, [], ◌∷◌, ◌++◌, take, slice_get, Option, Some, None, is_some,
+    Result, Ok, Err, is_err, refl, ap, ◌∙◌}
 use Rattle.std.proofs.lemmas.List.{take_more}
 use Rattle.std.proofs.lemmas.Option.{slice_get_within, get_or_from_slice_get}
 use Rattle.std.specs.Cmp.Lexicographic.{pointwise}
@@ -15,11 +16,14 @@ pub absent : {A : Type 0} (found : Option A) → is_some found ≡ false → fou
 absent None none = refl
 absent (Some x) none = absurd (true≢false none)
 
-pub insert_entry-last : {A S : Type 0} (map : IndexMap (List ℕ) A S) (name : List ℕ) (row : A) → is_among (names_of map.entries) name ≡ false → insert_entry (pointwise nat_eq) map.entries name row ≡ map.entries ++ (name, row) ∷ []
-insert_entry-last map name row none = insert_entry-new (pointwise nat_eq) map name row (absent _ (is_some-lookup (pointwise nat_eq name) map.entries ∙ none))
+pub insert_entry-last : {A S : Type 0} (map : IndexMap (List ℕ) A S) (name : List ℕ) (row : A)
+    → is_among (names_of map.entries) name ≡ false → insert_entry (pointwise nat_eq) map.entries name row ≡ map.entries ++ (name, row) ∷ []
+insert_entry-last map name row none =
+    insert_entry-new (pointwise nat_eq) map name row (absent _ (is_some-lookup (pointwise nat_eq name) map.entries ∙ none))
 
 -- what was pushed without an error stands last
-pub pushed : {A : Type 0} (old : List (List ℕ × A)) (name : List ℕ) (row : A) (result : Result (Unit {0}) PushRefusal) (new : List (List ℕ × A)) → Pushes old name row result new → is_err result ≡ false → new ≡ old ++ (name, row) ∷ []
+pub pushed : {A : Type 0} (old : List (List ℕ × A)) (name : List ℕ) (row : A) (result : Result (Unit {0}) PushRefusal)
+    (new : List (List ℕ × A)) → Pushes old name row result new → is_err result ≡ false → new ≡ old ++ (name, row) ∷ []
 pushed old name row (Ok done) new pushes well = pushes.0
 pushed old name row (Err refusal) new pushes well = absurd (true≢false well)
 

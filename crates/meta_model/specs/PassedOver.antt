@@ -46,7 +46,8 @@ in_lv path keys = flat_map (λ item. of_item item.0 item.1) keys
   where
     of_item : List ℕ → Node → List (List ℕ)
     of_item name (Leaf value) = unless_known lv_keys path name
-    of_item name (Body entries) = if is_segment_name name then in_segment (path_in path name) (items entries) else unless_known lv_keys path name
+    of_item name (Body entries) =
+        if is_segment_name name then in_segment (path_in path name) (items entries) else unless_known lv_keys path name
 
 -- of sections whose names are those of volumes
 abbrev pub in_volumes : (List ℕ → Items → List (List ℕ)) → List ℕ → Items → List (List ℕ)

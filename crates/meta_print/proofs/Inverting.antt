@@ -17,11 +17,13 @@ there refusal {found = None} h = absurd cc
 pub same_Ok : {A : Type 0} {x y : A} → ◌≡◌ {A = Read A} (Ok x) (Ok y) → x ≡ y
 same_Ok h = cc
 
-pub not_refused : {A : Type 0} (refusal : GroupRefusal) {test : Bool} {x : Read A} {y : A} → cond test x (Err refusal) ≡ Ok y → (test ≡ true) × (x ≡ Ok y)
+pub not_refused : {A : Type 0} (refusal : GroupRefusal) {test : Bool} {x : Read A} {y : A} → cond test x (Err refusal) ≡ Ok y
+    → (test ≡ true) × (x ≡ Ok y)
 not_refused refusal {test = true} h = (refl, h)
 not_refused refusal {test = false} h = absurd cc
 
-pub mapped : {A B : Type 0} {f : A → B} {found : Option A} {y : B} {P : Type 0} → option_map f found ≡ Some y → ((x : A) → found ≡ Some x → f x ≡ y → P) → P
+pub mapped : {A B : Type 0} {f : A → B} {found : Option A} {y : B} {P : Type 0} → option_map f found ≡ Some y
+    → ((x : A) → found ≡ Some x → f x ≡ y → P) → P
 mapped {found = Some a} h then = then a refl cc
 mapped {found = None} h then = absurd cc
 
@@ -31,14 +33,17 @@ counted_as said found given h =
     (eqb-true (length found) said parts.0, same_Ok parts.1)
 
 -- a key that stands
-pub required_is : {A : Type 0} (kind : Node → Option A) (key : List ℕ) (found : Items) (x : A) → required kind key found ≡ Ok x → (node : Node) × (lookup key found ≡ Some node) × (kind node ≡ Some x)
+pub required_is : {A : Type 0} (kind : Node → Option A) (key : List ℕ) (found : Items) (x : A) → required kind key found ≡ Ok x
+    → (node : Node) × (lookup key found ≡ Some node) × (kind node ≡ Some x)
 required_is kind key found x h = bound h (λ node stands is. (node, there _ stands, there _ is))
 
 -- a key that may be absent
-pub optional_is : {A : Type 0} (kind : Node → Option A) (default : A) (key : List ℕ) (found : Items) (x : A) → optional kind default key found ≡ Ok x
+pub optional_is : {A : Type 0} (kind : Node → Option A) (default : A) (key : List ℕ) (found : Items) (x : A)
+    → optional kind default key found ≡ Ok x
     → ((node : Node) × (lookup key found ≡ Some node) × (kind node ≡ Some x)) ⊎ (default ≡ x)
 optional_is kind default key found x h = by_lookup (lookup key found) refl
   where
-    by_lookup : (looked : Option Node) → lookup key found ≡ looked → ((node : Node) × (lookup key found ≡ Some node) × (kind node ≡ Some x)) ⊎ (default ≡ x)
+    by_lookup : (looked : Option Node) → lookup key found ≡ looked
+        → ((node : Node) × (lookup key found ≡ Some node) × (kind node ≡ Some x)) ⊎ (default ≡ x)
     by_lookup None e = let is : ◌≡◌ {A = Read _} (Ok default) (Ok x) = rw e at h in inr (same_Ok is)
     by_lookup (Some node) e = let is : or_refused _ (kind node) ≡ Ok x = rw e at h in inl (node, e, there _ is)

@@ -39,24 +39,30 @@ segment_items group at (segment ∷ segments) = (numbered at, Body (segment_body
 segments_whole : (group : Group) (at : ℕ) (segments : List Segment) → IsWhole (segments_entries group at segments)
 segments_whole group at [] = whole_none
 segments_whole group at (segment ∷ segments) =
-    whole_append (section (numbered at) (segment_body group segment)) (segments_entries group (at + 1) segments) (whole_section (numbered at) (segment_body group segment) (segment_whole group segment)) (segments_whole group (at + 1) segments)
+    whole_append (section (numbered at) (segment_body group segment)) (segments_entries group (at + 1) segments)
+        (whole_section (numbered at) (segment_body group segment) (segment_whole group segment)) (segments_whole group (at + 1) segments)
 
-segments_items : (group : Group) (at : ℕ) (segments : List Segment) → items (segments_entries group at segments) ≡ segment_items group at segments
+segments_items : (group : Group) (at : ℕ) (segments : List Segment)
+    → items (segments_entries group at segments) ≡ segment_items group at segments
 segments_items group at [] = refl
 segments_items group at (segment ∷ segments) =
     section_item (numbered at) (segment_body group segment) (segments_entries group (at + 1) segments) (segment_whole group segment)
     ∙ ap (λ found. (numbered at, Body (segment_body group segment)) ∷ found) (segments_items group (at + 1) segments)
 
-one_segment : (name : List ℕ) (body : List ConfEntry) (more : Items) → is_segment_name name ≡ true → segments_of ((name, Body body) ∷ more) ≡ body ∷ segments_of more
+one_segment : (name : List ℕ) (body : List ConfEntry) (more : Items) → is_segment_name name ≡ true
+    → segments_of ((name, Body body) ∷ more) ≡ body ∷ segments_of more
 one_segment name body more named = rw named refl
 
-bodies_again : (group : Group) (at : ℕ) (segments : List Segment) → 0 < at → at + length segments ≤ 2 ^ 64 → segments_of (segment_items group at segments) ≡ map (segment_body group) segments
+bodies_again : (group : Group) (at : ℕ) (segments : List Segment) → 0 < at → at + length segments ≤ 2 ^ 64
+    → segments_of (segment_items group at segments) ≡ map (segment_body group) segments
 bodies_again group at [] some fits = refl
 bodies_again group at (segment ∷ segments) some fits =
-    one_segment (numbered at) (segment_body group segment) (segment_items group (at + 1) segments) (numbered_names at some (omega (arith, fits)))
+    one_segment (numbered at) (segment_body group segment) (segment_items group (at + 1) segments)
+        (numbered_names at some (omega (arith, fits)))
     ∙ ap (λ bodies. segment_body group segment ∷ bodies) (bodies_again group (at + 1) segments (omega arith) (omega (arith, fits)))
 
-segments_again : (group : Group) (segments : List Segment) → Each (IsSegment group) segments → each (λ body. segment_of (names_of group) (items body)) (map (segment_body group) segments) ≡ Ok segments
+segments_again : (group : Group) (segments : List Segment) → Each (IsSegment group) segments
+    → each (λ body. segment_of (names_of group) (items body)) (map (segment_body group) segments) ≡ Ok segments
 segments_again group [] h = refl
 segments_again group (segment ∷ segments) h = rw (segment_again group segment h.0, segments_again group segments h.1) refl
 
@@ -68,24 +74,31 @@ lv_read_again group lv h =
     ap segments_of (segments_items group 1 lv.segments) ∙ bodies_again group 1 lv.segments (omega arith) (omega (arith, h.count_fits))
     in
     let counts : counted (length lv.segments) (segments_of (items (lv_body group lv))) ≡ Ok (map (segment_body group) lv.segments) =
-    ap (counted (length lv.segments)) bodies ∙ counted_same (length lv.segments) (map (segment_body group) lv.segments) (length-map lv.segments (segment_body group))
+    ap (counted (length lv.segments)) bodies
+        ∙ counted_same (length lv.segments) (map (segment_body group) lv.segments) (length-map lv.segments (segment_body group))
     in
-    rw (h.id_again.again, texts_again (lv_words lv.status), (lv_known lv.status).none, counts, segments_again group lv.segments h.each, lv_again lv.status) refl
+    rw (h.id_again.again, texts_again (lv_words lv.status), (lv_known lv.status).none, counts, segments_again group lv.segments h.each,
+        lv_again lv.status) refl
 
 -- ---- its keys are known
 
-one_known : (path name : List ℕ) (body : List ConfEntry) (more : Items) → is_segment_name name ≡ true → in_segment (path_in path name) (items body) ≡ [] → in_lv path ((name, Body body) ∷ more) ≡ in_lv path more
+one_known : (path name : List ℕ) (body : List ConfEntry) (more : Items) → is_segment_name name ≡ true
+    → in_segment (path_in path name) (items body) ≡ [] → in_lv path ((name, Body body) ∷ more) ≡ in_lv path more
 one_known path name body more named known = rw (named, known) refl
 
-segments_known : (group : Group) (path : List ℕ) (at : ℕ) (segments : List Segment) → 0 < at → at + length segments ≤ 2 ^ 64 → in_lv path (segment_items group at segments) ≡ []
+segments_known : (group : Group) (path : List ℕ) (at : ℕ) (segments : List Segment) → 0 < at → at + length segments ≤ 2 ^ 64
+    → in_lv path (segment_items group at segments) ≡ []
 segments_known group path at [] some fits = refl
 segments_known group path at (segment ∷ segments) some fits =
-    one_known path (numbered at) (segment_body group segment) (segment_items group (at + 1) segments) (numbered_names at some (omega (arith, fits))) (segment_known group (path_in path (numbered at)) segment)
+    one_known path (numbered at) (segment_body group segment) (segment_items group (at + 1) segments)
+        (numbered_names at some (omega (arith, fits))) (segment_known group (path_in path (numbered at)) segment)
     ∙ segments_known group path (at + 1) segments (omega arith) (omega (arith, fits))
 
 pub lv_keys_known : (group : Group) (path : List ℕ) (lv : Lv) → length lv.segments < 2 ^ 64 → in_lv path (items (lv_body group lv)) ≡ []
-lv_keys_known group path lv fits = ap (in_lv path) (segments_items group 1 lv.segments) ∙ segments_known group path 1 lv.segments (omega arith) (omega (arith, fits))
+lv_keys_known group path lv fits =
+    ap (in_lv path) (segments_items group 1 lv.segments) ∙ segments_known group path 1 lv.segments (omega arith) (omega (arith, fits))
 
 pub lv_whole : (group : Group) (lv : Lv) → IsWhole (lv_body group lv)
 lv_whole group lv =
-    whole_assign _ _ _ (whole_assign _ _ _ (whole_assign _ _ _ (whole_assign _ _ _ (whole_assign _ _ _ (whole_assign _ _ _ (segments_whole group 1 lv.segments))))))
+    whole_assign _ _ _ (whole_assign _ _ _ (whole_assign _ _ _
+        (whole_assign _ _ _ (whole_assign _ _ _ (whole_assign _ _ _ (segments_whole group 1 lv.segments))))))

@@ -20,7 +20,8 @@ use Rattle.meta_print.proofs.Printable.{names_of, IsLeg, IsKind, IsSegment}
 
 -- what stands in the section
 abbrev pub segment_body : Group → Segment → List ConfEntry
-segment_body group segment = number (codes "start_extent") segment.start ∷ number (codes "extent_count") segment.count ∷ kind_entries group segment.kind
+segment_body group segment =
+    number (codes "start_extent") segment.start ∷ number (codes "extent_count") segment.count ∷ kind_entries group segment.kind
 
 -- of a striped segment, whether its stripes' size is shown or not
 abbrev pub striped_body : ℕ → ℕ → ℕ → ℕ → List Scalar → Bool → List ConfEntry
@@ -58,50 +59,67 @@ each_again group (leg ∷ legs) h = rw (h.0.found, each_again group legs h.1) re
 
 -- ---- kinds
 
-striped_by : (names : Names) (start count said stripe : ℕ) (scalars : List Scalar) (found : List (List ℕ × ℕ)) (legs : List Leg) (many none : Bool)
-    → nat_lt 1 said ≡ many → (none ≡ true → stripe ≡ 0) → pairs_of scalars ≡ Some found → counted said found ≡ Ok found → each (leg_of names) found ≡ Ok legs
-    → segment_of names (items (striped_body start count said stripe scalars (many || not none))) ≡ Ok (record { start = start; count = count; kind = Striped stripe legs })
+striped_by : (names : Names) (start count said stripe : ℕ) (scalars : List Scalar) (found : List (List ℕ × ℕ)) (legs : List Leg)
+    (many none : Bool)
+    → nat_lt 1 said ≡ many → (none ≡ true → stripe ≡ 0) → pairs_of scalars ≡ Some found → counted said found ≡ Ok found
+    → each (leg_of names) found ≡ Ok legs
+    → segment_of names (items (striped_body start count said stripe scalars (many || not none)))
+    ≡ Ok (record { start = start; count = count; kind = Striped stripe legs })
 striped_by names start count said stripe scalars found legs true none many zero pairs counts reads = rw (pairs, counts, reads, many) refl
-striped_by names start count said stripe scalars found legs false true many zero pairs counts reads = rw (pairs, counts, reads, many, zero refl) refl
+striped_by names start count said stripe scalars found legs false true many zero pairs counts reads =
+    rw (pairs, counts, reads, many, zero refl) refl
 striped_by names start count said stripe scalars found legs false false many zero pairs counts reads = rw (pairs, counts, reads, many) refl
 
 mirror_by : (group : Group) (start count region : ℕ) (moved : Option ℕ) (legs : List Leg) → Each (IsLeg group) legs
-    → segment_of (names_of group) (items (segment_body group (record { start = start; count = count; kind = Mirror region moved legs }))) ≡ Ok (record { start = start; count = count; kind = Mirror region moved legs })
+    → segment_of (names_of group) (items (segment_body group (record { start = start; count = count; kind = Mirror region moved legs })))
+    ≡ Ok (record { start = start; count = count; kind = Mirror region moved legs })
 mirror_by group start count region None legs h = rw (pairs_again group legs, counted_again group legs, each_again group legs h) refl
-mirror_by group start count region (Some extents) legs h = rw (pairs_again group legs, counted_again group legs, each_again group legs h) refl
+mirror_by group start count region (Some extents) legs h =
+    rw (pairs_again group legs, counted_again group legs, each_again group legs h) refl
 
 again_by : (group : Group) (start count : ℕ) (kind : SegKind) → IsKind group kind
-    → segment_of (names_of group) (items (segment_body group (record { start = start; count = count; kind = kind }))) ≡ Ok (record { start = start; count = count; kind = kind })
+    → segment_of (names_of group) (items (segment_body group (record { start = start; count = count; kind = kind })))
+    ≡ Ok (record { start = start; count = count; kind = kind })
 again_by group start count (Striped stripe legs) h =
-    striped_by (names_of group) start count (length legs) stripe (flat_map (pair_of group) legs) (named_legs group legs) legs (nat_lt 1 (length legs)) (stripe == 0)
+    striped_by (names_of group) start count (length legs) stripe (flat_map (pair_of group) legs) (named_legs group legs) legs
+        (nat_lt 1 (length legs)) (stripe == 0)
     refl (eqb-true stripe 0) (pairs_again group legs) (counted_again group legs) (each_again group legs h.1.each)
 again_by group start count (Mirror region moved legs) h = mirror_by group start count region moved legs h.2.each
 
-pub segment_again : (group : Group) (segment : Segment) → IsSegment group segment → segment_of (names_of group) (items (segment_body group segment)) ≡ Ok segment
+pub segment_again : (group : Group) (segment : Segment) → IsSegment group segment
+    → segment_of (names_of group) (items (segment_body group segment)) ≡ Ok segment
 segment_again group segment h = again_by group segment.start segment.count segment.kind h.kind_is
 
 -- ---- keys that are known, and the section as a whole
 
-striped_known : (path : List ℕ) (start count said stripe : ℕ) (scalars : List Scalar) (shown : Bool) → in_segment path (items (striped_body start count said stripe scalars shown)) ≡ []
+striped_known : (path : List ℕ) (start count said stripe : ℕ) (scalars : List Scalar) (shown : Bool)
+    → in_segment path (items (striped_body start count said stripe scalars shown)) ≡ []
 striped_known path start count said stripe scalars true = refl
 striped_known path start count said stripe scalars false = refl
 
-known_by : (group : Group) (path : List ℕ) (start count : ℕ) (kind : SegKind) → in_segment path (items (segment_body group (record { start = start; count = count; kind = kind }))) ≡ []
-known_by group path start count (Striped stripe legs) = striped_known path start count (length legs) stripe (flat_map (pair_of group) legs) (is_shown (length legs) stripe)
+known_by : (group : Group) (path : List ℕ) (start count : ℕ) (kind : SegKind)
+    → in_segment path (items (segment_body group (record { start = start; count = count; kind = kind }))) ≡ []
+known_by group path start count (Striped stripe legs) =
+    striped_known path start count (length legs) stripe (flat_map (pair_of group) legs) (is_shown (length legs) stripe)
 known_by group path start count (Mirror region None legs) = refl
 known_by group path start count (Mirror region (Some moved) legs) = refl
 
 pub segment_known : (group : Group) (path : List ℕ) (segment : Segment) → in_segment path (items (segment_body group segment)) ≡ []
 segment_known group path segment = known_by group path segment.start segment.count segment.kind
 
-striped_whole : (start count said stripe : ℕ) (scalars : List Scalar) (shown : Bool) → IsWhole (striped_body start count said stripe scalars shown)
+striped_whole : (start count said stripe : ℕ) (scalars : List Scalar) (shown : Bool)
+    → IsWhole (striped_body start count said stripe scalars shown)
 striped_whole start count said stripe scalars true = record { stays = λ deep more. refl; passes = λ deep more. refl; lists = λ more. refl }
 striped_whole start count said stripe scalars false = record { stays = λ deep more. refl; passes = λ deep more. refl; lists = λ more. refl }
 
-whole_by : (group : Group) (start count : ℕ) (kind : SegKind) → IsWhole (segment_body group (record { start = start; count = count; kind = kind }))
-whole_by group start count (Striped stripe legs) = striped_whole start count (length legs) stripe (flat_map (pair_of group) legs) (is_shown (length legs) stripe)
-whole_by group start count (Mirror region None legs) = record { stays = λ deep more. refl; passes = λ deep more. refl; lists = λ more. refl }
-whole_by group start count (Mirror region (Some moved) legs) = record { stays = λ deep more. refl; passes = λ deep more. refl; lists = λ more. refl }
+whole_by : (group : Group) (start count : ℕ) (kind : SegKind)
+    → IsWhole (segment_body group (record { start = start; count = count; kind = kind }))
+whole_by group start count (Striped stripe legs) =
+    striped_whole start count (length legs) stripe (flat_map (pair_of group) legs) (is_shown (length legs) stripe)
+whole_by group start count (Mirror region None legs) =
+    record { stays = λ deep more. refl; passes = λ deep more. refl; lists = λ more. refl }
+whole_by group start count (Mirror region (Some moved) legs) =
+    record { stays = λ deep more. refl; passes = λ deep more. refl; lists = λ more. refl }
 
 pub segment_whole : (group : Group) (segment : Segment) → IsWhole (segment_body group segment)
 segment_whole group segment = whole_by group segment.start segment.count segment.kind

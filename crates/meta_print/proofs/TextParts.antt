@@ -1,12 +1,14 @@
 -- Each part of a tree that a text has can be printed.
-use Rattle.std.proofs.Common.{◌≡◌, ℕ, zero, suc, ◌<◌, ◌^◌, Bool, true, false, not, List, [], ◌∷◌, Option, Some, None, Ok, inl, inr, length, subst, refl, sym, ap, ◌∙◌}
+use Rattle.std.proofs.Common.{◌≡◌, ℕ, zero, suc, ◌<◌, ◌^◌, Bool, true, false, not, List, [], ◌∷◌, Option, Some, None, Ok, inl, inr, length,
+    subst, refl, sym, ap, ◌∙◌}
 use Rattle.std.specs.Prelude.{◌&&◌, ◌==◌, filter, nat_eq, option_map}
 use Rattle.std.specs.List.{list_all, AllByRecursion as Each}
 use Rattle.std.specs.Cmp.Lexicographic.{pointwise, same_text}
 use Rattle.std.proofs.lemmas.Bool.{and_parts, ltb-true}
 use Rattle.std.proofs.lemmas.Option.{same_Some, cond_some}
 use Rattle.lvm_id.specs.LvmId.{is_id_char, hyphen_form}
-use Rattle.conf_text.specs.Entries.{Scalar, Number, Text, Value, One, Many, ConfEntry, Open, Close, Assign, after_entry, keep_limits, keeps_limits, fits_scalar, scalars_of, is_given}
+use Rattle.conf_text.specs.Entries.{Scalar, Number, Text, Value, One, Many, ConfEntry, Open, Close, Assign, after_entry, keep_limits,
+    keeps_limits, fits_scalar, scalars_of, is_given}
 use Rattle.conf_text.specs.Grammar.{IsContent, IsScalar, IsArray, BeginsWith, IsTextOf}
 use Rattle.conf_text.specs.Printed.{CanPrintScalar, CanPrintAll, CanPrint}
 use Rattle.conf_text.specs.Items.{Node, Leaf, Body, body_from, items_from, items, lookup}
@@ -27,28 +29,34 @@ array_can bytes (s ∷ []) h fits =
     let parts : (fits_scalar s ≡ true) × (true ≡ true) = and_parts (fits_scalar s) true fits in
     (scalar_can h.1 s h.4 parts.0, tt)
 array_can bytes (s ∷ t ∷ ss) h fits =
-    let parts : (fits_scalar s ≡ true) × (list_all fits_scalar (t ∷ ss) ≡ true) = and_parts (fits_scalar s) (list_all fits_scalar (t ∷ ss)) fits in
+    let parts : (fits_scalar s ≡ true) × (list_all fits_scalar (t ∷ ss) ≡ true) =
+        and_parts (fits_scalar s) (list_all fits_scalar (t ∷ ss)) fits in
     (scalar_can h.1 s h.5 parts.0, array_can h.3 (t ∷ ss) h.7 parts.1)
 
-fits_from : (given : List (List (List ℕ))) (name : List ℕ) (value : Value) → keeps_limits given (Assign name value) ≡ true → list_all fits_scalar (scalars_of value) ≡ true
+fits_from : (given : List (List (List ℕ))) (name : List ℕ) (value : Value) → keeps_limits given (Assign name value) ≡ true
+    → list_all fits_scalar (scalars_of value) ≡ true
 fits_from given name value h = (and_parts (not (is_given given name)) (list_all fits_scalar (scalars_of value)) h).1
 
-entries_can : (given : List (List (List ℕ))) (text : List ℕ) (es : List ConfEntry) (gap : List ℕ) → BeginsWith text es gap → keep_limits given es ≡ true → CanPrint es
+entries_can : (given : List (List (List ℕ))) (text : List ℕ) (es : List ConfEntry) (gap : List ℕ) → BeginsWith text es gap
+    → keep_limits given es ≡ true → CanPrint es
 entries_can given text [] gap h limits = tt
 entries_can given text (Open name ∷ es) gap h limits =
-    let parts : (keeps_limits given (Open name) ≡ true) × (keep_limits (after_entry given (Open name)) es ≡ true) = and_parts (keeps_limits given (Open name)) (keep_limits (after_entry given (Open name)) es) limits in
+    let parts : (keeps_limits given (Open name) ≡ true) × (keep_limits (after_entry given (Open name)) es ≡ true) =
+        and_parts (keeps_limits given (Open name)) (keep_limits (after_entry given (Open name)) es) limits in
     (h.3.1.3, entries_can (after_entry given (Open name)) h.1 es gap h.5 parts.1)
 entries_can given text (Close ∷ es) gap h limits = (tt, entries_can (after_entry given Close) h.1 es gap h.5 limits)
 entries_can given text (Assign name (One s) ∷ es) gap h limits =
     let parts : (keeps_limits given (Assign name (One s)) ≡ true) × (keep_limits (after_entry given (Assign name (One s))) es ≡ true) =
     and_parts (keeps_limits given (Assign name (One s))) (keep_limits (after_entry given (Assign name (One s))) es) limits
     in
-    ((h.3.2.4, scalar_can h.3.1 s h.3.3 (and_parts (fits_scalar s) true (fits_from given name (One s) parts.0)).0), entries_can (after_entry given (Assign name (One s))) h.1 es gap h.5 parts.1)
+    ((h.3.2.4, scalar_can h.3.1 s h.3.3 (and_parts (fits_scalar s) true (fits_from given name (One s) parts.0)).0),
+        entries_can (after_entry given (Assign name (One s))) h.1 es gap h.5 parts.1)
 entries_can given text (Assign name (Many ss) ∷ es) gap h limits =
     let parts : (keeps_limits given (Assign name (Many ss)) ≡ true) × (keep_limits (after_entry given (Assign name (Many ss))) es ≡ true) =
     and_parts (keeps_limits given (Assign name (Many ss))) (keep_limits (after_entry given (Assign name (Many ss))) es) limits
     in
-    ((h.3.2.4, array_can h.3.3.0 ss h.3.3.1 (fits_from given name (Many ss) parts.0)), entries_can (after_entry given (Assign name (Many ss))) h.1 es gap h.5 parts.1)
+    ((h.3.2.4, array_can h.3.3.0 ss h.3.3.1 (fits_from given name (Many ss) parts.0)),
+        entries_can (after_entry given (Assign name (Many ss))) h.1 es gap h.5 parts.1)
 
 pub text_can : (text : List ℕ) (es : List ConfEntry) → IsTextOf text es → CanPrint es
 text_can text es h = entries_can ([] ∷ []) text es h.spelled.gap h.spelled.entries h.limits
@@ -132,9 +140,11 @@ pairs_good (Body es) found good h = absurd cc
 -- ---- what is read
 
 pub number_read : (key : List ℕ) (found : Items) (n : ℕ) → AreGood found → required number key found ≡ Ok n → n < 2 ^ 64
-number_read key found n good h = let (node, stands, is) = required_is number key found n h in number_good node n (lookup_good key found node good stands) is
+number_read key found n good h =
+    let (node, stands, is) = required_is number key found n h in number_good node n (lookup_good key found node good stands) is
 
-pub number_or : (default : ℕ) (key : List ℕ) (found : Items) (n : ℕ) → default < 2 ^ 64 → AreGood found → optional number default key found ≡ Ok n → n < 2 ^ 64
+pub number_or : (default : ℕ) (key : List ℕ) (found : Items) (n : ℕ) → default < 2 ^ 64 → AreGood found
+    → optional number default key found ≡ Ok n → n < 2 ^ 64
 number_or default key found n small good h =
     elim (optional_is number default key found n h) [
       | inl stands ↦ number_good stands.0 n (lookup_good key found stands.0 good stands.1) stands.2
@@ -145,7 +155,8 @@ moved_good : (node : Node) (moved : Option ℕ) → IsGood node → option_map (
 moved_good node moved good h = mapped h (λ n is e. subst FitsIfThere e (number_good node n good is))
 
 -- a number that may be absent
-pub moved_or : (key : List ℕ) (found : Items) (moved : Option ℕ) → AreGood found → optional (λ node. option_map (λ n. Some n) (number node)) None key found ≡ Ok moved → FitsIfThere moved
+pub moved_or : (key : List ℕ) (found : Items) (moved : Option ℕ) → AreGood found
+    → optional (λ node. option_map (λ n. Some n) (number node)) None key found ≡ Ok moved → FitsIfThere moved
 moved_or key found moved good h =
     elim (optional_is (λ node. option_map (λ (n : ℕ). Some n) (number node)) None key found moved h) [
       | inl stands ↦ moved_good stands.0 moved (lookup_good key found stands.0 good stands.1) stands.2
@@ -153,7 +164,8 @@ moved_or key found moved good h =
     ]
 
 pub text_read : (key : List ℕ) (found : Items) (s : List ℕ) → AreGood found → required text key found ≡ Ok s → IsContent s
-text_read key found s good h = let (node, stands, is) = required_is text key found s h in text_good node s (lookup_good key found node good stands) is
+text_read key found s good h =
+    let (node, stands, is) = required_is text key found s h in text_good node s (lookup_good key found node good stands) is
 
 pub text_or : (key : List ℕ) (found : Items) (s : List ℕ) → AreGood found → optional text [] key found ≡ Ok s → IsContent s
 text_or key found s good h =
@@ -163,7 +175,8 @@ text_or key found s good h =
     ]
 
 pub section_read : (key : List ℕ) (found : Items) (es : List ConfEntry) → AreGood found → required section key found ≡ Ok es → CanPrint es
-section_read key found es good h = let (node, stands, is) = required_is section key found es h in section_good node es (lookup_good key found node good stands) is
+section_read key found es good h =
+    let (node, stands, is) = required_is section key found es h in section_good node es (lookup_good key found node good stands) is
 
 pub section_or : (key : List ℕ) (found : Items) (es : List ConfEntry) → AreGood found → optional section [] key found ≡ Ok es → CanPrint es
 section_or key found es good h =
@@ -172,14 +185,18 @@ section_or key found es good h =
       | inr same ↦ subst CanPrint same tt
     ]
 
-pub pairs_read : (key : List ℕ) (found : Items) (ps : List (List ℕ × ℕ)) → AreGood found → required pairs key found ≡ Ok ps → Each IsGoodPair ps
-pairs_read key found ps good h = let (node, stands, is) = required_is pairs key found ps h in pairs_good node ps (lookup_good key found node good stands) is
+pub pairs_read : (key : List ℕ) (found : Items) (ps : List (List ℕ × ℕ)) → AreGood found → required pairs key found ≡ Ok ps
+    → Each IsGoodPair ps
+pairs_read key found ps good h =
+    let (node, stands, is) = required_is pairs key found ps h in pairs_good node ps (lookup_good key found node good stands) is
 
 id_from : (printed x : List ℕ) → IsContent printed → id_printed printed ≡ Some x → IsIdAgain x
 id_from printed x content h =
     let kept : List ℕ = filter (λ c. not (c == 45)) printed in
-    let parts : ((length kept == 32 && list_all is_id_char kept && pointwise nat_eq (hyphen_form kept) printed) ≡ true) × (kept ≡ x) = cond_some _ kept x h in
-    let printed_so : pointwise nat_eq (hyphen_form kept) printed ≡ true = (and_parts (length kept == 32 && list_all is_id_char kept) (pointwise nat_eq (hyphen_form kept) printed) parts.0).1 in
+    let parts : ((length kept == 32 && list_all is_id_char kept && pointwise nat_eq (hyphen_form kept) printed) ≡ true) × (kept ≡ x) =
+        cond_some _ kept x h in
+    let printed_so : pointwise nat_eq (hyphen_form kept) printed ≡ true =
+        (and_parts (length kept == 32 && list_all is_id_char kept) (pointwise nat_eq (hyphen_form kept) printed) parts.0).1 in
     let same : hyphen_form x ≡ printed = ap hyphen_form (sym parts.1) ∙ same_text (hyphen_form kept) printed (sym printed_so) in
     record { again = rw same h; content = rw same content }
 
@@ -189,7 +206,9 @@ id_read key found x good h = bound h (λ printed stands is. id_from printed x (t
 
 -- ---- sections
 
-sections_by : (name : List ℕ) (node : Node) (more : Items) → IsGood node → Each (λ (part : List ℕ × List ConfEntry). CanPrint part.1) (sections_of more) → Each (λ (part : List ℕ × List ConfEntry). CanPrint part.1) (sections_of ((name, node) ∷ more))
+sections_by : (name : List ℕ) (node : Node) (more : Items) → IsGood node
+    → Each (λ (part : List ℕ × List ConfEntry). CanPrint part.1) (sections_of more)
+    → Each (λ (part : List ℕ × List ConfEntry). CanPrint part.1) (sections_of ((name, node) ∷ more))
 sections_by name (Leaf value) more good later = later
 sections_by name (Body es) more good later = (good, later)
 

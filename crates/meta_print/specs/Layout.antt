@@ -1,5 +1,6 @@
 -- The metadata text of a group, as its tree: one layout, which lvm2 reads.
-use Rattle.std.specs.Prelude.{ℕ, ◌+◌, Bool, true, false, not, ◌||◌, ◌==◌, nat_lt, if◌then◌else◌, List, [], ◌∷◌, ◌++◌, length, map, flat_map, Option, Some, None, codes, decimal, slice_index_or}
+use Rattle.std.specs.Prelude.{ℕ, ◌+◌, Bool, true, false, not, ◌||◌, ◌==◌, nat_lt, if◌then◌else◌, List, [], ◌∷◌, ◌++◌, length, map, flat_map,
+    Option, Some, None, codes, decimal, slice_index_or}
 use Rattle.lvm_id.specs.LvmId.{hyphen_form}
 use Rattle.conf_text.specs.Entries.{Conf, ConfEntry, Open, Close, Assign, One, Many, Scalar, Number, Text}
 use Rattle.meta_model.specs.declared.group.Group.{Group}
@@ -120,7 +121,8 @@ lv_entries group lv = section lv.0 (
 
 -- the status words of a group, in their order
 abbrev pub vg_words : VgStatus → List (List ℕ)
-vg_words status = word_if status.resizeable (codes "RESIZEABLE") ++ word_if status.read (codes "READ") ++ word_if status.write (codes "WRITE")
+vg_words status =
+    word_if status.resizeable (codes "RESIZEABLE") ++ word_if status.read (codes "READ") ++ word_if status.write (codes "WRITE")
 
 -- the logical volumes, where there are any
 abbrev pub lvs_entries : Group → List (List ℕ × Lv) → List ConfEntry

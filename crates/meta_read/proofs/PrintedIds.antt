@@ -1,5 +1,6 @@
 -- An id is what its printed form is without the hyphens.
-use Rattle.std.proofs.Common.{◌≡◌, ℕ, ◌+◌, Bool, true, false, not, ◌&&◌, ◌==◌, nat_eq, true≢false, List, [], ◌∷◌, ◌++◌, length, take, drop, filter, Option, Some, None, refl, sym, ap, ◌∙◌, arith, length-drop, if◌then◌else◌}
+use Rattle.std.proofs.Common.{◌≡◌, ℕ, ◌+◌, Bool, true, false, not, ◌&&◌, ◌==◌, nat_eq, true≢false, List, [], ◌∷◌, ◌++◌, length, take, drop,
+    filter, Option, Some, None, refl, sym, ap, ◌∙◌, arith, length-drop, if◌then◌else◌}
 use Rattle.std.proofs.lemmas.Bool.{eqb-true, eq-eqb}
 use Rattle.std.proofs.lemmas.List.{take-append-drop, take_all}
 use Rattle.std.proofs.lemmas.List.Elements.{filter-append}
@@ -40,23 +41,29 @@ total [] = 0
 total (n ∷ ns) = n + total ns
 
 front-chars : (n : ℕ) (chars : List ℕ) → list_all is_id_char chars ≡ true → list_all is_id_char (take n chars) ≡ true
-front-chars n chars are = and-first _ _ (sym (list_all-append is_id_char (take n chars) (drop n chars)) ∙ ap (list_all is_id_char) (take-append-drop n chars) ∙ are)
+front-chars n chars are =
+    and-first _ _ (sym (list_all-append is_id_char (take n chars) (drop n chars)) ∙ ap (list_all is_id_char) (take-append-drop n chars)
+        ∙ are)
 
 rest-chars : (n : ℕ) (chars : List ℕ) → list_all is_id_char chars ≡ true → list_all is_id_char (drop n chars) ≡ true
-rest-chars n chars are = and-second (list_all is_id_char (take n chars)) _ (sym (list_all-append is_id_char (take n chars) (drop n chars)) ∙ ap (list_all is_id_char) (take-append-drop n chars) ∙ are)
+rest-chars n chars are =
+    and-second (list_all is_id_char (take n chars)) _
+        (sym (list_all-append is_id_char (take n chars) (drop n chars)) ∙ ap (list_all is_id_char) (take-append-drop n chars) ∙ are)
 
 empty : (chars : List ℕ) → 0 ≡ length chars → [] ≡ chars
 empty [] none = refl
 empty (c ∷ chars) none = absurd (omega (arith, none))
 
 -- so are they of pieces with hyphens between
-filter-pieces : (lengths : List ℕ) (chars : List ℕ) → total lengths ≡ length chars → list_all is_id_char chars ≡ true → filter no_hyphen (join_with_byte 45 (pieces lengths chars)) ≡ chars
+filter-pieces : (lengths : List ℕ) (chars : List ℕ) → total lengths ≡ length chars → list_all is_id_char chars ≡ true
+    → filter no_hyphen (join_with_byte 45 (pieces lengths chars)) ≡ chars
 filter-pieces [] chars all are = empty chars all
 filter-pieces (n ∷ []) chars all are = filter-chars (take n chars) (front-chars n chars are) ∙ take_all n chars (omega arith)
 filter-pieces (n ∷ m ∷ lengths) chars all are =
     let rest : total (m ∷ lengths) ≡ length (drop n chars) = omega (arith, length-drop n chars) in
     filter-append no_hyphen (take n chars) (45 ∷ join_with_byte 45 (pieces (m ∷ lengths) (drop n chars)))
-    ∙ ap (λ front. front ++ filter no_hyphen (join_with_byte 45 (pieces (m ∷ lengths) (drop n chars)))) (filter-chars (take n chars) (front-chars n chars are))
+    ∙ ap (λ front. front ++ filter no_hyphen (join_with_byte 45 (pieces (m ∷ lengths) (drop n chars))))
+    (filter-chars (take n chars) (front-chars n chars are))
     ∙ ap (λ back. take n chars ++ back) (filter-pieces (m ∷ lengths) (drop n chars) rest (rest-chars n chars are))
     ∙ take-append-drop n chars
 
@@ -72,7 +79,8 @@ pub pointwise-equal : (xs ys : List ℕ) → pointwise nat_eq xs ys ≡ true →
 pointwise-equal [] [] same = refl
 pointwise-equal [] (y ∷ ys) same = absurd (true≢false (sym same))
 pointwise-equal (x ∷ xs) [] same = absurd (true≢false (sym same))
-pointwise-equal (x ∷ xs) (y ∷ ys) same = ap (λ z. z ∷ xs) (eqb-true x y (and-first _ _ same)) ∙ ap (λ zs. y ∷ zs) (pointwise-equal xs ys (and-second (x == y) _ same))
+pointwise-equal (x ∷ xs) (y ∷ ys) same =
+    ap (λ z. z ∷ xs) (eqb-true x y (and-first _ _ same)) ∙ ap (λ zs. y ∷ zs) (pointwise-equal xs ys (and-second (x == y) _ same))
 
 -- what prints as the text is read of it
 pub id_printed-is : (id text : List ℕ) → IsId id → hyphen_form id ≡ text → id_printed text ≡ Some id
@@ -80,7 +88,8 @@ id_printed-is id text is printed =
     let bare : filter no_hyphen text ≡ id = ap (filter no_hyphen) (sym printed) ∙ hyphenless id is in
     let long : (length id == 32) ≡ true = eq-eqb (length id) 32 is.length_is in
     let chars : list_all is_id_char id ≡ true = list_all-from_AllPass is_id_char id is.in_alphabet in
-    let same : pointwise nat_eq (hyphen_form id) text ≡ true = ap (pointwise nat_eq (hyphen_form id)) (sym printed) ∙ pointwise-same (hyphen_form id) in
+    let same : pointwise nat_eq (hyphen_form id) text ≡ true =
+        ap (pointwise nat_eq (hyphen_form id)) (sym printed) ∙ pointwise-same (hyphen_form id) in
     rw (bare, long, chars, same) refl
 
 -- where an id is read of the text, it prints as the text
@@ -88,7 +97,9 @@ pub printed-id_printed : (id text : List ℕ) → id_printed text ≡ Some id �
 printed-id_printed id text read = by (is_read text) refl read
   where
     is_read : List ℕ → Bool
-    is_read printed = length (filter no_hyphen printed) == 32 && list_all is_id_char (filter no_hyphen printed) && pointwise nat_eq (hyphen_form (filter no_hyphen printed)) printed
+    is_read printed =
+        length (filter no_hyphen printed) == 32 && list_all is_id_char (filter no_hyphen printed)
+            && pointwise nat_eq (hyphen_form (filter no_hyphen printed)) printed
 
     by : (b : Bool) → is_read text ≡ b → (if b then Some (filter no_hyphen text) else None) ≡ Some id → IsId id × (hyphen_form id ≡ text)
     by true e some =
@@ -96,7 +107,9 @@ printed-id_printed id text read = by (is_read text) refl read
         let front : (length (filter no_hyphen text) == 32 && list_all is_id_char (filter no_hyphen text)) ≡ true = and-first _ _ e in
         let long : length (filter no_hyphen text) ≡ 32 = eqb-true _ _ (and-first _ _ front) in
         let chars : list_all is_id_char (filter no_hyphen text) ≡ true = and-second (length (filter no_hyphen text) == 32) _ front in
-        let same : hyphen_form (filter no_hyphen text) ≡ text = pointwise-equal _ _ (and-second (length (filter no_hyphen text) == 32 && list_all is_id_char (filter no_hyphen text)) _ e) in (
+        let same : hyphen_form (filter no_hyphen text) ≡ text =
+            pointwise-equal _ _ (and-second (length (filter no_hyphen text) == 32 && list_all is_id_char (filter no_hyphen text)) _ e) in
+        (
           record {
             length_is = ap length (sym bare) ∙ long;
             in_alphabet = AllPass-from_list_all is_id_char id (ap (list_all is_id_char) (sym bare) ∙ chars);

@@ -17,6 +17,9 @@ pointwise-flip (x ∷ xs) [] = refl
 pointwise-flip (x ∷ xs) (y ∷ ys) = ap (λ b. b && pointwise nat_eq xs ys) (nat_eq-flip x y) ∙ ap (λ b. (y == x) && b) (pointwise-flip xs ys)
 
 -- the word is one of those that are referred to
-pub list_any-among : (words : List (Bor (List ℕ))) (word : List ℕ) → list_any (λ other. pointwise nat_eq other.now word) words ≡ is_among (map as_bytes words) word
+pub list_any-among : (words : List (Bor (List ℕ))) (word : List ℕ)
+    → list_any (λ other. pointwise nat_eq other.now word) words ≡ is_among (map as_bytes words) word
 list_any-among [] word = refl
-list_any-among (other ∷ others) word = ap (λ b. b || list_any (λ other. pointwise nat_eq other.now word) others) (pointwise-flip other.now word) ∙ ap (λ b. pointwise nat_eq word other.now || b) (list_any-among others word)
+list_any-among (other ∷ others) word =
+    ap (λ b. b || list_any (λ other. pointwise nat_eq other.now word) others) (pointwise-flip other.now word)
+        ∙ ap (λ b. pointwise nat_eq word other.now || b) (list_any-among others word)

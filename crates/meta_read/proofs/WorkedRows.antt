@@ -6,7 +6,8 @@ use Rattle.meta_model.specs.PassedOver.{passed_over}
 use Rattle.meta_model.specs.Standing.{group_of}
 use Rattle.meta_model.specs.declared.group.Group.{Group}
 use Rattle.meta_model.specs.declared.lv.Lv.{Lv}
-use Rattle.meta_model.specs.declared.refusal.GroupRefusal.TheVariants.{Missing, WrongKind, UnknownStatus, UnknownSegment, Foreign, CountDiffers, UnknownName, BadName, BadId}
+use Rattle.meta_model.specs.declared.refusal.GroupRefusal.TheVariants.{Missing, WrongKind, UnknownStatus, UnknownSegment, Foreign,
+    CountDiffers, UnknownName, BadName, BadId}
 use Rattle.meta_model.specs.declared.segment.On.TheVariants as on
 use Rattle.meta_model.specs.declared.segment.SegKind.TheVariants.{Striped}
 
@@ -25,9 +26,12 @@ tree status keys end =
     Open (codes "vg0") ∷ text (codes "id") (codes "400000-0050-0000-0060-0000-0070-000000") ∷ number (codes "seqno") 1 ∷ keys
     ++ text (codes "format") (codes "lvm2") ∷ words (codes "status") status ∷ words (codes "flags") []
     ∷ number (codes "extent_size") 8192 ∷ number (codes "max_lv") 0 ∷ number (codes "max_pv") 0 ∷ number (codes "metadata_copies") 0
-    ∷ Open (codes "physical_volumes") ∷ Open (codes "pv0") ∷ text (codes "id") (codes "000000-0010-0000-0001-0000-0030-000000") ∷ text (codes "device") (codes "a") ∷ words (codes "status") (codes "ALLOCATABLE" ∷ [])
-    ∷ words (codes "flags") [] ∷ number (codes "dev_size") 131072 ∷ number (codes "pe_start") 2048 ∷ number (codes "pe_count") 15 ∷ Close ∷ Close ∷ end
-    ++ Close ∷ text (codes "contents") (codes "Text Format Volume Group") ∷ number (codes "version") 1 ∷ text (codes "description") [] ∷ text (codes "creation_host") (codes "localhost") ∷ number (codes "creation_time") 0 ∷ []
+    ∷ Open (codes "physical_volumes") ∷ Open (codes "pv0") ∷ text (codes "id") (codes "000000-0010-0000-0001-0000-0030-000000")
+    ∷ text (codes "device") (codes "a") ∷ words (codes "status") (codes "ALLOCATABLE" ∷ [])
+    ∷ words (codes "flags") [] ∷ number (codes "dev_size") 131072 ∷ number (codes "pe_start") 2048 ∷ number (codes "pe_count") 15 ∷ Close
+    ∷ Close ∷ end
+    ++ Close ∷ text (codes "contents") (codes "Text Format Volume Group") ∷ number (codes "version") 1 ∷ text (codes "description") []
+    ∷ text (codes "creation_host") (codes "localhost") ∷ number (codes "creation_time") 0 ∷ []
 
 abbrev all_words : List (List ℕ)
 all_words = codes "RESIZEABLE" ∷ codes "READ" ∷ codes "WRITE" ∷ []
@@ -42,7 +46,9 @@ group lvs = record {
   max_lv = 0;
   max_pv = 0;
   copies = 0;
-  pvs = (codes "pv0", record { id = codes "00000000100000000100000030000000"; device = codes "a"; allocatable = true; missing = false; dev_size = 131072; pe_start = 2048; pe_count = 15 }) ∷ [];
+  pvs =
+      (codes "pv0", record { id = codes "00000000100000000100000030000000"; device = codes "a"; allocatable = true; missing = false;
+          dev_size = 131072; pe_start = 2048; pe_count = 15 }) ∷ [];
   lvs = lvs;
 }
 
@@ -68,12 +74,16 @@ colour_is_unknown = refl
 
 abbrev volume : ℕ → List ConfEntry → List ConfEntry
 volume said keys =
-    Open (codes "logical_volumes") ∷ Open (codes "data") ∷ text (codes "id") (codes "500000-0050-0000-0060-0000-0070-000000") ∷ words (codes "status") (codes "READ" ∷ codes "VISIBLE" ∷ [])
-    ∷ words (codes "flags") (codes "ACTIVATION_SKIP" ∷ []) ∷ text (codes "allocation_policy") (codes "inherit") ∷ number (codes "segment_count") said
+    Open (codes "logical_volumes") ∷ Open (codes "data") ∷ text (codes "id") (codes "500000-0050-0000-0060-0000-0070-000000")
+        ∷ words (codes "status") (codes "READ" ∷ codes "VISIBLE" ∷ [])
+    ∷ words (codes "flags") (codes "ACTIVATION_SKIP" ∷ []) ∷ text (codes "allocation_policy") (codes "inherit")
+    ∷ number (codes "segment_count") said
     ∷ Open (codes "segment1") ∷ number (codes "start_extent") 0 ∷ number (codes "extent_count") 4 ∷ keys ++ Close ∷ Close ∷ Close ∷ []
 
 abbrev linear : List ℕ → List ConfEntry
-linear name = text (codes "type") (codes "striped") ∷ number (codes "stripe_count") 1 ∷ Assign (codes "stripes") (Many (Text name ∷ Number 7 ∷ [])) ∷ []
+linear name =
+    text (codes "type") (codes "striped") ∷ number (codes "stripe_count") 1 ∷ Assign (codes "stripes") (Many (Text name ∷ Number 7 ∷ []))
+        ∷ []
 
 -- `PVMOVE` of the group and an unknown flag decide nothing, and a policy is passed over
 linear_stands : group_of (tree (codes "PVMOVE" ∷ all_words) [] (volume 1 (linear (codes "pv0"))))
@@ -81,7 +91,8 @@ linear_stands : group_of (tree (codes "PVMOVE" ∷ all_words) [] (volume 1 (line
       codes "data",
       record {
         id = codes "50000000500000006000000070000000";
-        status = record { read = true; write = false; visible = true; fixed_minor = false; pvmove = false; locked = false; notsynced = false };
+        status =
+            record { read = true; write = false; visible = true; fixed_minor = false; pvmove = false; locked = false; notsynced = false };
         created = 0;
         host = [];
         segments = record { start = 0; count = 4; kind = Striped 0 (record { on = on.Pv 0; first = 7 } ∷ []) } ∷ [];
@@ -90,7 +101,8 @@ linear_stands : group_of (tree (codes "PVMOVE" ∷ all_words) [] (volume 1 (line
 unfolding group_of hyphen_form
 linear_stands = refl
 
-policy_is_unknown : passed_over (tree (codes "PVMOVE" ∷ all_words) [] (volume 1 (linear (codes "pv0")))) ≡ codes "vg0/logical_volumes/data/allocation_policy" ∷ []
+policy_is_unknown : passed_over (tree (codes "PVMOVE" ∷ all_words) [] (volume 1 (linear (codes "pv0"))))
+    ≡ codes "vg0/logical_volumes/data/allocation_policy" ∷ []
 unfolding passed_over
 policy_is_unknown = refl
 
@@ -100,7 +112,8 @@ on_itself_stands : group_of (tree all_words [] (volume 1 (linear (codes "data"))
       codes "data",
       record {
         id = codes "50000000500000006000000070000000";
-        status = record { read = true; write = false; visible = true; fixed_minor = false; pvmove = false; locked = false; notsynced = false };
+        status =
+            record { read = true; write = false; visible = true; fixed_minor = false; pvmove = false; locked = false; notsynced = false };
         created = 0;
         host = [];
         segments = record { start = 0; count = 4; kind = Striped 0 (record { on = on.Lv 0; first = 7 } ∷ []) } ∷ [];

@@ -1,5 +1,6 @@
 -- What is left of a queue after an operation was taken out, carried out and counted.
-use Rattle.std.proofs.Common.{◌≡◌, ◌≤◌, ◌<◌, ℕ, ◌+◌, Bool, true, false, cond, not, ◌==◌, ◌&&◌, List, [], length, map, remove, slice_index_or, vec_len, refl, ap, ◌∙◌, arith}
+use Rattle.std.proofs.Common.{◌≡◌, ◌≤◌, ◌<◌, ℕ, ◌+◌, Bool, true, false, cond, not, ◌==◌, ◌&&◌, List, [], length, map, remove,
+    slice_index_or, vec_len, refl, ap, ◌∙◌, arith}
 use Rattle.std.specs.Prelude.{if◌then◌else◌}
 use Rattle.std.specs.VecDeque.{deque_len, deque_capacity}
 use Rattle.std.proofs.lemmas.List.{length-map}
@@ -14,7 +15,8 @@ use Rattle.op_queue.specs.Completing.{IsTakenFrom, CompletesAt}
 use Rattle.op_queue.proofs.Removed.{All-remove, map-remove, filter_removed, ready_left}
 
 -- it was carried out, and came back as the same operation
-pub carried_out : (whole : OpQueue) (at tag : ℕ) (op done : Op) (rest : OpQueue) → IsTakenFrom whole at tag op rest → work_of done ≡ work_of op → Lies whole.sizes.items done → IsTakenFrom whole at tag done rest
+pub carried_out : (whole : OpQueue) (at tag : ℕ) (op done : Op) (rest : OpQueue) → IsTakenFrom whole at tag op rest
+    → work_of done ≡ work_of op → Lies whole.sizes.items done → IsTakenFrom whole at tag done rest
 carried_out whole at tag op done rest taken same lies = record {
   good = taken.good;
   here = taken.here;
@@ -38,10 +40,12 @@ at_most_one false x y h = omega arith
 
 -- the operation at this place completes
 module _ (whole : OpQueue) (at tag : ℕ) (op : Op) (well : Bool) (rest new : OpQueue) (taken : IsTakenFrom whole at tag op rest)
-    (waiting : new.waiting ≡ rest.waiting) (sizes : new.sizes ≡ rest.sizes) (next_tag : new.next_tag ≡ rest.next_tag) (steps : new.steps ≡ rest.steps + 1)
+    (waiting : new.waiting ≡ rest.waiting) (sizes : new.sizes ≡ rest.sizes) (next_tag : new.next_tag ≡ rest.next_tag)
+        (steps : new.steps ≡ rest.steps + 1)
     (spare_ops : new.spare_ops ≡ rest.spare_ops) (spare_sectors : new.spare_sectors ≡ rest.spare_sectors)
     (counted : vec_len new.faults ≡ vec_len rest.faults)
-    (faults : (p : ℕ) → slice_index_or new.faults.items p 0 ≡ (if not well && (disk_of op == p) then slice_index_or rest.faults.items p 0 + 1 else slice_index_or rest.faults.items p 0)) where
+    (faults : (p : ℕ) → slice_index_or new.faults.items p 0
+        ≡ (if not well && (disk_of op == p) then slice_index_or rest.faults.items p 0 + 1 else slice_index_or rest.faults.items p 0)) where
   -- what is left in flight
   left : new.waiting.items ≡ remove whole.waiting.items at
   left = ap (λ q. q.items) waiting ∙ taken.waiting
@@ -59,7 +63,8 @@ module _ (whole : OpQueue) (at tag : ℕ) (op : Op) (well : Bool) (rest new : Op
   same_tag = next_tag ∙ taken.next_tag
 
   -- the counts of faults
-  counts : (p : ℕ) → slice_index_or new.faults.items p 0 ≡ (if not well && (disk_of op == p) then slice_index_or whole.faults.items p 0 + 1 else slice_index_or whole.faults.items p 0)
+  counts : (p : ℕ) → slice_index_or new.faults.items p 0
+      ≡ (if not well && (disk_of op == p) then slice_index_or whole.faults.items p 0 + 1 else slice_index_or whole.faults.items p 0)
   counts p = rw (← taken.faults) (faults p)
 
   pub good_after : IsGood new
@@ -69,7 +74,9 @@ module _ (whole : OpQueue) (at tag : ℕ) (op : Op) (well : Bool) (rest new : Op
     waits = rw (left, same_sizes, same_tag) (All-remove (Waits whole.sizes.items whole.next_tag) whole.waiting.items at taken.good.waits);
     order = rw left (all_pairs_remove IsBefore whole.waiting.items at taken.here taken.good.order);
     steps = omega (arith, taken.good.steps, len, same_tag, steps, taken.steps);
-    faults = λ p. omega (arith, taken.good.faults p, at_most_one (not well && (disk_of op == p)) (slice_index_or whole.faults.items p 0) (slice_index_or new.faults.items p 0) (counts p), len, steps, taken.steps);
+    faults =
+        λ p. omega (arith, taken.good.faults p, at_most_one (not well && (disk_of op == p)) (slice_index_or whole.faults.items p 0)
+            (slice_index_or new.faults.items p 0) (counts p), len, steps, taken.steps);
     room = omega (arith, taken.good.room, len, capacity, spare_ops, taken.spare_ops);
     life = omega (arith, taken.good.life, same_tag, spare_ops, taken.spare_ops);
   }

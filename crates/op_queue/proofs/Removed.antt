@@ -1,5 +1,6 @@
 -- The operations in flight, after one was taken out.
-use Rattle.std.proofs.Common.{◌≡◌, ◌≢◌, ◌⊎◌, inl, inr, ◌<◌, ℕ, zero, suc, List, [], ◌∷◌, not, ◌==◌, filter, length, take, drop, map, remove, get_or, Some, All, AllPairs, Contains, ⊎_elim, refl, sym, ap, subst, ◌∙◌, arith}
+use Rattle.std.proofs.Common.{◌≡◌, ◌≢◌, ◌⊎◌, inl, inr, ◌<◌, ℕ, zero, suc, List, [], ◌∷◌, not, ◌==◌, filter, length, take, drop, map, remove,
+    get_or, Some, All, AllPairs, Contains, ⊎_elim, refl, sym, ap, subst, ◌∙◌, arith}
 use Rattle.std.proofs.lemmas.List.{length-map, get_or-map, map-append, take-map, drop-map}
 use Rattle.std.proofs.lemmas.List.Elements.{All-append, All-take, All-drop, Contains-append_right}
 use Rattle.std.proofs.lemmas.Bool.Decides.{eqb_tells}
@@ -21,10 +22,12 @@ map-remove f xs at =
     ∙ rw (take-map f at xs, drop-map f (suc at) xs) refl
 
 -- a tag finds its operation
-pub found_at : (os : List Operation) (at : ℕ) (o : Operation) → at < length os → get_or os at o ≡ o → AllPairs IsOlder os → work_of_tag os o.tag ≡ Some o.work
+pub found_at : (os : List Operation) (at : ℕ) (o : Operation) → at < length os → get_or os at o ≡ o → AllPairs IsOlder os
+    → work_of_tag os o.tag ≡ Some o.work
 found_at [] at o lt e h = absurd (omega arith)
 found_at (p ∷ os) zero o lt e h =
-    ⊎_elim (λ same. rw same.0 (ap (λ (v : Operation). Some v.work) e)) (λ other. absurd (other.1 (ap (λ (v : Operation). v.tag) e))) (eqb_tells p.tag o.tag)
+    ⊎_elim (λ same. rw same.0 (ap (λ (v : Operation). Some v.work) e)) (λ other. absurd (other.1 (ap (λ (v : Operation). v.tag) e)))
+        (eqb_tells p.tag o.tag)
 found_at (p ∷ os) (suc at) o lt e h =
     let before : p.tag < (get_or os at o).tag = h 0 (suc at) o (omega arith) (omega arith) in
     let before' : p.tag < o.tag = subst (λ (v : Operation). p.tag < v.tag) e before in
@@ -33,7 +36,8 @@ found_at (p ∷ os) (suc at) o lt e h =
     (eqb_tells p.tag o.tag)
 
 -- where every tag is greater, none is left out
-filter_none : (os : List Operation) (tag : ℕ) → ((k : ℕ) (d : Operation) → k < length os → tag < (get_or os k d).tag) → os ≡ filter (λ (o : Operation). not (o.tag == tag)) os
+filter_none : (os : List Operation) (tag : ℕ) → ((k : ℕ) (d : Operation) → k < length os → tag < (get_or os k d).tag)
+    → os ≡ filter (λ (o : Operation). not (o.tag == tag)) os
 filter_none [] tag h = refl
 filter_none (o ∷ os) tag h =
     let here : tag < o.tag = h 0 o (omega arith) in
@@ -47,13 +51,15 @@ pub filter_removed : (os : List Operation) (at : ℕ) (o : Operation) → at < l
 filter_removed [] at o lt e h = absurd (omega arith)
 filter_removed (p ∷ os) zero o lt e h =
     let here : os ≡ filter (λ (q : Operation). not (q.tag == p.tag)) (p ∷ os) =
-    ⊎_elim (λ same. rw same.0 (filter_none os p.tag (λ k d le. h 0 (suc k) d (omega arith) (omega arith)))) (λ other. absurd (other.1 refl)) (eqb_tells p.tag p.tag) in
+    ⊎_elim (λ same. rw same.0 (filter_none os p.tag (λ k d le. h 0 (suc k) d (omega arith) (omega arith)))) (λ other. absurd (other.1 refl))
+        (eqb_tells p.tag p.tag) in
     subst (λ (v : Operation). os ≡ filter (λ (q : Operation). not (q.tag == v.tag)) (p ∷ os)) e here
 filter_removed (p ∷ os) (suc at) o lt e h =
     let before : p.tag < (get_or os at o).tag = h 0 (suc at) o (omega arith) (omega arith) in
     let before' : p.tag < o.tag = subst (λ (v : Operation). p.tag < v.tag) e before in
     ⊎_elim (λ same. absurd (let e' : p.tag ≡ o.tag = same.1 in omega arith))
-    (λ other. rw other.0 (ap (λ (l : List Operation). p ∷ l) (filter_removed os at o (omega arith) e (λ i j d a b. h (suc i) (suc j) d (omega arith) (omega arith)))))
+    (λ other. rw other.0 (ap (λ (l : List Operation). p ∷ l)
+        (filter_removed os at o (omega arith) e (λ i j d a b. h (suc i) (suc j) d (omega arith) (omega arith)))))
     (eqb_tells p.tag o.tag)
 
 -- of a list and one more in front
@@ -62,10 +68,12 @@ contains_cons y ys t (zero, lt, e) = inl e
 contains_cons y ys t (suc k, lt, e) = inr (k, omega arith, e)
 
 -- the others that were ready still are
-pub ready_left : (os : List Operation) (at : ℕ) (o : Operation) (t : ℕ) → at < length os → get_or os at o ≡ o → Contains (tags_of os) t → t ≢ o.tag → Contains (tags_of (remove os at)) t
+pub ready_left : (os : List Operation) (at : ℕ) (o : Operation) (t : ℕ) → at < length os → get_or os at o ≡ o → Contains (tags_of os) t
+    → t ≢ o.tag → Contains (tags_of (remove os at)) t
 ready_left [] at o t lt which was other = absurd (omega arith)
 ready_left (p ∷ os) zero o t lt which was other =
-    ⊎_elim (λ here. absurd (other (sym here ∙ ap (λ (v : Operation). v.tag) which))) (λ later. later) (contains_cons p.tag (tags_of os) t was)
+    ⊎_elim (λ here. absurd (other (sym here ∙ ap (λ (v : Operation). v.tag) which))) (λ later. later)
+        (contains_cons p.tag (tags_of os) t was)
 ready_left (p ∷ os) (suc at) o t lt which was other =
     ⊎_elim
     (λ here. (0, omega arith, here))
@@ -78,7 +86,8 @@ tag_at os at o here which = ap (λ (v : Operation). v.tag) (sym which) ∙ sym (
 
 -- and is among theirs
 pub has_tag : (os : List Operation) (at : ℕ) (o : Operation) → at < length os → get_or os at o ≡ o → Contains (tags_of os) o.tag
-has_tag os at o here which = (at, rw length-map here, get_or-map (λ (v : Operation). v.tag) os at o o.tag here ∙ ap (λ (v : Operation). v.tag) which)
+has_tag os at o here which =
+    (at, rw length-map here, get_or-map (λ (v : Operation). v.tag) os at o o.tag here ∙ ap (λ (v : Operation). v.tag) which)
 
 -- the tags of operations in order are in order
 pub oldest_first : (os : List Operation) → AllPairs IsOlder os → AllPairs (λ (a b : ℕ). a < b) (tags_of os)

@@ -16,7 +16,8 @@ abbrev pub telling : Record → State → State
 telling told state = record state { told = Some told }
 
 -- a submission is told
-pub submits_telling : (old new : State) (op : Op) (tag : ℕ) (was now : Record) → Submits old op tag new → now ≡ step_on (Submitted tag (work_of op)) was → Submits (telling was old) op tag (telling now new)
+pub submits_telling : (old new : State) (op : Op) (tag : ℕ) (was now : Record) → Submits old op tag new
+    → now ≡ step_on (Submitted tag (work_of op)) was → Submits (telling was old) op tag (telling now new)
 submits_telling old new op tag was now submits is = record {
   fresh = submits.fresh;
   next = submits.next;
@@ -31,7 +32,8 @@ submits_telling old new op tag was now submits is = record {
 }
 
 -- a completion is told
-pub completes_telling : (old new : State) (done : Done) (was now : Record) (fresh : List Bool) → Completes old done new → now ≡ step_on (Completed done.tag (work_of done.op) done.well fresh) was
+pub completes_telling : (old new : State) (done : Done) (was now : Record) (fresh : List Bool) → Completes old done new
+    → now ≡ step_on (Completed done.tag (work_of done.op) done.well fresh) was
     → Reads was done.tag done.op done.well → Completes (telling was old) done (telling now new)
 completes_telling old new done was now fresh completes is reads = record {
   was = completes.was;
@@ -50,7 +52,8 @@ completes_telling old new done was now fresh completes is reads = record {
 }
 
 -- what is told stays where more is made spare
-pub reserves_telling : (old new : State) (ops sectors : ℕ) (told : Record) → Reserves old ops sectors new → Reserves (telling told old) ops sectors (telling told new)
+pub reserves_telling : (old new : State) (ops sectors : ℕ) (told : Record) → Reserves old ops sectors new
+    → Reserves (telling told old) ops sectors (telling told new)
 reserves_telling old new ops sectors told reserves = record {
   ops = reserves.ops;
   sectors = reserves.sectors;
@@ -60,8 +63,10 @@ reserves_telling old new ops sectors told reserves = record {
 }
 
 -- a lawful state that tells a record of its own operations is lawful
-pub lawful_telling : (state : State) (told : Record) → IsLawful state → IsRecord told.steps → IsNewTag state.next_tag told.steps → state.in_flight ≡ in_flight_after told.steps → state.steps ≡ length told.steps
-    → ((pv sector : ℕ) → sector < slice_index_or state.sizes pv 0 → IsSector (told.opened pv sector)) → BringOnly (λ pv sector value. IsSector value) told.steps → IsLawful (telling told state)
+pub lawful_telling : (state : State) (told : Record) → IsLawful state → IsRecord told.steps → IsNewTag state.next_tag told.steps
+    → state.in_flight ≡ in_flight_after told.steps → state.steps ≡ length told.steps
+    → ((pv sector : ℕ) → sector < slice_index_or state.sizes pv 0 → IsSector (told.opened pv sector))
+    → BringOnly (λ pv sector value. IsSector value) told.steps → IsLawful (telling told state)
 lawful_telling state told lawful follows new_tags in_flight steps opened written = record {
   tags = lawful.tags;
   order = lawful.order;

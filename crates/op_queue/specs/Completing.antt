@@ -15,7 +15,8 @@ use Rattle.op_queue.specs.QueueInvariant.{IsGood}
 pub record IsTakenFrom (whole : OpQueue) (at tag : ℕ) (op : Op) (rest : OpQueue) : Type 0 where
   pub good : IsGood whole
   pub here : at < length whole.waiting.items
-  pub which : slice_index_or (map operation_of whole.waiting.items) at (record { tag = tag; work = work_of op }) ≡ record { tag = tag; work = work_of op }
+  pub which : slice_index_or (map operation_of whole.waiting.items) at (record { tag = tag; work = work_of op })
+      ≡ record { tag = tag; work = work_of op }
   pub lies : Lies whole.sizes.items op
   pub waiting : rest.waiting.items ≡ remove whole.waiting.items at
   pub len : deque_len rest.waiting + 1 ≡ deque_len whole.waiting
@@ -31,7 +32,8 @@ pub record IsTakenFrom (whole : OpQueue) (at tag : ℕ) (op : Op) (rest : OpQueu
 pub record CompletesAt (old : State) (at : ℕ) (done : Done) (new : State) : Type 0 where
   pub completes : Completes old done new
   pub here : at < length old.in_flight
-  pub which : slice_index_or old.in_flight at (record { tag = done.tag; work = work_of done.op }) ≡ record { tag = done.tag; work = work_of done.op }
+  pub which : slice_index_or old.in_flight at (record { tag = done.tag; work = work_of done.op })
+      ≡ record { tag = done.tag; work = work_of done.op }
   pub in_flight : new.in_flight ≡ remove old.in_flight at
   pub spare_ops : new.spare_ops ≡ old.spare_ops
   pub spare_sectors : new.spare_sectors ≡ old.spare_sectors

@@ -49,7 +49,9 @@ pub lawful_of : (queue : OpQueue) → IsGood queue → IsLawful (state_of queue)
 lawful_of queue good = record {
   tags = All-map (λ (o : Operation). o.tag < queue.next_tag) operation_of queue.waiting.items (λ k d lt. (good.waits k d lt).1);
   order = order_of queue.waiting.items good.order;
-  within = All-map (λ (o : Operation). LiesWithin queue.sizes.items o.work) operation_of queue.waiting.items (λ k d lt. lies_within queue.sizes.items _ (good.waits k d lt).0);
+  within =
+      All-map (λ (o : Operation). LiesWithin queue.sizes.items o.work) operation_of queue.waiting.items
+          (λ k d lt. lies_within queue.sizes.items _ (good.waits k d lt).0);
   ready = All-contains_itself (tags_of (map operation_of queue.waiting.items));
   faults = λ pv. simp length-map (omega (arith, good.faults pv));
   life = simp length-map (omega arith);

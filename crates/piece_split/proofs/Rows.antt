@@ -2,7 +2,8 @@
 use Rattle.std.proofs.Common.{◌≡◌, false, true, [], ◌∷◌, refl}
 use Rattle.piece_split.specs.Pieces.{pieces_of}
 
-two_pieces : pieces_of 0 8190 4 false ≡ record { volume = 0; first = 8190; count = 2; write = false } ∷ record { volume = 0; first = 8192; count = 2; write = false } ∷ []
+two_pieces : pieces_of 0 8190 4 false ≡ record { volume = 0; first = 8190; count = 2; write = false }
+    ∷ record { volume = 0; first = 8192; count = 2; write = false } ∷ []
 unfolding pieces_of
 two_pieces = refl
 

@@ -18,7 +18,9 @@ PiecesCoverRequest = (volume first count : ℕ) (write : Bool) → Cover first (
 
 -- they are of its volume, and read or write as it does
 abbrev pub PiecesAreOfRequest : Type 0
-PiecesAreOfRequest = (volume first count : ℕ) (write : Bool) → All (λ piece. (piece.volume ≡ volume) × (piece.write ≡ write)) (pieces_of volume first count write)
+PiecesAreOfRequest =
+    (volume first count : ℕ) (write : Bool) → All (λ piece. (piece.volume ≡ volume) × (piece.write ≡ write))
+        (pieces_of volume first count write)
 
 -- a piece has a sector, and all its sectors lie between two multiples of eight
 abbrev pub IsInOneBlock : Piece → Type 0
@@ -28,7 +30,8 @@ IsInOneBlock piece = (1 ≤ piece.count) × ((k : ℕ) → k < piece.count → (
 abbrev pub PiecesAreCut : Type 0
 PiecesAreCut =
     (volume first count : ℕ) (write : Bool)
-    → All IsInOneBlock (pieces_of volume first count write) × All (λ piece. piece.first % 8 ≡ 0) (drop 1 (pieces_of volume first count write))
+    → All IsInOneBlock (pieces_of volume first count write)
+    × All (λ piece. piece.first % 8 ≡ 0) (drop 1 (pieces_of volume first count write))
 
 -- in every accepted group the sectors of a piece stand side by side at each of their places, and on their way down meet the
 -- same segments and regions
@@ -36,4 +39,5 @@ abbrev pub PiecesLieInOneRegion : Type 0
 PiecesLieInOneRegion =
     (group : Group) (lv volume first count k : ℕ) (write : Bool) (piece : Piece) (p : Places)
     → IsAccepted group → Contains (pieces_of volume first count write) piece → k < piece.count → places group lv piece.first ≡ Some p
-    → (places group lv (piece.first + k) ≡ Some (places_on k p)) × (map mark (way group (on.Lv lv) 5 (piece.first + k)) ≡ map mark (way group (on.Lv lv) 5 piece.first))
+    → (places group lv (piece.first + k) ≡ Some (places_on k p))
+    × (map mark (way group (on.Lv lv) 5 (piece.first + k)) ≡ map mark (way group (on.Lv lv) 5 piece.first))

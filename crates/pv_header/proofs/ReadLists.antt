@@ -1,5 +1,6 @@
 -- A list of areas is read pair by pair.
-use Rattle.std.proofs.Common.{◌≡◌, ◌≢◌, ℕ, ◌+◌, ◌*◌, ◌<◌, ◌≤◌, Some, List, [], ◌∷◌, ◌++◌, length, refl, sym, ap, subst, ◌∙◌, arith, below_more, inl, inr}
+use Rattle.std.proofs.Common.{◌≡◌, ◌≢◌, ℕ, ◌+◌, ◌*◌, ◌<◌, ◌≤◌, Some, List, [], ◌∷◌, ◌++◌, length, refl, sym, ap, subst, ◌∙◌, arith,
+    below_more, inl, inr}
 use Rattle.std.proofs.lemmas.Bool.{cases_lt}
 use Rattle.std.proofs.lemmas.List.{length_push, get_or_append_left, get_or_push}
 use Rattle.std.proofs.lemmas.List.Elements.{All-nil, All-push}
@@ -25,8 +26,10 @@ extent_at-is : (sector : List ℕ) (place offset size : ℕ) → offset ≡ fiel
 unfolding extent_at
 extent_at-is sector place offset size o s = λ i. record { offset = o i; size = s i }
 
-pub BeginsList-more : (sector : List ℕ) (at place offset size : ℕ) (list : List Extent) → BeginsList sector at list → place ≡ at + 16 * length list
-    → offset ≡ field 8 sector place → size ≡ field 8 sector (place + 8) → offset ≢ 0 → BeginsList sector at (list ++ record { offset = offset; size = size } ∷ [])
+pub BeginsList-more : (sector : List ℕ) (at place offset size : ℕ) (list : List Extent) → BeginsList sector at list
+    → place ≡ at + 16 * length list
+    → offset ≡ field 8 sector place → size ≡ field 8 sector (place + 8) → offset ≢ 0
+    → BeginsList sector at (list ++ record { offset = offset; size = size } ∷ [])
 BeginsList-more sector at place offset size list begins p o s goes_on =
     let area : Extent = record { offset = offset; size = size } in
     let all = list ++ area ∷ [] in
@@ -35,7 +38,8 @@ BeginsList-more sector at place offset size list begins p o s goes_on =
     slice_get-get_or all k no_extent (omega (arith, length_push list area)) ∙ ap Some (get_or_append_left list (area ∷ []) no_extent k h)
     ∙ sym (slice_get-get_or list k no_extent h) ∙ begins.pairs k h in
     let here : P (length list) =
-    slice_get-get_or all (length list) no_extent (omega (arith, length_push list area)) ∙ ap Some (get_or_push list area no_extent (length list) refl)
+    slice_get-get_or all (length list) no_extent (omega (arith, length_push list area))
+        ∙ ap Some (get_or_push list area no_extent (length list) refl)
     ∙ ap Some (extent_at-is sector place offset size o s ∙ ap (extent_at sector) p) in
     record {
       pairs = λ k h. below_more P (length list) before here k (omega (arith, length_push list area));
@@ -43,13 +47,16 @@ BeginsList-more sector at place offset size list begins p o s goes_on =
     }
 
 -- no pair that was read ends the list
-pub BeginsList-goes_on : (sector : List ℕ) (at : ℕ) (list : List Extent) → BeginsList sector at list → (k : ℕ) → k < length list → field 8 sector (at + 16 * k) ≢ 0
+pub BeginsList-goes_on : (sector : List ℕ) (at : ℕ) (list : List Extent) → BeginsList sector at list → (k : ℕ) → k < length list
+    → field 8 sector (at + 16 * k) ≢ 0
 unfolding extent_at
 BeginsList-goes_on sector at list begins k h e =
-    begins.offsets k no_extent h (ap (λ (area : Extent). area.offset) (get_or_from_slice_get list k (extent_at sector (at + 16 * k)) no_extent (begins.pairs k h)) ∙ e)
+    begins.offsets k no_extent h (ap (λ (area : Extent). area.offset)
+        (get_or_from_slice_get list k (extent_at sector (at + 16 * k)) no_extent (begins.pairs k h)) ∙ e)
 
 -- the list ends where a 0 stands for an offset
-pub IsListAt-ended : (sector : List ℕ) (at place : ℕ) (list : List Extent) → BeginsList sector at list → place ≡ at + 16 * length list → place + 8 ≤ 512
+pub IsListAt-ended : (sector : List ℕ) (at place : ℕ) (list : List Extent) → BeginsList sector at list → place ≡ at + 16 * length list
+    → place + 8 ≤ 512
     → field 8 sector place ≡ 0 → IsListAt sector at list
 IsListAt-ended sector at place list begins p room e = record {
   within = omega arith;
@@ -59,10 +66,12 @@ IsListAt-ended sector at place list begins p room e = record {
 }
 
 -- the sector ends before the list does
-pub IsUnended-past : (sector : List ℕ) (at place : ℕ) (list : List Extent) → BeginsList sector at list → place ≡ at + 16 * length list → 512 < place + 8 → IsUnended sector at
+pub IsUnended-past : (sector : List ℕ) (at place : ℕ) (list : List Extent) → BeginsList sector at list → place ≡ at + 16 * length list
+    → 512 < place + 8 → IsUnended sector at
 IsUnended-past sector at place list begins p past k room = BeginsList-goes_on sector at list begins k (omega arith)
 
-pub IsUnended-cut : (sector : List ℕ) (at place : ℕ) (list : List Extent) → BeginsList sector at list → place ≡ at + 16 * length list → 512 < place + 16
+pub IsUnended-cut : (sector : List ℕ) (at place : ℕ) (list : List Extent) → BeginsList sector at list → place ≡ at + 16 * length list
+    → 512 < place + 16
     → field 8 sector place ≢ 0 → IsUnended sector at
 IsUnended-cut sector at place list begins p past goes_on k room =
     elim (cases_lt k (length list)) [

@@ -6,7 +6,8 @@ use Rattle.sector_base.proofs.Puts.{field-front}
 use Rattle.pv_label.specs.Label.{IsLabel}
 use Rattle.pv_label.specs.LabelBytes.{summed_bytes, with_label}
 
-pub IsLabel-with_label : (contents : List ℕ) (number : ℕ) → number < 256 ^ 8 → checksum lvm_crc_start (summed_bytes contents) < 256 ^ 4 → IsLabel (with_label contents number) number
+pub IsLabel-with_label : (contents : List ℕ) (number : ℕ) → number < 256 ^ 8 → checksum lvm_crc_start (summed_bytes contents) < 256 ^ 4
+    → IsLabel (with_label contents number) number
 IsLabel-with_label contents number fits sum_fits = record {
   id = refl;
   sector_is = field-front 8 number (little_bytes 4 (checksum lvm_crc_start (summed_bytes contents)) ++ summed_bytes contents) fits;

@@ -9,4 +9,6 @@ summed_bytes contents = little_bytes 4 32 ++ (codes "LVM2 001" ++ drop 32 conten
 
 -- the sector with these contents and the label header of the sector of this number
 abbrev pub with_label : List ℕ → ℕ → List ℕ
-with_label contents number = codes "LABELONE" ++ (little_bytes 8 number ++ (little_bytes 4 (checksum lvm_crc_start (summed_bytes contents)) ++ summed_bytes contents))
+with_label contents number =
+    codes "LABELONE" ++ (little_bytes 8 number
+        ++ (little_bytes 4 (checksum lvm_crc_start (summed_bytes contents)) ++ summed_bytes contents))

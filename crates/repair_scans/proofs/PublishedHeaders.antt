@@ -1,5 +1,6 @@
 -- The header of a stale area once a repair is done: it publishes the text.
-use Rattle.std.proofs.Common.{◌≡◌, ◌≤◌, ◌<◌, ℕ, zero, suc, ◌/◌, true, List, [], ◌∷◌, ◌++◌, length, map, get_or, Option, inl, inr, ⊎_elim, sym, ap, ◌∙◌, arith}
+use Rattle.std.proofs.Common.{◌≡◌, ◌≤◌, ◌<◌, ℕ, zero, suc, ◌/◌, true, List, [], ◌∷◌, ◌++◌, length, map, get_or, Option, inl, inr, ⊎_elim,
+    sym, ap, ◌∙◌, arith}
 use Rattle.std.proofs.lemmas.Bool.{or_left, or_right, true≢false}
 use Rattle.std.proofs.lemmas.List.Elements.{filter_passes}
 use Rattle.std.specs.FinSet.{contains}
@@ -35,26 +36,35 @@ use Rattle.repair_scans.proofs.StraysApart.{strays_apart}
 -- ---- the third batch of a commit
 
 module _ (text : List ℕ) where
-  publish_where : (areas : List (Area × Option Locn)) (d : Area × Option Locn) (pv sector : ℕ) (value : List ℕ) → IsWrittenBy (publish_of (map (area_writes text) areas)) pv sector value
-      → (k : ℕ) × (k < length areas) × (covers (header_span (get_or areas k d).0) pv sector ≡ true) × (value ≡ header_bytes (header_after text (get_or areas k d)))
+  publish_where : (areas : List (Area × Option Locn)) (d : Area × Option Locn) (pv sector : ℕ) (value : List ℕ)
+      → IsWrittenBy (publish_of (map (area_writes text) areas)) pv sector value
+      → (k : ℕ) × (k < length areas) × (covers (header_span (get_or areas k d).0) pv sector ≡ true)
+      × (value ≡ header_bytes (header_after text (get_or areas k d)))
   publish_where [] d pv sector value by = absurd by
   publish_where (a ∷ areas) d pv sector value (inl own) =
       let t = one_tells a.0.pv (a.0.start / 512) pv sector own.0 in
       (0, omega arith, own.0, own.1 ∙ one_value a.0.pv (a.0.start / 512) sector (header_bytes (header_after text a)) t.1)
-  publish_where (a ∷ areas) d pv sector value (inr more) = let w = publish_where areas d pv sector value more in (suc w.0, omega (arith, w.1), w.2, w.3)
+  publish_where (a ∷ areas) d pv sector value (inr more) =
+      let w = publish_where areas d pv sector value more in (suc w.0, omega (arith, w.1), w.2, w.3)
 
   publish_at : (areas : List (Area × Option Locn)) (d : Area × Option Locn) (k : ℕ) → k < length areas
-      → writes_at (map write_work (publish_of (map (area_writes text) areas))) (get_or areas k d).0.pv ((get_or areas k d).0.start / 512) ≡ true
+      → writes_at (map write_work (publish_of (map (area_writes text) areas))) (get_or areas k d).0.pv ((get_or areas k d).0.start / 512)
+      ≡ true
   publish_at [] d k within = absurd (omega (arith, within))
   publish_at (a ∷ areas) d zero within =
-      or_left (covers (header_span a.0) a.0.pv (a.0.start / 512)) (writes_at (map write_work (publish_of (map (area_writes text) areas))) a.0.pv (a.0.start / 512)) (one_covers a.0.pv (a.0.start / 512))
+      or_left (covers (header_span a.0) a.0.pv (a.0.start / 512))
+          (writes_at (map write_work (publish_of (map (area_writes text) areas))) a.0.pv (a.0.start / 512))
+          (one_covers a.0.pv (a.0.start / 512))
   publish_at (a ∷ areas) d (suc k) within =
-      or_right (covers (header_span a.0) (get_or areas k d).0.pv ((get_or areas k d).0.start / 512)) (writes_at (map write_work (publish_of (map (area_writes text) areas))) (get_or areas k d).0.pv ((get_or areas k d).0.start / 512))
+      or_right (covers (header_span a.0) (get_or areas k d).0.pv ((get_or areas k d).0.start / 512))
+          (writes_at (map write_work (publish_of (map (area_writes text) areas))) (get_or areas k d).0.pv
+          ((get_or areas k d).0.start / 512))
       (publish_at areas d k (omega (arith, within)))
 
   -- each header is as it publishes the text
   published : (areas : List (Area × Option Locn)) (base : Image) → AreHeld areas → (k : ℕ) (d : Area × Option Locn) → k < length areas
-      → with_writes (publish_of (map (area_writes text) areas)) base (get_or areas k d).0.pv ((get_or areas k d).0.start / 512) ≡ header_bytes (header_after text (get_or areas k d))
+      → with_writes (publish_of (map (area_writes text) areas)) base (get_or areas k d).0.pv ((get_or areas k d).0.start / 512)
+      ≡ header_bytes (header_after text (get_or areas k d))
   published areas base held k d within =
       let a : Area × Option Locn = get_or areas k d in
       let puts = publish_of (map (area_writes text) areas) in
@@ -64,17 +74,20 @@ module _ (text : List ℕ) where
       let w = publish_where areas d a.0.pv (a.0.start / 512) (with_writes puts base a.0.pv (a.0.start / 512)) by in
       let b : Area × Option Locn = get_or areas w.0 d in
       let same : b ≡ a =
-      one_area areas held.take held.apart d w.0 k a.0.pv (a.0.start / 512) w.1 within (header_covers b.0 a.0.pv (a.0.start / 512) (held.take w.0 d w.1).0 w.2)
+      one_area areas held.take held.apart d w.0 k a.0.pv (a.0.start / 512) w.1 within
+          (header_covers b.0 a.0.pv (a.0.start / 512) (held.take w.0 d w.1).0 w.2)
       (header_covers a.0 a.0.pv (a.0.start / 512) (held.take k d within).0 (one_covers a.0.pv (a.0.start / 512)))
       in
       w.3 ∙ ap (λ (c : Area × Option Locn). header_bytes (header_after text c)) same)
       (written_or_kept puts base a.0.pv (a.0.start / 512))
 
   texts_published : (areas : List (Area × Option Locn)) (base : Image) → AreHeld areas → (k : ℕ) (d : Area × Option Locn) → k < length areas
-      → with_batches (text_batches text areas) base (get_or areas k d).0.pv ((get_or areas k d).0.start / 512) ≡ header_bytes (header_after text (get_or areas k d))
+      → with_batches (text_batches text areas) base (get_or areas k d).0.pv ((get_or areas k d).0.start / 512)
+      ≡ header_bytes (header_after text (get_or areas k d))
   texts_published [] base held k d within = absurd (omega (arith, within))
   texts_published (a ∷ areas) base held k d within =
-      published (a ∷ areas) (with_writes (headers_of (map (area_writes text) (a ∷ areas))) (with_writes (texts_of (map (area_writes text) (a ∷ areas))) base)) held k d within
+      published (a ∷ areas) (with_writes (headers_of (map (area_writes text) (a ∷ areas)))
+          (with_writes (texts_of (map (area_writes text) (a ∷ areas))) base)) held k d within
 
 -- ---- the repair
 
@@ -93,7 +106,8 @@ module _ (base : Image) (sizes : List ℕ) (found : Found) (p : CanRepair base s
 
   -- the batches behind those of the text write another sector
   texts_kept : (k : ℕ) (d : Area × Option Locn) → k < length stale
-      → with_batches (repair_batches found) base (get_or stale k d).0.pv ((get_or stale k d).0.start / 512) ≡ texts (get_or stale k d).0.pv ((get_or stale k d).0.start / 512)
+      → with_batches (repair_batches found) base (get_or stale k d).0.pv ((get_or stale k d).0.start / 512)
+      ≡ texts (get_or stale k d).0.pv ((get_or stale k d).0.start / 512)
   texts_kept k d within =
       let pv : ℕ = (get_or stale k d).0.pv in
       let sector : ℕ = (get_or stale k d).0.start / 512 in
@@ -104,22 +118,29 @@ module _ (base : Image) (sizes : List ℕ) (found : Found) (p : CanRepair base s
       (λ same. same)
       (λ by.
       let value : List ℕ = with_batches clears second pv sector in
-      let w : IsClearWrite (stray_areas found) pv sector value = clear_write (stray_areas found) pv sector value (any_if (map clear_put (stray_areas found)) pv sector value by) in
-      absurd (true≢false (sym (filter_passes (lies_on found.strays) found.areas w.number no_area w.among) ∙ ap (contains found.strays) w.disk ∙ stale_elsewhere found (strays_apart base sizes found p.scan) k d within)))
+      let w : IsClearWrite (stray_areas found) pv sector value =
+          clear_write (stray_areas found) pv sector value (any_if (map clear_put (stray_areas found)) pv sector value by) in
+      absurd (true≢false (sym (filter_passes (lies_on found.strays) found.areas w.number no_area w.among)
+          ∙ ap (contains found.strays) w.disk ∙ stale_elsewhere found (strays_apart base sizes found p.scan) k d within)))
       (batches_or clears second pv sector)
       in
       let labelled : with_batches label_batches texts pv sector ≡ texts pv sector =
       ⊎_elim
       (λ same. same)
       (λ by.
-      let w = label_where (stray_labels found) (some_label base sizes found p) pv sector (with_batches label_batches texts pv sector) (any_if (map label_put (stray_labels found)) pv sector (with_batches label_batches texts pv sector) by) in
-      let low : (get_or (stray_labels found) w.0 (some_label base sizes found p)).sector < 4 = (labels_can found p.shape w.0 (some_label base sizes found p) w.1).sector_below in
+      let w =
+          label_where (stray_labels found) (some_label base sizes found p) pv sector (with_batches label_batches texts pv sector)
+              (any_if (map label_put (stray_labels found)) pv sector (with_batches label_batches texts pv sector) by) in
+      let low : (get_or (stray_labels found) w.0 (some_label base sizes found p)).sector < 4 =
+          (labels_can found p.shape w.0 (some_label base sizes found p) w.1).sector_below in
       absurd (omega (arith, far, low, w.3)))
       (batches_or label_batches texts pv sector)
       in
-      ap (λ (i : Image). i pv sector) (batches_append (text_batches (text_of found) stale) (label_batches ++ clears) base ∙ batches_append label_batches clears texts) ∙ cleared ∙ labelled
+      ap (λ (i : Image). i pv sector) (batches_append (text_batches (text_of found) stale) (label_batches ++ clears) base
+          ∙ batches_append label_batches clears texts) ∙ cleared ∙ labelled
 
   -- the header of each stale area is as it publishes the text
   pub header_published : (k : ℕ) (d : Area × Option Locn) → k < length stale
-      → with_batches (repair_batches found) base (get_or stale k d).0.pv ((get_or stale k d).0.start / 512) ≡ header_bytes (header_after (text_of found) (get_or stale k d))
+      → with_batches (repair_batches found) base (get_or stale k d).0.pv ((get_or stale k d).0.start / 512)
+      ≡ header_bytes (header_after (text_of found) (get_or stale k d))
   header_published k d within = texts_kept k d within ∙ texts_published (text_of found) stale base (stale_held found p.shape) k d within

@@ -1,5 +1,6 @@
 -- What a scan finds on the way of a repair.
-use Rattle.std.proofs.Common.{◌≡◌, ℕ, zero, suc, ◌+◌, Bool, true, false, not, ◌&&◌, List, [], ◌∷◌, Option, Some, None, inl, inr, ⊎_elim, refl, sym, ap, subst, ◌∙◌, arith}
+use Rattle.std.proofs.Common.{◌≡◌, ℕ, zero, suc, ◌+◌, Bool, true, false, not, ◌&&◌, List, [], ◌∷◌, Option, Some, None, inl, inr, ⊎_elim,
+    refl, sym, ap, subst, ◌∙◌, arith}
 use Rattle.std.specs.Prelude.{filter_map, option_map, slice_get, unwrap_or}
 use Rattle.std.specs.FinSet as set
 use Rattle.std.specs.List.{Contains, cons_option, list_any}
@@ -12,7 +13,9 @@ use Rattle.disk_batch.proofs.FrontBatches.{none_front}
 use Rattle.disk_model.specs.Steps.{Image, IsSame}
 use Rattle.meta_model.specs.declared.group.Group.{Group}
 use Rattle.pv_header.specs.declared.header.PvHeader.{PvHeader}
-use Rattle.scan_rules.specs.Decision.{Area, AreaReading, Conflict, Copy, DuplicatePv, Found as PvOf, FoundGroup, GivesNoLater, HasShape as IsShaped, Held, NoCopy, NoGroup, PvShape, Reading, SamePv, ScanAnswer, TwoGroups, Unsupported, decide_scan, gives, holds, is_held, is_listed, lists}
+use Rattle.scan_rules.specs.Decision.{Area, AreaReading, Conflict, Copy, DuplicatePv, Found as PvOf, FoundGroup, GivesNoLater,
+    HasShape as IsShaped, Held, NoCopy, NoGroup, PvShape, Reading, SamePv, ScanAnswer, TwoGroups, Unsupported, decide_scan, gives, holds,
+    is_held, is_listed, lists}
 use Rattle.scan_rules.specs.Found.{missing_of}
 use Rattle.scan_rules.specs.Laws.{IsStray}
 use Rattle.scan_rules.proofs.Repairs.{strays_exact}
@@ -29,7 +32,8 @@ use Rattle.vg_repair.specs.Stale.{text_of}
 use Rattle.vg_repair.proofs.Nothing.{leaves_all}
 use Rattle.repair_scans.specs.Laws.{CanRepair, FindsAgain}
 use Rattle.image_scans.specs.Versions.{Version}
-use Rattle.image_scans.proofs.Again.{AreasAgain, DisksAgain, Finds, GivesAgain, PvAgain, again_give, again_headers, finds_newest, missing_same}
+use Rattle.image_scans.proofs.Again.{AreasAgain, DisksAgain, Finds, GivesAgain, PvAgain, again_give, again_headers, finds_newest,
+    missing_same}
 use Rattle.image_scans.proofs.CommitScans.{disks_by_ids, none_unread}
 use Rattle.image_scans.proofs.Decided.{IsFoundWith, found_parts}
 use Rattle.image_scans.proofs.DiskAgain.{AllAgain, DiskAgain, all_again}
@@ -49,14 +53,19 @@ module _ (group : Group) (text : List ℕ) (passed : List (List ℕ)) where
   abbrev lost : List ℕ → AreaReading → Bool
   lost = may_be_lost group text
 
-  one_still : (id : List ℕ) → lists group id ≡ true → (a b : Option AreaReading) (as' bs : List AreaReading) → GivesAgain new true (lost id) a b → (list_any (gives text) as' ≡ true → list_any (gives text) bs ≡ true)
+  one_still : (id : List ℕ) → lists group id ≡ true → (a b : Option AreaReading) (as' bs : List AreaReading)
+      → GivesAgain new true (lost id) a b → (list_any (gives text) as' ≡ true → list_any (gives text) bs ≡ true)
       → list_any (gives text) (cons_option a as') ≡ true → list_any (gives text) (cons_option b bs) ≡ true
-  one_still id listed None b as' bs again later any = subst (λ (o : Option AreaReading). list_any (gives text) (cons_option o bs) ≡ true) (sym again) (later any)
+  one_still id listed None b as' bs again later any =
+      subst (λ (o : Option AreaReading). list_any (gives text) (cons_option o bs) ≡ true) (sym again) (later any)
   one_still id listed (Some r) b as' bs (inl same) later any =
       subst (λ (o : Option AreaReading). list_any (gives text) (cons_option o bs) ≡ true) (sym same)
-      (⊎_elim (λ here. or_left (gives text r) (list_any (gives text) bs) here) (λ rest. or_right (gives text r) (list_any (gives text) bs) (later rest)) (or_cases (gives text r) (list_any (gives text) as') any))
+      (⊎_elim (λ here. or_left (gives text r) (list_any (gives text) bs) here)
+          (λ rest. or_right (gives text r) (list_any (gives text) bs) (later rest))
+          (or_cases (gives text r) (list_any (gives text) as') any))
   one_still id listed (Some r) b as' bs (inr (inl made)) later any =
-      subst (λ (o : Option AreaReading). list_any (gives text) (cons_option o bs) ≡ true) (sym made.0) (or_left (gives text new) (list_any (gives text) bs) (same_bytes_to text text refl))
+      subst (λ (o : Option AreaReading). list_any (gives text) (cons_option o bs) ≡ true) (sym made.0)
+          (or_left (gives text new) (list_any (gives text) bs) (same_bytes_to text text refl))
   one_still id listed (Some r) b as' bs (inr (inr none)) later any =
       subst (λ (o : Option AreaReading). list_any (gives text) (cons_option o bs) ≡ true) (sym none.0)
       (⊎_elim
@@ -66,22 +75,29 @@ module _ (group : Group) (text : List ℕ) (passed : List (List ℕ)) where
       (λ rest. later rest)
       (or_cases (gives text r) (list_any (gives text) as') any))
 
-  areas_still : (id : List ℕ) → lists group id ≡ true → (as' bs : List Area) → AreasAgain new true (lost id) as' bs → list_any (gives text) (filter_map (λ (a : Area). a.reading) as') ≡ true → list_any (gives text) (filter_map (λ (a : Area). a.reading) bs) ≡ true
+  areas_still : (id : List ℕ) → lists group id ≡ true → (as' bs : List Area) → AreasAgain new true (lost id) as' bs
+      → list_any (gives text) (filter_map (λ (a : Area). a.reading) as') ≡ true
+      → list_any (gives text) (filter_map (λ (a : Area). a.reading) bs) ≡ true
   areas_still id listed [] [] again any = any
   areas_still id listed [] (b ∷ bs) again any = absurd again
   areas_still id listed (a ∷ as') [] again any = absurd again
   areas_still id listed (a ∷ as') (b ∷ bs) again any =
-      one_still id listed a.reading b.reading (filter_map (λ (x : Area). x.reading) as') (filter_map (λ (x : Area). x.reading) bs) again.2 (λ rest. areas_still id listed as' bs again.3 rest) any
+      one_still id listed a.reading b.reading (filter_map (λ (x : Area). x.reading) as') (filter_map (λ (x : Area). x.reading) bs) again.2
+          (λ rest. areas_still id listed as' bs again.3 rest) any
 
-  pv_still : (s t : ℕ) (a b : Option PvOf) → PvAgain (λ id. true) lost new a b → (is_listed group (record { sectors = s; pv = a }) && holds text (record { sectors = s; pv = a })) ≡ true → (is_listed group (record { sectors = t; pv = b }) && holds text (record { sectors = t; pv = b })) ≡ true
+  pv_still : (s t : ℕ) (a b : Option PvOf) → PvAgain (λ id. true) lost new a b
+      → (is_listed group (record { sectors = s; pv = a }) && holds text (record { sectors = s; pv = a })) ≡ true
+      → (is_listed group (record { sectors = t; pv = b }) && holds text (record { sectors = t; pv = b })) ≡ true
   pv_still s t None None again any = absurd (false≢true any)
   pv_still s t None (Some b) again any = absurd again
   pv_still s t (Some a) None again any = absurd again
   pv_still s t (Some a) (Some b) again any =
       let parts = and_parts (lists group a.id) (list_any (gives text) (filter_map (λ (x : Area). x.reading) a.areas)) any in
-      ap (λ (x : Bool). x && list_any (gives text) (filter_map (λ (y : Area). y.reading) b.areas)) (ap (lists group) (sym again.0) ∙ parts.0) ∙ areas_still a.id parts.0 a.areas b.areas again.1 parts.1
+      ap (λ (x : Bool). x && list_any (gives text) (filter_map (λ (y : Area). y.reading) b.areas))
+          (ap (lists group) (sym again.0) ∙ parts.0) ∙ areas_still a.id parts.0 a.areas b.areas again.1 parts.1
 
-  held_still : (as' bs : List Reading) → DisksAgain (λ id. true) lost new as' bs → is_held group text as' ≡ true → is_held group text bs ≡ true
+  held_still : (as' bs : List Reading) → DisksAgain (λ id. true) lost new as' bs → is_held group text as' ≡ true
+      → is_held group text bs ≡ true
   held_still [] [] again any = any
   held_still [] (b ∷ bs) again any = absurd again
   held_still (a ∷ as') [] again any = absurd again
@@ -93,17 +109,20 @@ module _ (group : Group) (text : List ℕ) (passed : List (List ℕ)) where
 
 -- ---- strays
 
-reading_at : (image : Image) (unread : set.FinSet nat_cmp) (first : ℕ) (disks : List Disk) (readings : List Reading) → AreDiskReadings image unread first disks readings → (k : ℕ) (disk : Disk) → slice_get disks k ≡ Some disk
+reading_at : (image : Image) (unread : set.FinSet nat_cmp) (first : ℕ) (disks : List Disk) (readings : List Reading)
+    → AreDiskReadings image unread first disks readings → (k : ℕ) (disk : Disk) → slice_get disks k ≡ Some disk
     → (reading : Reading) × (slice_get readings k ≡ Some reading) × IsDiskReading (first + k) (image (first + k)) disk reading
 reading_at image unread first [] readings are k disk there = absurd cc
 reading_at image unread first (d ∷ disks) [] are k disk there = absurd are
 reading_at image unread first (d ∷ disks) (reading ∷ readings) are zero disk there =
-    (reading, refl, subst (λ (n : ℕ). IsDiskReading n (image n) disk reading) (omega arith) (subst (λ (x : Disk). IsDiskReading first (image first) x reading) (same_Some d disk there) are.1))
+    (reading, refl, subst (λ (n : ℕ). IsDiskReading n (image n) disk reading) (omega arith)
+        (subst (λ (x : Disk). IsDiskReading first (image first) x reading) (same_Some d disk there) are.1))
 reading_at image unread first (d ∷ disks) (reading ∷ readings) are (suc k) disk there =
     let r = reading_at image unread (first + 1) disks readings are.2 k disk there in
     (r.0, r.1, subst (λ (n : ℕ). IsDiskReading n (image n) disk r.0) (omega arith) r.2)
 
-same_id : (header : PvHeader) (o : Option PvHeader) (own : PvOf) (read : Option PvOf) → o ≡ Some header → read ≡ Some own → SamePv (option_map pv_shape o) read → own.id ≡ header.id
+same_id : (header : PvHeader) (o : Option PvHeader) (own : PvOf) (read : Option PvOf) → o ≡ Some header → read ≡ Some own
+    → SamePv (option_map pv_shape o) read → own.id ≡ header.id
 same_id header None own read is has same = absurd cc
 same_id header (Some other) own None is has same = absurd same
 same_id header (Some other) own (Some pv) is has same =
@@ -114,8 +133,10 @@ module _ (base : Image) (sizes : List ℕ) (found : Found) (p : CanRepair base s
   readings = p.scan.readings
 
   -- a stray's header isn't listed
-  pub unlisted : (held : Held) (stale : List (ℕ × ℕ)) (strays : List ℕ) (missing : List (List ℕ)) → decide_scan readings ≡ FoundGroup held stale strays missing → found.strays ≡ set.from_list strays
-      → (pv : ℕ) (disk : Disk) (header : PvHeader) → slice_get found.disks pv ≡ Some disk → header_on disk.contents ≡ Some header → set.contains found.strays pv ≡ true → lists held.group header.id ≡ false
+  pub unlisted : (held : Held) (stale : List (ℕ × ℕ)) (strays : List ℕ) (missing : List (List ℕ))
+      → decide_scan readings ≡ FoundGroup held stale strays missing → found.strays ≡ set.from_list strays
+      → (pv : ℕ) (disk : Disk) (header : PvHeader) → slice_get found.disks pv ≡ Some disk → header_on disk.contents ≡ Some header
+      → set.contains found.strays pv ≡ true → lists held.group header.id ≡ false
   unlisted held stale strays missing is are pv disk header there has stray =
       let among : Contains strays pv =
       in_set strays pv (ap (λ (s : set.FinSet nat_cmp). set.contains s pv) (sym are) ∙ stray) in
@@ -123,12 +144,16 @@ module _ (base : Image) (sizes : List ℕ) (found : Found) (p : CanRepair base s
       let r = reading_at base found.unread 0 found.disks readings p.scan.are.each pv disk there in
       let read : IsDiskReading pv (base pv) disk r.0 = subst (λ (n : ℕ). IsDiskReading n (base n) disk r.0) (omega arith) r.2 in
       let own : r.0.pv ≡ Some s.pv = sym (ap (λ (o : Option Reading). option_and_then (λ (x : Reading). x.pv) o) r.1) ∙ s.on_disk in
-      let id : s.pv.id ≡ header.id = same_id header (header_on disk.contents) s.pv r.0.pv has own (pv_shaped pv disk.sectors (base pv) disk.contents r.0.pv read.contents read.pv_is) in
+      let id : s.pv.id ≡ header.id =
+          same_id header (header_on disk.contents) s.pv r.0.pv has own
+              (pv_shaped pv disk.sectors (base pv) disk.contents r.0.pv read.contents read.pv_is) in
       ap (lists held.group) (sym id) ∙ s.is_unlisted
 
   -- ---- a group was found
 
-  module _ (held : Held) (stale : List (ℕ × ℕ)) (strays : List ℕ) (missing : List (List ℕ)) (is : decide_scan readings ≡ FoundGroup held stale strays missing) (by : IsFoundBy (FoundGroup held stale strays missing) found) (image : Image)
+  module _ (held : Held) (stale : List (ℕ × ℕ)) (strays : List ℕ) (missing : List (List ℕ))
+      (is : decide_scan readings ≡ FoundGroup held stale strays missing) (by : IsFoundBy (FoundGroup held stale strays missing) found)
+      (image : Image)
       (h : HasFirstBatches (repair_batches found) base image) where
     abbrev text : List ℕ
     text = text_of found
@@ -145,7 +170,8 @@ module _ (base : Image) (sizes : List ℕ) (found : Found) (p : CanRepair base s
 
     -- the text that was found is a copy of the group
     pub copy : IsCopyOf text held.group held.passed
-    copy = subst (λ (t : List ℕ). IsCopyOf t held.group held.passed) (sym text_is) (best_copy_has IsItsCopy readings copies held parts.best_is)
+    copy =
+        subst (λ (t : List ℕ). IsCopyOf t held.group held.passed) (sym text_is) (best_copy_has IsItsCopy readings copies held parts.best_is)
 
     abbrev made : AreaReading
     made = Copy held.group text held.passed
@@ -157,22 +183,26 @@ module _ (base : Image) (sizes : List ℕ) (found : Found) (p : CanRepair base s
         (λ k disk reading at_disk at_reading read.
         let plain : 0 + k ≡ k = omega arith in
         subst (λ (n : ℕ). DiskAgain n (image n) (λ id. true) (may_be_lost held.group text) made disk reading) (sym plain)
-        (each_again base sizes found p held.group (unlisted held stale strays missing is by.4) image h k disk at_disk held.passed copy reading (subst (λ (n : ℕ). IsDiskReading n (base n) disk reading) plain read)))
+        (each_again base sizes found p held.group (unlisted held stale strays missing is by.4) image h k disk at_disk held.passed copy
+            reading (subst (λ (n : ℕ). IsDiskReading n (base n) disk reading) plain read)))
 
     given : DisksGive (λ disk. GivesNoLater held.group held.text) again.read
     given =
-        again_give (GivesNoLater held.group held.text) made (refl, inl (refl, text_is)) tt (λ id. true) (may_be_lost held.group text) readings again.read again.again
+        again_give (GivesNoLater held.group held.text) made (refl, inl (refl, text_is)) tt (λ id. true) (may_be_lost held.group text)
+            readings again.read again.again
         (none_later_given readings held stale strays missing is copies)
 
     shape : IsShaped held.group again.read
     shape =
-        same_shape held.group readings again.read (again_headers (λ id. true) (may_be_lost held.group text) made readings again.read again.again)
+        same_shape held.group readings again.read
+            (again_headers (λ id. true) (may_be_lost held.group text) made readings again.read again.again)
         (record { apart = parts.apart; placed = parts.placed })
 
     still_held : is_held held.group held.text again.read ≡ true
     still_held =
         subst (λ (t : List ℕ). is_held held.group t again.read ≡ true) text_is
-        (held_still held.group text held.passed readings again.read again.again (subst (λ (t : List ℕ). is_held held.group t readings ≡ true) (sym text_is) parts.is_held_is))
+        (held_still held.group text held.passed readings again.read again.again
+            (subst (λ (t : List ℕ). is_held held.group t readings ≡ true) (sym text_is) parts.is_held_is))
 
     -- the same group and text are found again
     pub finds : Finds again.read held.group held.text
@@ -195,11 +225,14 @@ module _ (base : Image) (sizes : List ℕ) (found : Found) (p : CanRepair base s
     -- no physical volume of the group is missing
     pub none_away : missing_of again.read held.group.pvs ≡ []
     none_away =
-        sym (missing_same readings again.read held.group.pvs (again_headers (λ id. true) (may_be_lost held.group text) made readings again.read again.again)) ∙ parts.missing_are ∙ sym by.5 ∙ p.whole.there
+        sym (missing_same readings again.read held.group.pvs
+            (again_headers (λ id. true) (may_be_lost held.group text) made readings again.read again.again)) ∙ parts.missing_are ∙ sym by.5
+            ∙ p.whole.there
 
     found_text : FindsAgain sizes image found
     found_text =
-        let own : IsFoundWith again.read finds.held finds.stale finds.strays finds.missing = found_parts again.read finds.held finds.stale finds.strays finds.missing finds.is in
+        let own : IsFoundWith again.read finds.held finds.stale finds.strays finds.missing =
+            found_parts again.read finds.held finds.stale finds.strays finds.missing finds.is in
         let version : Group → Version = λ g. record { group = g; disk_of = disks_of g again.there } in
         record {
           finds = record {
@@ -214,8 +247,11 @@ module _ (base : Image) (sizes : List ℕ) (found : Found) (p : CanRepair base s
             left = λ pv within. none_unread found p.whole pv;
             whole = sym own.missing_are ∙ ap (λ (g : Group). missing_of again.read g.pvs) finds.group_is ∙ none_away;
             version_is =
-                ap (λ (g : Group). Some (version g)) finds.group_is ∙ ap (λ (l : List ℕ). Some (record { group = held.group; disk_of = l })) (disks_by_ids held.group found.disks again.there again.ids)
-                ∙ sym (ap (λ (o : Option Group). option_map (λ (g : Group). record { group = g; disk_of = disks_of g found.disks }) o) by.0);
+                ap (λ (g : Group). Some (version g)) finds.group_is
+                    ∙ ap (λ (l : List ℕ). Some (record { group = held.group; disk_of = l }))
+                    (disks_by_ids held.group found.disks again.there again.ids)
+                ∙ sym (ap (λ (o : Option Group). option_map (λ (g : Group). record { group = g; disk_of = disks_of g found.disks }) o)
+                by.0);
           };
           text = ap (λ (t : List ℕ). Some t) finds.text_is ∙ sym by.1;
         }
@@ -227,9 +263,11 @@ module _ (base : Image) (sizes : List ℕ) (found : Found) (p : CanRepair base s
       let nothing : repair_batches found ≡ [] = (leaves_all found p.shape by.3 by.4).0 in
       let same : IsSame image base = none_front base image (subst (λ (l : List (List Put)). HasFirstBatches l base image) nothing h) in
       subst (λ (i : Image). FindsAgain sizes i found) (λ i pv sector. sym (same pv sector) i)
-      (record { finds = record { found = found; scan = p.scan; left = λ pv within. none_unread found p.whole pv; whole = p.whole.there; version_is = refl }; text = refl })
+      (record { finds = record { found = found; scan = p.scan; left = λ pv within. none_unread found p.whole pv; whole = p.whole.there;
+          version_is = refl }; text = refl })
 
-  by_answer : (answer : ScanAnswer) → decide_scan readings ≡ answer → IsFoundBy answer found → (image : Image) → HasFirstBatches (repair_batches found) base image → FindsAgain sizes image found
+  by_answer : (answer : ScanAnswer) → decide_scan readings ≡ answer → IsFoundBy answer found → (image : Image)
+      → HasFirstBatches (repair_batches found) base image → FindsAgain sizes image found
   by_answer (FoundGroup held stale strays missing) is by image h = found_text held stale strays missing is by image h
   by_answer NoGroup is by image h = of_none by image h
   by_answer (DuplicatePv a b) is by image h = absurd by

@@ -1,5 +1,6 @@
 -- An image on the way of a repair: each disk reads again, but for areas that give the text that was found, or nothing.
-use Rattle.std.proofs.Common.{◌≡◌, ◌≤◌, ◌<◌, ◌⊎◌, ℕ, zero, suc, ◌+◌, ◌*◌, ◌/◌, ◌==◌, ◌&&◌, ◌||◌, not, Bool, true, false, List, [], ◌∷◌, length, get_or, map, Option, Some, None, inl, inr, ⊎_elim, refl, sym, ap, subst, ◌∙◌, arith}
+use Rattle.std.proofs.Common.{◌≡◌, ◌≤◌, ◌<◌, ◌⊎◌, ℕ, zero, suc, ◌+◌, ◌*◌, ◌/◌, ◌==◌, ◌&&◌, ◌||◌, not, Bool, true, false, List, [], ◌∷◌,
+    length, get_or, map, Option, Some, None, inl, inr, ⊎_elim, refl, sym, ap, subst, ◌∙◌, arith}
 use Rattle.std.specs.Prelude.{All, slice_get}
 use Rattle.std.specs.FinSet as set
 use Rattle.std.specs.List.{list_any}
@@ -79,17 +80,25 @@ find_place : (areas : List (Area × Option Locn)) (a : Area × Option Locn) → 
 find_place [] a any = absurd (true≢false (sym any))
 find_place (b ∷ areas) a any = step (λ later. find_place areas a later) (or_cases (is_place a b) (list_any (is_place a) areas) any)
   where
-    step : (list_any (is_place a) areas ≡ true → HasPlaceIn areas a) → (is_place a b ≡ true) ⊎ (list_any (is_place a) areas ≡ true) → HasPlaceIn (b ∷ areas) a
+    step : (list_any (is_place a) areas ≡ true → HasPlaceIn areas a) → (is_place a b ≡ true) ⊎ (list_any (is_place a) areas ≡ true)
+        → HasPlaceIn (b ∷ areas) a
     step rest (inl here) =
         let parts = and_parts (a.0.pv == b.0.pv) (a.0.start == b.0.start) here in
-        record { number = 0; among = omega arith; same_pv = sym (eqb-true a.0.pv b.0.pv parts.0); same_start = sym (eqb-true a.0.start b.0.start parts.1) }
-    step rest (inr later) = let r : HasPlaceIn areas a = rest later in record { number = suc r.number; among = omega (arith, r.among); same_pv = r.same_pv; same_start = r.same_start }
+        record { number = 0; among = omega arith; same_pv = sym (eqb-true a.0.pv b.0.pv parts.0);
+            same_start = sym (eqb-true a.0.start b.0.start parts.1) }
+    step rest (inr later) =
+        let r : HasPlaceIn areas a = rest later in record { number = suc r.number; among = omega (arith, r.among); same_pv = r.same_pv;
+            same_start = r.same_start }
 
-no_place : (areas : List (Area × Option Locn)) (a : Area × Option Locn) → list_any (is_place a) areas ≡ false → (k : ℕ) → k < length areas → (get_or areas k no_area).0.pv ≡ a.0.pv → (get_or areas k no_area).0.start ≡ a.0.start → ⊥
+no_place : (areas : List (Area × Option Locn)) (a : Area × Option Locn) → list_any (is_place a) areas ≡ false → (k : ℕ) → k < length areas
+    → (get_or areas k no_area).0.pv ≡ a.0.pv → (get_or areas k no_area).0.start ≡ a.0.start → ⊥
 no_place [] a none k within pv start = omega (arith, within)
 no_place (b ∷ areas) a none zero within pv start =
-    true≢false (sym (or_left (is_place a b) (list_any (is_place a) areas) (and_from (a.0.pv == b.0.pv) (a.0.start == b.0.start) (eq-eqb a.0.pv b.0.pv (sym pv)) (eq-eqb a.0.start b.0.start (sym start)))) ∙ none)
-no_place (b ∷ areas) a none (suc k) within pv start = no_place areas a (later (is_place a b) (list_any (is_place a) areas) none) k (omega (arith, within)) pv start
+    true≢false (sym (or_left (is_place a b) (list_any (is_place a) areas)
+        (and_from (a.0.pv == b.0.pv) (a.0.start == b.0.start) (eq-eqb a.0.pv b.0.pv (sym pv)) (eq-eqb a.0.start b.0.start (sym start))))
+        ∙ none)
+no_place (b ∷ areas) a none (suc k) within pv start =
+    no_place areas a (later (is_place a b) (list_any (is_place a) areas) none) k (omega (arith, within)) pv start
   where
     later : (x y : Bool) → (x || y) ≡ false → y ≡ false
     later true y is = absurd (true≢false is)
@@ -140,7 +149,9 @@ module _ (base : Image) (sizes : List ℕ) (found : Found) (p : CanRepair base s
   cleared = stray_areas found
 
   pub shown : ShowsEntries found.areas base
-  shown = subst (λ (l : List (Area × Option Locn)). ShowsEntries l base) (sym p.scan.areas) (entries_shown base found.unread 0 found.disks p.scan.readings p.scan.are.each)
+  shown =
+      subst (λ (l : List (Area × Option Locn)). ShowsEntries l base) (sym p.scan.areas)
+          (entries_shown base found.unread 0 found.disks p.scan.readings p.scan.are.each)
 
   -- each disk is one
   pub are_disks : (pv : ℕ) (disk : Disk) → slice_get found.disks pv ≡ Some disk → IsDisk pv disk
@@ -172,13 +183,16 @@ module _ (base : Image) (sizes : List ℕ) (found : Found) (p : CanRepair base s
 
   -- ---- what is written
 
-  texts_write : (areas : List (Area × Option Locn)) → All CanTake areas → All (λ (a : Area × Option Locn). need (length text + 1) ≤ room a.0.size a.1) areas → (pv sector : ℕ) (value : List ℕ) → AnyWrites (text_batches text areas) pv sector value
+  texts_write : (areas : List (Area × Option Locn)) → All CanTake areas
+      → All (λ (a : Area × Option Locn). need (length text + 1) ≤ room a.0.size a.1) areas → (pv sector : ℕ) (value : List ℕ)
+      → AnyWrites (text_batches text areas) pv sector value
       → IsAreaWrite text areas pv sector value
   texts_write [] take fits pv sector value by = absurd by
   texts_write (a ∷ areas) take fits pv sector value by = commit_writes text (a ∷ areas) take fits pv sector value by
 
   -- what any of the batches writes
-  pub writes : (pv sector : ℕ) (value : List ℕ) → AnyWrites (repair_batches found) pv sector value → IsAreaWrite text stale pv sector value ⊎ (IsWrittenBy (map label_put labels) pv sector value ⊎ IsClearWrite cleared pv sector value)
+  pub writes : (pv sector : ℕ) (value : List ℕ) → AnyWrites (repair_batches found) pv sector value
+      → IsAreaWrite text stale pv sector value ⊎ (IsWrittenBy (map label_put labels) pv sector value ⊎ IsClearWrite cleared pv sector value)
   writes pv sector value by =
       ⊎_elim
       (λ texts. inl (texts_write stale (stale_held found p.shape).take stale_rooms pv sector value texts))
@@ -191,38 +205,46 @@ module _ (base : Image) (sizes : List ℕ) (found : Found) (p : CanRepair base s
 
   -- near sectors are those of labels
   text_far : (pv sector : ℕ) (value : List ℕ) → IsAreaWrite text stale pv sector value → 4 ≤ sector
-  text_far pv sector value w = let begins : 2048 ≤ (get_or stale w.number no_area).0.start = stale_far w.number no_area w.among in omega (arith, begins, w.from)
+  text_far pv sector value w =
+      let begins : 2048 ≤ (get_or stale w.number no_area).0.start = stale_far w.number no_area w.among in omega (arith, begins, w.from)
 
   clear_far : (pv sector : ℕ) (value : List ℕ) → IsClearWrite cleared pv sector value → 4 ≤ sector
-  clear_far pv sector value w = let begins : 2048 ≤ (get_or cleared w.number no_area).0.start = cleared_far w.number no_area w.among in omega (arith, begins, w.at)
+  clear_far pv sector value w =
+      let begins : 2048 ≤ (get_or cleared w.number no_area).0.start = cleared_far w.number no_area w.among in omega (arith, begins, w.at)
 
   -- some label, where a list has none
   pub some_label : NewLabel
-  some_label = record { disk = 0; sector = 0; header = record { id = []; device_bytes = 0; data_areas = []; areas = []; version = 0; flags = 0 } }
+  some_label =
+      record { disk = 0; sector = 0; header = record { id = []; device_bytes = 0; data_areas = []; areas = []; version = 0; flags = 0 } }
 
   -- a label stays until all is written
-  label_stays : (k : ℕ) (d : NewLabel) → k < length labels → with_batches (repair_batches found) base (get_or labels k d).disk (get_or labels k d).sector ≡ label_bytes (get_or labels k d)
+  label_stays : (k : ℕ) (d : NewLabel) → k < length labels
+      → with_batches (repair_batches found) base (get_or labels k d).disk (get_or labels k d).sector ≡ label_bytes (get_or labels k d)
   label_stays k d within =
       let label : NewLabel = get_or labels k d in
       let low : label.sector < 4 = (labels_can found p.shape k d within).sector_below in
       let texts : Image = with_batches (text_batches text stale) base in
       let first : Image = with_batches (batch_if (map label_put labels)) texts in
       let there : first label.disk label.sector ≡ label_bytes label =
-      ap (λ (i : Image). i label.disk label.sector) (with_if (map label_put labels) texts) ∙ labels_there labels texts (labels_differ found p.shape) k d within
+      ap (λ (i : Image). i label.disk label.sector) (with_if (map label_put labels) texts)
+          ∙ labels_there labels texts (labels_differ found p.shape) k d within
       in
       ap (λ (i : Image). i label.disk label.sector)
-      (batches_append (text_batches text stale) (clear_batches found.strays found.disks found.areas) base ∙ batches_append (batch_if (map label_put labels)) (batch_if (map clear_put cleared)) texts)
+      (batches_append (text_batches text stale) (clear_batches found.strays found.disks found.areas) base
+          ∙ batches_append (batch_if (map label_put labels)) (batch_if (map clear_put cleared)) texts)
       ∙ ⊎_elim
       (λ same. same ∙ there)
       (λ by.
       let value : List ℕ = with_batches (batch_if (map clear_put cleared)) first label.disk label.sector in
-      let w : IsClearWrite cleared label.disk label.sector value = clear_write cleared label.disk label.sector value (any_if (map clear_put cleared) label.disk label.sector value by) in
+      let w : IsClearWrite cleared label.disk label.sector value =
+          clear_write cleared label.disk label.sector value (any_if (map clear_put cleared) label.disk label.sector value by) in
       absurd (omega (arith, low, clear_far label.disk label.sector value w)))
       (batches_or (batch_if (map clear_put cleared)) first label.disk label.sector)
 
   -- ---- an image on the way
 
-  module _ (group : Group) (unlisted : (pv : ℕ) (disk : Disk) (header : PvHeader) → slice_get found.disks pv ≡ Some disk → header_on disk.contents ≡ Some header → set.contains found.strays pv ≡ true → lists group header.id ≡ false) (image : Image)
+  module _ (group : Group) (unlisted : (pv : ℕ) (disk : Disk) (header : PvHeader) → slice_get found.disks pv ≡ Some disk
+      → header_on disk.contents ≡ Some header → set.contains found.strays pv ≡ true → lists group header.id ≡ false) (image : Image)
       (h : HasFirstBatches (repair_batches found) base image) where
     abbrev lost : List ℕ → AreaReading → Bool
     lost = may_be_lost group text
@@ -231,7 +253,8 @@ module _ (base : Image) (sizes : List ℕ) (found : Found) (p : CanRepair base s
     kept = p.keeps.kept base image shown h
 
     -- a sector below the fourth is as in the base, or has the label of its disk
-    pub near : (pv sector : ℕ) → sector < 4 → (image pv sector ≡ base pv sector) ⊎ IsWrittenBy (map label_put labels) pv sector (image pv sector)
+    pub near : (pv sector : ℕ) → sector < 4 → (image pv sector ≡ base pv sector)
+        ⊎ IsWrittenBy (map label_put labels) pv sector (image pv sector)
     near pv sector low =
         ⊎_elim
         (λ same. inl same)
@@ -252,18 +275,24 @@ module _ (base : Image) (sizes : List ℕ) (found : Found) (p : CanRepair base s
           let w = label_where labels some_label pv sector (image pv sector) by in
           let on : IsLabelOn found.strays found.disks (get_or labels w.0 some_label) = labels_on w.0 some_label w.1 in
           let same : disk ≡ on.0 = same_Some disk on.0 (sym there ∙ ap (slice_get found.disks) (sym w.2) ∙ on.2) in
-          absurd (let e : ◌≡◌ {A = Option (ℕ × PvHeader)} None (Some ((get_or labels w.0 some_label).sector, on.1)) = sym none ∙ ap (λ (d : Disk). option_and_then pv_in d.contents) same ∙ on.3 in cc))
+          absurd (let e : ◌≡◌ {A = Option (ℕ × PvHeader)} None (Some ((get_or labels w.0 some_label).sector, on.1)) = sym none
+              ∙ ap (λ (d : Disk). option_and_then pv_in d.contents) same ∙ on.3 in cc))
           (near pv sector low)
 
-      module _ (label : ℕ) (header : PvHeader) (areas : List AreaFound) (is : disk.contents ≡ Some (Whole label header areas)) (low : label < 4) where
-        of_label : (sector : ℕ) (value : List ℕ) → IsWrittenBy (map label_put labels) pv sector value → (new : NewLabel) × (label ≡ sector) × (value ≡ label_bytes new) × IsSameHeader header new.header × (new.sector ≡ label) × CanLabel new
-            × (with_batches (repair_batches found) base new.disk new.sector ≡ label_bytes new) × HasLabel (with_batches (repair_batches found) base) new
+      module _ (label : ℕ) (header : PvHeader) (areas : List AreaFound) (is : disk.contents ≡ Some (Whole label header areas))
+          (low : label < 4) where
+        of_label : (sector : ℕ) (value : List ℕ) → IsWrittenBy (map label_put labels) pv sector value
+            → (new : NewLabel) × (label ≡ sector) × (value ≡ label_bytes new) × IsSameHeader header new.header × (new.sector ≡ label)
+            × CanLabel new
+            × (with_batches (repair_batches found) base new.disk new.sector ≡ label_bytes new)
+            × HasLabel (with_batches (repair_batches found) base) new
         of_label sector value by =
             let w = label_where labels some_label pv sector value by in
             let new : NewLabel = get_or labels w.0 some_label in
             let on : IsLabelOn found.strays found.disks new = labels_on w.0 some_label w.1 in
             let same : disk ≡ on.0 = same_Some disk on.0 (sym there ∙ ap (slice_get found.disks) (sym w.2) ∙ on.2) in
-            let both : ◌≡◌ {A = Option (ℕ × PvHeader)} (Some (label, header)) (Some (new.sector, on.1)) = sym (ap (option_and_then pv_in) is) ∙ ap (λ (d : Disk). option_and_then pv_in d.contents) same ∙ on.3 in
+            let both : ◌≡◌ {A = Option (ℕ × PvHeader)} (Some (label, header)) (Some (new.sector, on.1)) =
+                sym (ap (option_and_then pv_in) is) ∙ ap (λ (d : Disk). option_and_then pv_in d.contents) same ∙ on.3 in
             let pair : (label, header) ≡ (new.sector, on.1) = same_Some (label, header) (new.sector, on.1) both in
             let at : label ≡ new.sector = ap (λ (x : ℕ × PvHeader). x.0) pair in (
               new,
@@ -279,7 +308,9 @@ module _ (base : Image) (sizes : List ℕ) (found : Found) (p : CanRepair base s
         -- the label reads again, with the same id and areas
         pub label_stands : LabelStands (base pv) (image pv) label header
         label_stands = record {
-          before = λ k less. ⊎_elim (λ same. same) (λ by. absurd (omega (arith, less, (of_label k (image pv k) by).1))) (near pv k (omega (arith, less, low)));
+          before =
+              λ k less. ⊎_elim (λ same. same) (λ by. absurd (omega (arith, less, (of_label k (image pv k) by).1)))
+                  (near pv k (omega (arith, less, low)));
           is =
               ⊎_elim
               (λ same. inl same)
@@ -303,14 +334,19 @@ module _ (base : Image) (sizes : List ℕ) (found : Found) (p : CanRepair base s
           placed : IsPlaced areas area
           placed = all_placed found.disks are_disks pv disk there label header areas is k d within
 
-          is_cleared : IsClearWrite cleared pv (area.area.offset / 512) (image pv (area.area.offset / 512)) → IsCleared pv image (lost header.id) area
+          is_cleared : IsClearWrite cleared pv (area.area.offset / 512) (image pv (area.area.offset / 512))
+              → IsCleared pv image (lost header.id) area
           is_cleared clear =
               let sector : ℕ = area.area.offset / 512 in
               let b : Area × Option Locn = get_or cleared clear.number no_area in
               let take : CanTake b = All-filter (lies_on found.strays) CanTake found.areas p.shape.take clear.number no_area clear.among in
               let met : held_area pv area ≡ Some b =
-              area_met found.disks are_disks pv disk there label header areas is k d within b (cleared_on_disks clear.number no_area clear.among) clear.disk sector (omega (arith, clear.at)) (omega (arith, clear.at, take.0.has_ring)) (omega arith) (omega (arith, placed.some)) in
-              let stray : set.contains found.strays pv ≡ true = ap (set.contains found.strays) (sym clear.disk) ∙ filter_passes (lies_on found.strays) found.areas clear.number no_area clear.among in
+              area_met found.disks are_disks pv disk there label header areas is k d within b
+                  (cleared_on_disks clear.number no_area clear.among) clear.disk sector (omega (arith, clear.at))
+                  (omega (arith, clear.at, take.0.has_ring)) (omega arith) (omega (arith, placed.some)) in
+              let stray : set.contains found.strays pv ≡ true =
+                  ap (set.contains found.strays) (sym clear.disk)
+                      ∙ filter_passes (lies_on found.strays) found.areas clear.number no_area clear.among in
               (b, met, take, clear.is, all_lost group text header.id (unlisted pv disk header there (ap header_on is) stray))
 
           -- its header was cleared, or has another value on the way
@@ -321,7 +357,8 @@ module _ (base : Image) (sizes : List ℕ) (found : Found) (p : CanRepair base s
               (λ same. inr (inl same))
               (λ by.
               ⊎_elim
-              (λ texts. inr (inr (header_met found.disks are_disks text stale stale_on_disks stale_rooms pv disk there label header areas is k d within (image pv sector) texts)))
+              (λ texts. inr (inr (header_met found.disks are_disks text stale stale_on_disks stale_rooms pv disk there label header areas is
+                  k d within (image pv sector) texts)))
               (λ other.
               ⊎_elim
               (λ at.
@@ -334,7 +371,8 @@ module _ (base : Image) (sizes : List ℕ) (found : Found) (p : CanRepair base s
               (front_or (repair_batches found) base image pv sector h)
 
           -- where none of the stale areas has its place, its ring is as in the base
-          ring_kept : (b : Area × Option Locn) → held_area pv area ≡ Some b → list_any (is_place b) stale ≡ false → (sector : ℕ) → b.0.start / 512 + 1 ≤ sector → sector < b.0.start / 512 + b.0.size / 512 → image pv sector ≡ base pv sector
+          ring_kept : (b : Area × Option Locn) → held_area pv area ≡ Some b → list_any (is_place b) stale ≡ false → (sector : ℕ)
+              → b.0.start / 512 + 1 ≤ sector → sector < b.0.start / 512 + b.0.size / 512 → image pv sector ≡ base pv sector
           ring_kept b is_held none sector from to =
               let own : b.0 ≡ area_on pv area.area = entry_kept (area_on pv area.area) area.entry b is_held in
               let starts : b.0.start ≡ area.area.offset = ap (λ (a : Area). a.start) own in
@@ -347,9 +385,12 @@ module _ (base : Image) (sizes : List ℕ) (found : Found) (p : CanRepair base s
               (λ texts.
               let s : Area × Option Locn = get_or stale texts.number no_area in
               let met : held_area pv area ≡ Some s =
-              area_met found.disks are_disks pv disk there label header areas is k d within s (stale_on_disks texts.number no_area texts.among) texts.disk sector texts.from texts.to (omega (arith, from, starts)) (omega (arith, to, starts, sized)) in
+              area_met found.disks are_disks pv disk there label header areas is k d within s
+                  (stale_on_disks texts.number no_area texts.among) texts.disk sector texts.from texts.to (omega (arith, from, starts))
+                  (omega (arith, to, starts, sized)) in
               let same : b ≡ s = same_Some b s (sym is_held ∙ met) in
-              absurd (no_place stale b none texts.number texts.among (ap (λ (a : Area × Option Locn). a.0.pv) (sym same)) (ap (λ (a : Area × Option Locn). a.0.start) (sym same))))
+              absurd (no_place stale b none texts.number texts.among (ap (λ (a : Area × Option Locn). a.0.pv) (sym same))
+                  (ap (λ (a : Area × Option Locn). a.0.start) (sym same))))
               (λ other.
               ⊎_elim
               (λ at.
@@ -360,7 +401,9 @@ module _ (base : Image) (sizes : List ℕ) (found : Found) (p : CanRepair base s
               let c : Area × Option Locn = get_or cleared clear.number no_area in
               let take : CanTake c = All-filter (lies_on found.strays) CanTake found.areas p.shape.take clear.number no_area clear.among in
               let met : held_area pv area ≡ Some c =
-              area_met found.disks are_disks pv disk there label header areas is k d within c (cleared_on_disks clear.number no_area clear.among) clear.disk sector (omega (arith, clear.at)) (omega (arith, clear.at, take.0.has_ring)) (omega (arith, from, starts)) (omega (arith, to, starts, sized)) in
+              area_met found.disks are_disks pv disk there label header areas is k d within c
+                  (cleared_on_disks clear.number no_area clear.among) clear.disk sector (omega (arith, clear.at))
+                  (omega (arith, clear.at, take.0.has_ring)) (omega (arith, from, starts)) (omega (arith, to, starts, sized)) in
               let same : b ≡ c = same_Some b c (sym is_held ∙ met) in
               absurd (omega (arith, from, clear.at, ap (λ (a : Area × Option Locn). a.0.start) same)))
               other)
@@ -368,7 +411,8 @@ module _ (base : Image) (sizes : List ℕ) (found : Found) (p : CanRepair base s
               (front_or (repair_batches found) base image pv sector h)
 
           -- and its header is as in the base, or was cleared
-          header_plain : (b : Area × Option Locn) → held_area pv area ≡ Some b → list_any (is_place b) stale ≡ false → IsCleared pv image (lost header.id) area ⊎ (image pv (area.area.offset / 512) ≡ base pv (area.area.offset / 512))
+          header_plain : (b : Area × Option Locn) → held_area pv area ≡ Some b → list_any (is_place b) stale ≡ false
+              → IsCleared pv image (lost header.id) area ⊎ (image pv (area.area.offset / 512) ≡ base pv (area.area.offset / 512))
           header_plain b is_held none =
               let sector : ℕ = area.area.offset / 512 in
               ⊎_elim
@@ -378,9 +422,12 @@ module _ (base : Image) (sizes : List ℕ) (found : Found) (p : CanRepair base s
               (λ texts.
               let s : Area × Option Locn = get_or stale texts.number no_area in
               let met : held_area pv area ≡ Some s =
-              area_met found.disks are_disks pv disk there label header areas is k d within s (stale_on_disks texts.number no_area texts.among) texts.disk sector texts.from texts.to (omega arith) (omega (arith, placed.some)) in
+              area_met found.disks are_disks pv disk there label header areas is k d within s
+                  (stale_on_disks texts.number no_area texts.among) texts.disk sector texts.from texts.to (omega arith)
+                  (omega (arith, placed.some)) in
               let same : b ≡ s = same_Some b s (sym is_held ∙ met) in
-              absurd (no_place stale b none texts.number texts.among (ap (λ (a : Area × Option Locn). a.0.pv) (sym same)) (ap (λ (a : Area × Option Locn). a.0.start) (sym same))))
+              absurd (no_place stale b none texts.number texts.among (ap (λ (a : Area × Option Locn). a.0.pv) (sym same))
+                  (ap (λ (a : Area × Option Locn). a.0.start) (sym same))))
               (λ other.
               ⊎_elim
               (λ at.
@@ -400,8 +447,10 @@ module _ (base : Image) (sizes : List ℕ) (found : Found) (p : CanRepair base s
               let starts : b.0.start ≡ area.area.offset = ap (λ (a : Area). a.start) own in
               let take : CanTake s = (stale_held found p.shape).take r.number no_area r.among in
               let met : held_area pv area ≡ Some s =
-              area_met found.disks are_disks pv disk there label header areas is k d within s (stale_on_disks r.number no_area r.among) (r.same_pv ∙ ap (λ (a : Area). a.pv) own) (area.area.offset / 512)
-              (omega (arith, r.same_start, starts)) (omega (arith, r.same_start, starts, take.0.has_ring)) (omega arith) (omega (arith, placed.some)) in
+              area_met found.disks are_disks pv disk there label header areas is k d within s (stale_on_disks r.number no_area r.among)
+                  (r.same_pv ∙ ap (λ (a : Area). a.pv) own) (area.area.offset / 512)
+              (omega (arith, r.same_start, starts)) (omega (arith, r.same_start, starts, take.0.has_ring)) (omega arith)
+                  (omega (arith, placed.some)) in
               subst (IsKeptOrNew text base image) (same_Some s b (sym met ∙ is_held)) (kept.stale r.number no_area r.among)
 
           -- what the base shows of it
@@ -412,13 +461,16 @@ module _ (base : Image) (sizes : List ℕ) (found : Found) (p : CanRepair base s
           in_base b is_held =
               let sized = base_sized found.areas base p.shape.take in
               let shows = base_shows found.areas base shown in
-              let all : All IsShown (held_areas 0 found.disks) = subst (All IsShown) p.shape.areas (λ j e in_list. (p.shape.take j e in_list, sized j e in_list, shows j e in_list)) in
+              let all : All IsShown (held_areas 0 found.disks) =
+                  subst (All IsShown) p.shape.areas (λ j e in_list. (p.shape.take j e in_list, sized j e in_list, shows j e in_list)) in
               let here : All (λ f. (x : Area × Option Locn) → held_area (0 + pv) f ≡ Some x → IsShown x) areas =
-              subst (λ (c : Option PvFound). All (λ f. (x : Area × Option Locn) → held_area (0 + pv) f ≡ Some x → IsShown x) (areas_on c)) is (of_held IsShown 0 found.disks all pv disk there)
+              subst (λ (c : Option PvFound). All (λ f. (x : Area × Option Locn) → held_area (0 + pv) f ≡ Some x → IsShown x) (areas_on c))
+                  is (of_held IsShown 0 found.disks all pv disk there)
               in
               here k d within b (ap (λ (n : ℕ). held_area n area) (omega arith) ∙ is_held)
 
-          plain_shows : (b : Area × Option Locn) → held_area pv area ≡ Some b → list_any (is_place b) stale ≡ false → image pv (area.area.offset / 512) ≡ base pv (area.area.offset / 512) → ShowsBy (old_reading (text_in base)) image b
+          plain_shows : (b : Area × Option Locn) → held_area pv area ≡ Some b → list_any (is_place b) stale ≡ false
+              → image pv (area.area.offset / 512) ≡ base pv (area.area.offset / 512) → ShowsBy (old_reading (text_in base)) image b
           plain_shows b is_held none same =
               let own : b.0 ≡ area_on pv area.area = entry_kept (area_on pv area.area) area.entry b is_held in
               let starts : b.0.start ≡ area.area.offset = ap (λ (a : Area). a.start) own in
@@ -437,7 +489,8 @@ module _ (base : Image) (sizes : List ℕ) (found : Found) (p : CanRepair base s
           known_by None is_held =
               ⊎_elim
               (λ clear. inr clear)
-              (λ has. inl ((λ b some. absurd (let e : ◌≡◌ {A = Option (Area × Option Locn)} None (Some b) = sym is_held ∙ some in cc)), has))
+              (λ has. inl ((λ b some. absurd (let e : ◌≡◌ {A = Option (Area × Option Locn)} None (Some b) = sym is_held ∙ some in cc)),
+                  has))
               header_value
           known_by (Some b) is_held =
               ⊎_elim
@@ -453,27 +506,37 @@ module _ (base : Image) (sizes : List ℕ) (found : Found) (p : CanRepair base s
               (header_plain b is_held none))
               (cases_Bool (list_any (is_place b) stale))
             where
-              way_of : (x : Area × Option Locn) → held_area pv area ≡ Some x → IsKeptOrNew text base image x → IsOnTheWay text base image true x
+              way_of : (x : Area × Option Locn) → held_area pv area ≡ Some x → IsKeptOrNew text base image x
+                  → IsOnTheWay text base image true x
               way_of x some shows = record { shows = kept_or_made text base image true refl x shows; take = (in_base x some).0 }
 
-              same_any : (x : Area × Option Locn) → held_area pv area ≡ Some x → list_any (is_place b) stale ≡ true → list_any (is_place x) stale ≡ true
-              same_any x some any = subst (λ (y : Area × Option Locn). list_any (is_place y) stale ≡ true) (same_Some b x (sym is_held ∙ some)) any
+              same_any : (x : Area × Option Locn) → held_area pv area ≡ Some x → list_any (is_place b) stale ≡ true
+                  → list_any (is_place x) stale ≡ true
+              same_any x some any =
+                  subst (λ (y : Area × Option Locn). list_any (is_place y) stale ≡ true) (same_Some b x (sym is_held ∙ some)) any
 
-              same_none : (x : Area × Option Locn) → held_area pv area ≡ Some x → list_any (is_place b) stale ≡ false → list_any (is_place x) stale ≡ false
-              same_none x some none = subst (λ (y : Area × Option Locn). list_any (is_place y) stale ≡ false) (same_Some b x (sym is_held ∙ some)) none
+              same_none : (x : Area × Option Locn) → held_area pv area ≡ Some x → list_any (is_place b) stale ≡ false
+                  → list_any (is_place x) stale ≡ false
+              same_none x some none =
+                  subst (λ (y : Area × Option Locn). list_any (is_place y) stale ≡ false) (same_Some b x (sym is_held ∙ some)) none
 
           known : IsKnown text pv base image true (lost header.id) area
           known = known_by (held_area pv area) refl
 
-        with_header : (passed : List (List ℕ)) → IsCopyOf text group passed → (reading : Reading) → IsDiskReading pv (base pv) disk reading → DiskAgain pv (image pv) (λ id. true) lost (Copy group text passed) disk reading
+        with_header : (passed : List (List ℕ)) → IsCopyOf text group passed → (reading : Reading) → IsDiskReading pv (base pv) disk reading
+            → DiskAgain pv (image pv) (λ id. true) lost (Copy group text passed) disk reading
         with_header passed copy reading read =
-            subst (λ (n : ℕ). DiskAgain pv (image pv) (λ id. true) lost (Copy group text passed) disk (record { sectors = n; pv = reading.pv })) (sym read.sectors_is)
-            (disk_again text group passed copy (λ id. true) lost pv base image disk.sectors disk.contents reading.pv read.contents read.pv_is (fine_pv group text reading.pv) label header areas is label_stands
+            subst (λ (n : ℕ). DiskAgain pv (image pv) (λ id. true) lost (Copy group text passed) disk
+                (record { sectors = n; pv = reading.pv })) (sym read.sectors_is)
+            (disk_again text group passed copy (λ id. true) lost pv base image disk.sectors disk.contents reading.pv read.contents
+                read.pv_is (fine_pv group text reading.pv) label header areas is label_stands
             (recursion_from_All (IsKnown text pv base image true (lost header.id)) areas (λ k d within. known k d within)))
 
       -- without a header nothing of the disk's first sectors is written
-      bare_contents : (contents : PvFound) → pv_in contents ≡ None → ((sector : ℕ) → sector < 4 → image pv sector ≡ base pv sector) → IsFound (base pv) disk.sectors contents → IsFound (image pv) disk.sectors contents
-      bare_contents (NoLabel refusal) none same found' = subst (λ (l : List (List ℕ)). IsLabelRefusal l refusal) (sym (four_same (base pv) (image pv) same)) found'
+      bare_contents : (contents : PvFound) → pv_in contents ≡ None → ((sector : ℕ) → sector < 4 → image pv sector ≡ base pv sector)
+          → IsFound (base pv) disk.sectors contents → IsFound (image pv) disk.sectors contents
+      bare_contents (NoLabel refusal) none same found' =
+          subst (λ (l : List (List ℕ)). IsLabelRefusal l refusal) (sym (four_same (base pv) (image pv) same)) found'
       bare_contents (NoHeader label refusal) none same found' = (
         subst (λ (l : List (List ℕ)). IsFirstLabel l label) (sym (four_same (base pv) (image pv) same)) found'.0,
         subst (λ (s : List ℕ). Refuses s (disk.sectors * 512) refusal) (sym (same label found'.0.among)) found'.1,
@@ -482,37 +545,45 @@ module _ (base : Image) (sizes : List ℕ) (found : Found) (p : CanRepair base s
       bare_contents (Whole label header areas) none same found' = absurd cc
 
       -- what was found on a disk without a header stands there still
-      pub without_header : (contents : Option PvFound) → disk.contents ≡ contents → option_and_then pv_in contents ≡ None → (reading : Reading) → IsContents (base pv) disk.sectors contents → IsContents (image pv) disk.sectors contents
+      pub without_header : (contents : Option PvFound) → disk.contents ≡ contents → option_and_then pv_in contents ≡ None
+          → (reading : Reading) → IsContents (base pv) disk.sectors contents → IsContents (image pv) disk.sectors contents
       without_header None is none reading c = tt
       without_header (Some contents) is none reading c = bare_contents contents none (no_label (ap (option_and_then pv_in) is ∙ none)) c
 
-      bare_pv : (contents : Option PvFound) → option_and_then pv_in contents ≡ None → (read : Option PvOf) → IsPvReading pv (base pv) contents read → IsPvReading pv (image pv) contents read
+      bare_pv : (contents : Option PvFound) → option_and_then pv_in contents ≡ None → (read : Option PvOf)
+          → IsPvReading pv (base pv) contents read → IsPvReading pv (image pv) contents read
       bare_pv None none read is = is
       bare_pv (Some (NoLabel refusal)) none read is = is
       bare_pv (Some (NoHeader label refusal)) none read is = is
       bare_pv (Some (Whole label header areas)) none read is = absurd cc
 
-      bare_disk : (passed : List (List ℕ)) → option_and_then pv_in disk.contents ≡ None → (reading : Reading) → IsDiskReading pv (base pv) disk reading → DiskAgain pv (image pv) (λ id. true) lost (Copy group text passed) disk reading
+      bare_disk : (passed : List (List ℕ)) → option_and_then pv_in disk.contents ≡ None → (reading : Reading)
+          → IsDiskReading pv (base pv) disk reading → DiskAgain pv (image pv) (λ id. true) lost (Copy group text passed) disk reading
       bare_disk passed none reading read = record {
         there = disk;
         read = reading;
         sectors_is = refl;
         unread = λ is. is;
         unread_there = λ is. is;
-        is = record { contents = without_header disk.contents refl none reading read.contents; sectors_is = read.sectors_is; pv_is = bare_pv disk.contents none reading.pv read.pv_is };
+        is =
+            record { contents = without_header disk.contents refl none reading read.contents; sectors_is = read.sectors_is;
+                pv_is = bare_pv disk.contents none reading.pv read.pv_is };
         same_sectors = refl;
         again = pv_same (λ id. true) lost (Copy group text passed) reading.pv;
         ids = λ id. refl;
         areas_is = refl;
       }
 
-      whole_of : (contents : Option PvFound) (pair : ℕ × PvHeader) → option_and_then pv_in contents ≡ Some pair → (areas : List AreaFound) × (contents ≡ Some (Whole pair.0 pair.1 areas))
+      whole_of : (contents : Option PvFound) (pair : ℕ × PvHeader) → option_and_then pv_in contents ≡ Some pair
+          → (areas : List AreaFound) × (contents ≡ Some (Whole pair.0 pair.1 areas))
       whole_of None pair is = absurd cc
       whole_of (Some (NoLabel refusal)) pair is = absurd cc
       whole_of (Some (NoHeader label refusal)) pair is = absurd cc
-      whole_of (Some (Whole label header areas)) pair is = (areas, ap (λ (x : ℕ × PvHeader). Some (Whole x.0 x.1 areas)) (same_Some (label, header) pair is))
+      whole_of (Some (Whole label header areas)) pair is =
+          (areas, ap (λ (x : ℕ × PvHeader). Some (Whole x.0 x.1 areas)) (same_Some (label, header) pair is))
 
-      by_pv : (passed : List (List ℕ)) → IsCopyOf text group passed → (reading : Reading) → IsDiskReading pv (base pv) disk reading → (o : Option (ℕ × PvHeader)) → option_and_then pv_in disk.contents ≡ o
+      by_pv : (passed : List (List ℕ)) → IsCopyOf text group passed → (reading : Reading) → IsDiskReading pv (base pv) disk reading
+          → (o : Option (ℕ × PvHeader)) → option_and_then pv_in disk.contents ≡ o
           → DiskAgain pv (image pv) (λ id. true) lost (Copy group text passed) disk reading
       by_pv passed copy reading read None is = bare_disk passed is reading read
       by_pv passed copy reading read (Some pair) is =
@@ -520,5 +591,6 @@ module _ (base : Image) (sizes : List ℕ) (found : Found) (p : CanRepair base s
           let stands = subst (λ (c : Option PvFound). ContentsCanStand pv disk.sectors c) w.1 (are_disks pv disk there).contents in
           with_header pair.0 pair.1 w.0 w.1 stands.0 passed copy reading read
 
-      pub each_again : (passed : List (List ℕ)) → IsCopyOf text group passed → (reading : Reading) → IsDiskReading pv (base pv) disk reading → DiskAgain pv (image pv) (λ id. true) lost (Copy group text passed) disk reading
+      pub each_again : (passed : List (List ℕ)) → IsCopyOf text group passed → (reading : Reading) → IsDiskReading pv (base pv) disk reading
+          → DiskAgain pv (image pv) (λ id. true) lost (Copy group text passed) disk reading
       each_again passed copy reading read = by_pv passed copy reading read (option_and_then pv_in disk.contents) refl

@@ -33,7 +33,8 @@ use Rattle.repair_scans.specs.Laws.{CanRepair}
 use Rattle.repair_scans.proofs.FoundGroup.{found_accepted}
 use Rattle.repair_scans.proofs.RepairOnTheWay.{shown}
 
-module _ (base : Image) (sizes : List ℕ) (found : Found) (p : CanRepair base sizes found) (group : Group) (is_group : found.group ≡ Some group) where
+module _ (base : Image) (sizes : List ℕ) (found : Found) (p : CanRepair base sizes found) (group : Group)
+    (is_group : found.group ≡ Some group) where
   listed : found.disk_of ≡ disks_of group found.disks
   listed = subst (λ (o : Option Group). IfSome o (λ g. found.disk_of ≡ disks_of g found.disks)) is_group p.shape.disk_of
 
@@ -41,7 +42,9 @@ module _ (base : Image) (sizes : List ℕ) (found : Found) (p : CanRepair base s
   placed = subst (λ (o : Option Group). IfSome o (λ g. first_misplaced g (shapes found.disks) ≡ None)) is_group p.shape.placed
 
   none_away : missing_of (shapes found.disks) group.pvs ≡ []
-  none_away = sym (subst (λ (o : Option Group). IfSome o (λ g. found.missing ≡ missing_of (shapes found.disks) g.pvs)) is_group p.shape.missing) ∙ p.whole.there
+  none_away =
+      sym (subst (λ (o : Option Group). IfSome o (λ g. found.missing ≡ missing_of (shapes found.disks) g.pvs)) is_group p.shape.missing)
+          ∙ p.whole.there
 
   are_disks : (pv : ℕ) (disk : Disk) → slice_get found.disks pv ≡ Some disk → IsDisk pv disk
   are_disks pv disk there = (p.shape.disks pv disk there).0
@@ -59,7 +62,8 @@ module _ (base : Image) (sizes : List ℕ) (found : Found) (p : CanRepair base s
     outside : (a : Area × Option Locn) → IsHeldOn found.disks a → covers (area_span a.0) number at.sector ≡ false
     outside a is_held =
         false_from_ne_true (covers (area_span a.0) number at.sector)
-        (λ inside. let t = covers_tells (area_span a.0) number at.sector inside in beside_areas found.disks are_disks number at.sector on a is_held t.0 t.1 t.2)
+        (λ inside. let t = covers_tells (area_span a.0) number at.sector inside in beside_areas found.disks are_disks number at.sector on a
+            is_held t.0 t.1 t.2)
 
     no_header : (a : Area × Option Locn) → IsHeldOn found.disks a → CanTake a → covers (header_span a.0) number at.sector ≡ false
     no_header a is_held take =
@@ -70,14 +74,20 @@ module _ (base : Image) (sizes : List ℕ) (found : Found) (p : CanRepair base s
 
     other : IsOther found number at.sector
     other = record {
-      stale = stale_all found p.shape (λ (a : Area × Option Locn). covers (area_span a.0) number at.sector ≡ false) (λ k d within. outside (get_or found.areas k d) (held k d within));
-      labels = λ k d within. inr (λ same. let low : (get_or (stray_labels found) k d).sector < 4 = (labels_can found p.shape k d within).sector_below in let behind : 8 ≤ at.sector = on.beside.behind in omega (arith, low, same, behind));
+      stale =
+          stale_all found p.shape (λ (a : Area × Option Locn). covers (area_span a.0) number at.sector ≡ false)
+              (λ k d within. outside (get_or found.areas k d) (held k d within));
+      labels =
+          λ k d within. inr (λ same. let low : (get_or (stray_labels found) k d).sector
+              < 4 = (labels_can found p.shape k d within).sector_below in let behind : 8
+              ≤ at.sector = on.beside.behind in omega (arith, low, same, behind));
       headers =
           All-filter (lies_on found.strays) (λ (a : Area × Option Locn). covers (header_span a.0) number at.sector ≡ false) found.areas
           (λ k d within. no_header (get_or found.areas k d) (held k d within) (p.shape.take k d within));
     }
 
-    pub place_kept : (image : Image) → HasFirstBatches (repair_batches found) base image → at_place image found.disk_of at ≡ at_place base found.disk_of at
+    pub place_kept : (image : Image) → HasFirstBatches (repair_batches found) base image
+        → at_place image found.disk_of at ≡ at_place base found.disk_of at
     place_kept image h =
         subst (λ (l : List ℕ). at_place image l at ≡ at_place base l at) (sym listed)
         ((p.keeps.kept base image (shown base sizes found p) h).others number at.sector other)

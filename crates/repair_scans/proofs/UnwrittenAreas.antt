@@ -31,7 +31,8 @@ use Rattle.repair_scans.proofs.NumberedAreas.{stale_number}
 use Rattle.repair_scans.proofs.RepairOnTheWay.{are_disks, cleared_on_disks, some_label, stale_on_disks, writes}
 use Rattle.repair_scans.proofs.StraysApart.{in_at}
 
-module _ (base : Image) (sizes : List ℕ) (found : Found) (p : CanRepair base sizes found) (pv : ℕ) (disk : Disk) (there : slice_get found.disks pv ≡ Some disk) (label : ℕ) (header : PvHeader) (areas : List AreaFound)
+module _ (base : Image) (sizes : List ℕ) (found : Found) (p : CanRepair base sizes found) (pv : ℕ) (disk : Disk)
+    (there : slice_get found.disks pv ≡ Some disk) (label : ℕ) (header : PvHeader) (areas : List AreaFound)
     (is : disk.contents ≡ Some (Whole label header areas)) (n : ℕ) (d : AreaFound) (within : n < length areas) where
   abbrev area : AreaFound
   area = get_or areas n d
@@ -41,7 +42,8 @@ module _ (base : Image) (sizes : List ℕ) (found : Found) (p : CanRepair base s
 
   -- where it isn't ignored, it is neither on a stray nor stale
   abbrev pub IsUnwritten : Type 0
-  IsUnwritten = (held : Area × Option Locn) → held_area pv area ≡ Some held → (contains found.strays pv ≡ false) × (is_among found.stale pv n ≡ false)
+  IsUnwritten =
+      (held : Area × Option Locn) → held_area pv area ≡ Some held → (contains found.strays pv ≡ false) × (is_among found.stale pv n ≡ false)
 
   -- it is there by its number
   pub area_at : slice_get (areas_on disk.contents) n ≡ Some area
@@ -51,7 +53,8 @@ module _ (base : Image) (sizes : List ℕ) (found : Found) (p : CanRepair base s
   placed = all_placed found.disks (are_disks base sizes found p) pv disk there label header areas is n d within
 
   -- then each of its sectors is as in the base
-  pub sectors_kept : IsUnwritten → (sector : ℕ) → area.area.offset / 512 ≤ sector → sector < area.area.offset / 512 + area.area.size / 512 → last pv sector ≡ base pv sector
+  pub sectors_kept : IsUnwritten → (sector : ℕ) → area.area.offset / 512 ≤ sector → sector < area.area.offset / 512 + area.area.size / 512
+      → last pv sector ≡ base pv sector
   sectors_kept unwritten sector from to =
       ⊎_elim
       (λ same. same)
@@ -60,22 +63,28 @@ module _ (base : Image) (sizes : List ℕ) (found : Found) (p : CanRepair base s
       (λ texts.
       let s : Area × Option Locn = get_or (stale_areas found) texts.number no_area in
       let met : held_area pv area ≡ Some s =
-      area_met found.disks (are_disks base sizes found p) pv disk there label header areas is n d within s (stale_on_disks base sizes found p texts.number no_area texts.among) texts.disk sector texts.from texts.to from to
+      area_met found.disks (are_disks base sizes found p) pv disk there label header areas is n d within s
+          (stale_on_disks base sizes found p texts.number no_area texts.among) texts.disk sector texts.from texts.to from to
       in
-      absurd (true≢false (sym (stale_number found p.shape pv disk there s (in_at (stale_areas found) texts.number no_area texts.among) texts.disk n area s area_at met refl) ∙ (unwritten s met).1)))
+      absurd (true≢false (sym (stale_number found p.shape pv disk there s (in_at (stale_areas found) texts.number no_area texts.among)
+          texts.disk n area s area_at met refl) ∙ (unwritten s met).1)))
       (λ other.
       ⊎_elim
       (λ at.
       let w = label_where (stray_labels found) (some_label base sizes found p) pv sector (last pv sector) at in
-      let low : (get_or (stray_labels found) w.0 (some_label base sizes found p)).sector < 4 = (labels_can found p.shape w.0 (some_label base sizes found p) w.1).sector_below in
+      let low : (get_or (stray_labels found) w.0 (some_label base sizes found p)).sector < 4 =
+          (labels_can found p.shape w.0 (some_label base sizes found p) w.1).sector_below in
       absurd (omega (arith, low, w.3, placed.far, from)))
       (λ clear.
       let c : Area × Option Locn = get_or (stray_areas found) clear.number no_area in
       let take : CanTake c = All-filter (lies_on found.strays) CanTake found.areas p.shape.take clear.number no_area clear.among in
       let met : held_area pv area ≡ Some c =
-      area_met found.disks (are_disks base sizes found p) pv disk there label header areas is n d within c (cleared_on_disks base sizes found p clear.number no_area clear.among) clear.disk sector (omega (arith, clear.at)) (omega (arith, clear.at, take.0.has_ring)) from to
+      area_met found.disks (are_disks base sizes found p) pv disk there label header areas is n d within c
+          (cleared_on_disks base sizes found p clear.number no_area clear.among) clear.disk sector (omega (arith, clear.at))
+          (omega (arith, clear.at, take.0.has_ring)) from to
       in
-      absurd (true≢false (sym (filter_passes (lies_on found.strays) found.areas clear.number no_area clear.among) ∙ ap (contains found.strays) clear.disk ∙ (unwritten c met).0)))
+      absurd (true≢false (sym (filter_passes (lies_on found.strays) found.areas clear.number no_area clear.among)
+          ∙ ap (contains found.strays) clear.disk ∙ (unwritten c met).0)))
       other)
       (writes base sizes found p pv sector (last pv sector) by))
       (batches_or (repair_batches found) base pv sector)

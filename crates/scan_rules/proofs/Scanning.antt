@@ -1,5 +1,6 @@
 -- A scan finds the greatest version that a listed physical volume holds.
-use Rattle.std.proofs.Common.{◌≡◌, ◌≢◌, ℕ, ◌+◌, ◌<◌, ◌≤◌, ◌⊎◌, Bool, true, false, not, ◌&&◌, cond, nat_le, List, [], ◌∷◌, ◌++◌, Option, Some, None, inl, inr, ⊎_elim, refl, sym, ap, subst, ◌∙◌, arith}
+use Rattle.std.proofs.Common.{◌≡◌, ◌≢◌, ℕ, ◌+◌, ◌<◌, ◌≤◌, ◌⊎◌, Bool, true, false, not, ◌&&◌, cond, nat_le, List, [], ◌∷◌, ◌++◌, Option,
+    Some, None, inl, inr, ⊎_elim, refl, sym, ap, subst, ◌∙◌, arith}
 use Rattle.std.specs.Prelude.{option_map, unwrap_or, find, filter_map, ◌==◌}
 use Rattle.std.specs.Option.{option_and_then}
 use Rattle.std.specs.List.{AllByRecursion, list_any}
@@ -7,7 +8,10 @@ use Rattle.std.proofs.lemmas.Bool.{and_parts, or_cases, leb-true, le-leb, eqb-tr
 use Rattle.std.proofs.lemmas.Option.{same_Some}
 use Rattle.meta_model.specs.declared.group.Group.{Group}
 use Rattle.scan_rules.specs.declared.copy_refusal.CopyRefusal.{CopyRefusal}
-use Rattle.scan_rules.specs.Decision.{sum_agrees, AreaReading, HoldsNone, Copy, Refused, Reading, Held, ScanAnswer, DuplicatePv, Unsupported, TwoGroups, Conflict, PvShape, NoGroup, same_bytes, copy_of, refusal_of, readings_in, copies_from, refusals_from, copies, refusals, greater, best, is_listed, duplicates, no_copy, unsupported, two_groups, conflict, gives, holds, first_misplaced, is_held, misshapen_by, misshapen, found, found_with, decide_scan, group_found, GivesNoLater, EachArea, GivesVersion, HasShape}
+use Rattle.scan_rules.specs.Decision.{sum_agrees, AreaReading, HoldsNone, Copy, Refused, Reading, Held, ScanAnswer, DuplicatePv,
+    Unsupported, TwoGroups, Conflict, PvShape, NoGroup, same_bytes, copy_of, refusal_of, readings_in, copies_from, refusals_from, copies,
+    refusals, greater, best, is_listed, duplicates, no_copy, unsupported, two_groups, conflict, gives, holds, first_misplaced, is_held,
+    misshapen_by, misshapen, found, found_with, decide_scan, group_found, GivesNoLater, EachArea, GivesVersion, HasShape}
 
 pub same_bytes_to : (xs ys : List ℕ) → xs ≡ ys → same_bytes xs ys ≡ true
 same_bytes_to xs ys same = subst (λ (l : List ℕ). same_bytes xs l ≡ true) same (itself xs) where
@@ -65,14 +69,16 @@ no_later : (group : Group) (text : List ℕ) (c : Held) → IsNoLater group text
 no_later group text c (id, inl it) = let e = ap (λ (g : Group). g.seqno) it.0 in omega arith
 no_later group text c (id, inr earlier) = omega arith
 
-keeps_first : (group : Group) (text : List ℕ) (c d : Held) (b : Bool) → nat_le d.group.seqno c.group.seqno ≡ b → Is group text c → IsNoLater group text d → Is group text (cond b c d)
+keeps_first : (group : Group) (text : List ℕ) (c d : Held) (b : Bool) → nat_le d.group.seqno c.group.seqno ≡ b → Is group text c
+    → IsNoLater group text d → Is group text (cond b c d)
 keeps_first group text c d true test it other = it
 keeps_first group text c d false test it other =
     let e = ap (λ (g : Group). g.seqno) it.0 in
     let h : d.group.seqno ≤ group.seqno = no_later group text d other in
     absurd (false≢true (sym test ∙ le-leb d.group.seqno c.group.seqno (omega arith)))
 
-keeps_later : (group : Group) (text : List ℕ) (c d : Held) (b : Bool) → nat_le d.group.seqno c.group.seqno ≡ b → IsNoLater group text c → Is group text d → Is group text (cond b c d)
+keeps_later : (group : Group) (text : List ℕ) (c d : Held) (b : Bool) → nat_le d.group.seqno c.group.seqno ≡ b → IsNoLater group text c
+    → Is group text d → Is group text (cond b c d)
 keeps_later group text c d false test other it = it
 keeps_later group text c d true test (id, inl is) it = is
 keeps_later group text c d true test (id, inr earlier) it =
@@ -93,17 +99,22 @@ best_all : (P : Held → Type 0) (cs : List Held) → AllByRecursion P cs → (b
 best_all P [] all b is = cc
 best_all P (c ∷ cs) all b is = subst P (same_Some (greater c (best cs)) b is) (of_greater P c (best cs) all.0 (best_all P cs all.1))
 
-first_is : (group : Group) (text : List ℕ) (c : Held) (o : Option Held) → Is group text c → ((d : Held) → o ≡ Some d → IsNoLater group text d) → Is group text (greater c o)
+first_is : (group : Group) (text : List ℕ) (c : Held) (o : Option Held) → Is group text c
+    → ((d : Held) → o ≡ Some d → IsNoLater group text d) → Is group text (greater c o)
 first_is group text c None it later = it
 first_is group text c (Some d) it later = keeps_first group text c d (nat_le d.group.seqno c.group.seqno) refl it (later d refl)
 
-later_is : (group : Group) (text : List ℕ) (c : Held) (o : Option Held) → IsNoLater group text c → (d : Held) → o ≡ Some d → Is group text d → Is group text (greater c o)
+later_is : (group : Group) (text : List ℕ) (c : Held) (o : Option Held) → IsNoLater group text c → (d : Held) → o ≡ Some d → Is group text d
+    → Is group text (greater c o)
 later_is group text c None other d is it = cc
-later_is group text c (Some e) other d is it = keeps_later group text c e (nat_le e.group.seqno c.group.seqno) refl other (subst (Is group text) (sym (same_Some e d is)) it)
+later_is group text c (Some e) other d is it =
+    keeps_later group text c e (nat_le e.group.seqno c.group.seqno) refl other (subst (Is group text) (sym (same_Some e d is)) it)
 
-best_is : (group : Group) (text : List ℕ) (cs : List Held) → AllByRecursion (IsNoLater group text) cs → Has group text cs → BestIs group text cs
+best_is : (group : Group) (text : List ℕ) (cs : List Held) → AllByRecursion (IsNoLater group text) cs → Has group text cs
+    → BestIs group text cs
 best_is group text [] all has = absurd has
-best_is group text (c ∷ cs) all (inl here) = (greater c (best cs), refl, first_is group text c (best cs) here (best_all (IsNoLater group text) cs all.1))
+best_is group text (c ∷ cs) all (inl here) =
+    (greater c (best cs), refl, first_is group text c (best cs) here (best_all (IsNoLater group text) cs all.1))
 best_is group text (c ∷ cs) all (inr later) =
     let rest : BestIs group text cs = best_is group text cs all.1 later in
     (greater c (best cs), refl, later_is group text c (best cs) all.0 rest.0 rest.1 rest.2)
@@ -114,7 +125,8 @@ one_group group text [] all = refl
 one_group group text (c ∷ cs) all =
     ap (λ (o : Option Held). option_map (λ (d : Held). TwoGroups c.group.id d.group.id) o)
     (find_none (λ (d : Held). not (same_bytes d.group.id c.group.id)) cs
-    (all_weaker (IsNoLater group text) (λ d. not (same_bytes d.group.id c.group.id) ≡ false) cs (λ d is. ap not (same_bytes_to d.group.id c.group.id (is.0 ∙ sym all.0.0))) all.1))
+    (all_weaker (IsNoLater group text) (λ d. not (same_bytes d.group.id c.group.id) ≡ false) cs
+        (λ d is. ap not (same_bytes_to d.group.id c.group.id (is.0 ∙ sym all.0.0))) all.1))
 
 -- no two of the greatest differ
 and_false : (b : Bool) → (b && false) ≡ false
@@ -125,69 +137,90 @@ is_false : (b : Bool) → (b ≡ true → ⊥) → b ≡ false
 is_false true not_true = absurd (not_true refl)
 is_false false not_true = refl
 
-agrees : (group : Group) (text : List ℕ) (b c : Held) → Is group text b → IsNoLater group text c → (c.group.seqno == b.group.seqno && not (same_bytes c.text b.text)) ≡ false
+agrees : (group : Group) (text : List ℕ) (b c : Held) → Is group text b → IsNoLater group text c
+    → (c.group.seqno == b.group.seqno && not (same_bytes c.text b.text)) ≡ false
 agrees group text b c it (id, inl is) =
-    ap (λ (t : Bool). c.group.seqno == b.group.seqno && not t) (same_bytes_to c.text b.text (is.1 ∙ sym it.1)) ∙ and_false (c.group.seqno == b.group.seqno)
+    ap (λ (t : Bool). c.group.seqno == b.group.seqno && not t) (same_bytes_to c.text b.text (is.1 ∙ sym it.1))
+        ∙ and_false (c.group.seqno == b.group.seqno)
 agrees group text b c it (id, inr earlier) =
     let e = ap (λ (g : Group). g.seqno) it.0 in
-    let differ : (c.group.seqno == b.group.seqno) ≡ false = is_false (c.group.seqno == b.group.seqno) (λ same. let h = eqb-true c.group.seqno b.group.seqno same in absurd (omega arith)) in
+    let differ : (c.group.seqno == b.group.seqno) ≡ false =
+        is_false (c.group.seqno == b.group.seqno) (λ same. let h = eqb-true c.group.seqno b.group.seqno same in absurd (omega arith)) in
     ap (λ (t : Bool). t && not (same_bytes c.text b.text)) differ
 
-no_conflict : (group : Group) (text : List ℕ) (cs : List Held) → AllByRecursion (IsNoLater group text) cs → BestIs group text cs → conflict cs ≡ None
+no_conflict : (group : Group) (text : List ℕ) (cs : List Held) → AllByRecursion (IsNoLater group text) cs → BestIs group text cs
+    → conflict cs ≡ None
 no_conflict group text cs all b =
     let of_best : Option Held → Option ScanAnswer =
-    λ o. option_and_then (λ (x : Held). option_map (λ (d : Held). Conflict x.disk d.disk x.group.seqno) (find (λ (d : Held). d.group.seqno == x.group.seqno && not (same_bytes d.text x.text)) cs)) o in
+    λ o. option_and_then (λ (x : Held). option_map (λ (d : Held). Conflict x.disk d.disk x.group.seqno)
+        (find (λ (d : Held). d.group.seqno == x.group.seqno && not (same_bytes d.text x.text)) cs)) o in
     ap of_best b.1
     ∙ ap (λ (o : Option Held). option_map (λ (d : Held). Conflict b.0.disk d.disk b.0.group.seqno) o)
     (find_none (λ (d : Held). d.group.seqno == b.0.group.seqno && not (same_bytes d.text b.0.text)) cs
-    (all_weaker (IsNoLater group text) (λ d. (d.group.seqno == b.0.group.seqno && not (same_bytes d.text b.0.text)) ≡ false) cs (λ d is. agrees group text b.0 d b.2 is) all))
+    (all_weaker (IsNoLater group text) (λ d. (d.group.seqno == b.0.group.seqno && not (same_bytes d.text b.0.text)) ≡ false) cs
+        (λ d is. agrees group text b.0 d b.2 is) all))
 
 -- the copies of areas that give nothing later
-copies_no_later : (group : Group) (text : List ℕ) (disk : ℕ) (rs : List AreaReading) → AllByRecursion (GivesNoLater group text) rs → AllByRecursion (IsNoLater group text) (filter_map (copy_of disk) rs)
+copies_no_later : (group : Group) (text : List ℕ) (disk : ℕ) (rs : List AreaReading) → AllByRecursion (GivesNoLater group text) rs
+    → AllByRecursion (IsNoLater group text) (filter_map (copy_of disk) rs)
 copies_no_later group text disk [] all = tt
 copies_no_later group text disk (HoldsNone ∷ rs) all = copies_no_later group text disk rs all.1
 copies_no_later group text disk (Refused why ∷ rs) all = copies_no_later group text disk rs all.1
-copies_no_later group text disk (Copy other others passed ∷ rs) all = ((all.0.0, ⊎_elim (λ it. inl it) (λ earlier. inr earlier.0) all.0.1), copies_no_later group text disk rs all.1)
+copies_no_later group text disk (Copy other others passed ∷ rs) all =
+    ((all.0.0, ⊎_elim (λ it. inl it) (λ earlier. inr earlier.0) all.0.1), copies_no_later group text disk rs all.1)
 
-all_copies : (group : Group) (text : List ℕ) (disk : ℕ) (disks : List Reading) → EachArea (GivesNoLater group text) disks → AllByRecursion (IsNoLater group text) (copies_from disk disks)
+all_copies : (group : Group) (text : List ℕ) (disk : ℕ) (disks : List Reading) → EachArea (GivesNoLater group text) disks
+    → AllByRecursion (IsNoLater group text) (copies_from disk disks)
 all_copies group text disk [] all = tt
 all_copies group text disk (d ∷ disks) all =
-    all_append (IsNoLater group text) (filter_map (copy_of disk) (readings_in d)) (copies_from (disk + 1) disks) (copies_no_later group text disk (readings_in d) all.0) (all_copies group text (disk + 1) disks all.1)
+    all_append (IsNoLater group text) (filter_map (copy_of disk) (readings_in d)) (copies_from (disk + 1) disks)
+        (copies_no_later group text disk (readings_in d) all.0) (all_copies group text (disk + 1) disks all.1)
 
 -- no refused text agrees with its checksum
-refusals_agree : (group : Group) (text : List ℕ) (disk : ℕ) (rs : List AreaReading) → AllByRecursion (GivesNoLater group text) rs → AllByRecursion (λ (r : ℕ × CopyRefusal). sum_agrees r.1 ≡ false) (filter_map (refusal_of disk) rs)
+refusals_agree : (group : Group) (text : List ℕ) (disk : ℕ) (rs : List AreaReading) → AllByRecursion (GivesNoLater group text) rs
+    → AllByRecursion (λ (r : ℕ × CopyRefusal). sum_agrees r.1 ≡ false) (filter_map (refusal_of disk) rs)
 refusals_agree group text disk [] all = tt
 refusals_agree group text disk (HoldsNone ∷ rs) all = refusals_agree group text disk rs all.1
 refusals_agree group text disk (Refused why ∷ rs) all = (all.0, refusals_agree group text disk rs all.1)
 refusals_agree group text disk (Copy other others passed ∷ rs) all = refusals_agree group text disk rs all.1
 
-all_refusals : (group : Group) (text : List ℕ) (disk : ℕ) (disks : List Reading) → EachArea (GivesNoLater group text) disks → AllByRecursion (λ (r : ℕ × CopyRefusal). sum_agrees r.1 ≡ false) (refusals_from disk disks)
+all_refusals : (group : Group) (text : List ℕ) (disk : ℕ) (disks : List Reading) → EachArea (GivesNoLater group text) disks
+    → AllByRecursion (λ (r : ℕ × CopyRefusal). sum_agrees r.1 ≡ false) (refusals_from disk disks)
 all_refusals group text disk [] all = tt
 all_refusals group text disk (d ∷ disks) all =
-    all_append (λ (r : ℕ × CopyRefusal). sum_agrees r.1 ≡ false) (filter_map (refusal_of disk) (readings_in d)) (refusals_from (disk + 1) disks) (refusals_agree group text disk (readings_in d) all.0) (all_refusals group text (disk + 1) disks all.1)
+    all_append (λ (r : ℕ × CopyRefusal). sum_agrees r.1 ≡ false) (filter_map (refusal_of disk) (readings_in d))
+        (refusals_from (disk + 1) disks) (refusals_agree group text disk (readings_in d) all.0)
+        (all_refusals group text (disk + 1) disks all.1)
 
 -- a disk that holds the text has the copy
-has_here : (group : Group) (text : List ℕ) (disk : ℕ) (other : Group) (others : List ℕ) (passed : List (List ℕ)) (rs : List AreaReading) → (((other ≡ group) × (others ≡ text)) ⊎ ((other.seqno < group.seqno) × (others ≢ text)))
-    → (same_bytes others text ≡ true) ⊎ (list_any (gives text) rs ≡ true) → (list_any (gives text) rs ≡ true → Has group text (filter_map (copy_of disk) rs)) → Has group text (filter_map (copy_of disk) (Copy other others passed ∷ rs))
+has_here : (group : Group) (text : List ℕ) (disk : ℕ) (other : Group) (others : List ℕ) (passed : List (List ℕ)) (rs : List AreaReading)
+    → (((other ≡ group) × (others ≡ text)) ⊎ ((other.seqno < group.seqno) × (others ≢ text)))
+    → (same_bytes others text ≡ true) ⊎ (list_any (gives text) rs ≡ true)
+    → (list_any (gives text) rs ≡ true → Has group text (filter_map (copy_of disk) rs))
+    → Has group text (filter_map (copy_of disk) (Copy other others passed ∷ rs))
 has_here group text disk other others passed rs (inl it) any later = inl it
 has_here group text disk other others passed rs (inr earlier) (inl same) later = absurd (earlier.1 (same_bytes_tells others text same))
 has_here group text disk other others passed rs (inr earlier) (inr any) later = inr (later any)
 
-area_has : (group : Group) (text : List ℕ) (disk : ℕ) (rs : List AreaReading) → AllByRecursion (GivesNoLater group text) rs → list_any (gives text) rs ≡ true → Has group text (filter_map (copy_of disk) rs)
+area_has : (group : Group) (text : List ℕ) (disk : ℕ) (rs : List AreaReading) → AllByRecursion (GivesNoLater group text) rs
+    → list_any (gives text) rs ≡ true → Has group text (filter_map (copy_of disk) rs)
 area_has group text disk [] all any = absurd (false≢true any)
 area_has group text disk (HoldsNone ∷ rs) all any = area_has group text disk rs all.1 any
 area_has group text disk (Refused why ∷ rs) all any = area_has group text disk rs all.1 any
 area_has group text disk (Copy other others passed ∷ rs) all any =
-    has_here group text disk other others passed rs all.0.1 (or_cases (same_bytes others text) (list_any (gives text) rs) any) (area_has group text disk rs all.1)
+    has_here group text disk other others passed rs all.0.1 (or_cases (same_bytes others text) (list_any (gives text) rs) any)
+        (area_has group text disk rs all.1)
 
-disks_have : (group : Group) (text : List ℕ) (disk : ℕ) (disks : List Reading) → EachArea (GivesNoLater group text) disks → is_held group text disks ≡ true → Has group text (copies_from disk disks)
+disks_have : (group : Group) (text : List ℕ) (disk : ℕ) (disks : List Reading) → EachArea (GivesNoLater group text) disks
+    → is_held group text disks ≡ true → Has group text (copies_from disk disks)
 disks_have group text disk [] all any = absurd (false≢true any)
 disks_have group text disk (d ∷ disks) all any =
     ⊎_elim
     (λ here.
     has_left group text (filter_map (copy_of disk) (readings_in d)) (copies_from (disk + 1) disks)
     (area_has group text disk (readings_in d) all.0 (and_parts (is_listed group d) (holds text d) here).1))
-    (λ later. has_right group text (filter_map (copy_of disk) (readings_in d)) (copies_from (disk + 1) disks) (disks_have group text (disk + 1) disks all.1 later))
+    (λ later. has_right group text (filter_map (copy_of disk) (readings_in d)) (copies_from (disk + 1) disks)
+        (disks_have group text (disk + 1) disks all.1 later))
     (or_cases (is_listed group d && holds text d) (is_held group text disks) any)
 
 -- where there is a copy, no test on copies and refusals refuses
@@ -195,14 +228,19 @@ no_copy_none : (group : Group) (text : List ℕ) (cs : List Held) (rs : List (�
 no_copy_none group text [] rs has = absurd has
 no_copy_none group text (c ∷ cs) rs has = refl
 
-unsupported_none : (cs : List Held) (rs : List (ℕ × CopyRefusal)) → AllByRecursion (λ (r : ℕ × CopyRefusal). sum_agrees r.1 ≡ false) rs → unsupported cs rs ≡ None
+unsupported_none : (cs : List Held) (rs : List (ℕ × CopyRefusal)) → AllByRecursion (λ (r : ℕ × CopyRefusal). sum_agrees r.1 ≡ false) rs
+    → unsupported cs rs ≡ None
 unsupported_none [] rs all = refl
-unsupported_none (c ∷ cs) rs all = ap (λ (o : Option (ℕ × CopyRefusal)). option_map (λ (r : ℕ × CopyRefusal). Unsupported r.0) o) (find_none (λ (r : ℕ × CopyRefusal). sum_agrees r.1) rs all)
+unsupported_none (c ∷ cs) rs all =
+    ap (λ (o : Option (ℕ × CopyRefusal)). option_map (λ (r : ℕ × CopyRefusal). Unsupported r.0) o)
+        (find_none (λ (r : ℕ × CopyRefusal). sum_agrees r.1) rs all)
 
-well_shaped : (group : Group) (text : List ℕ) (cs : List Held) (disks : List Reading) → BestIs group text cs → first_misplaced group disks ≡ None → is_held group text disks ≡ true → misshapen cs disks ≡ None
+well_shaped : (group : Group) (text : List ℕ) (cs : List Held) (disks : List Reading) → BestIs group text cs
+    → first_misplaced group disks ≡ None → is_held group text disks ≡ true → misshapen cs disks ≡ None
 well_shaped group text cs disks b placed held =
     ap (λ (o : Option Held). option_and_then (λ (x : Held). misshapen_by x disks) o) b.1
-    ∙ ap (λ (o : Option ℕ). unwrap_or (option_map (λ (disk : ℕ). Some (PvShape disk)) o) (cond (is_held b.0.group b.0.text disks) None (Some (PvShape b.0.disk))))
+    ∙ ap (λ (o : Option ℕ). unwrap_or (option_map (λ (disk : ℕ). Some (PvShape disk)) o)
+    (cond (is_held b.0.group b.0.text disks) None (Some (PvShape b.0.disk))))
     (ap (λ (g : Group). first_misplaced g disks) b.2.0 ∙ placed)
     ∙ ap (λ (t : Bool). cond t None (Some (PvShape b.0.disk)))
     (ap (λ (g : Group). is_held g b.0.text disks) b.2.0 ∙ ap (λ (t : List ℕ). is_held group t disks) b.2.1 ∙ held)
@@ -211,7 +249,8 @@ of_best : (disks : List Reading) (cs : List Held) (b : Held) → best cs ≡ Som
 of_best disks cs b is = ap (λ (o : Option Held). group_found (unwrap_or (option_map (found_with disks) o) NoGroup)) is
 
 -- the scan finds this version, where each area gives nothing later, and a listed physical volume holds it
-pub scan_finds : (group : Group) (text : List ℕ) (disks : List Reading) → HasShape group disks → EachArea (GivesNoLater group text) disks → is_held group text disks ≡ true → group_found (decide_scan disks) ≡ Some (group, text)
+pub scan_finds : (group : Group) (text : List ℕ) (disks : List Reading) → HasShape group disks → EachArea (GivesNoLater group text) disks
+    → is_held group text disks ≡ true → group_found (decide_scan disks) ≡ Some (group, text)
 unfolding decide_scan copies refusals
 scan_finds group text disks shape all held =
     let cs : List Held = copies_from 0 disks in
@@ -220,7 +259,8 @@ scan_finds group text disks shape all held =
     let has : Has group text cs = disks_have group text 0 disks all held in
     let b : BestIs group text cs = best_is group text cs earlier has in
     let pair : Group → List ℕ → Option (Group × List ℕ) = λ g t. Some (g, t) in
-    let no_duplicates : duplicates disks ≡ None = ap (λ (o : Option (ℕ × ℕ)). option_map (λ (p : ℕ × ℕ). DuplicatePv p.0 p.1) o) shape.apart in
+    let no_duplicates : duplicates disks ≡ None =
+        ap (λ (o : Option (ℕ × ℕ)). option_map (λ (p : ℕ × ℕ). DuplicatePv p.0 p.1) o) shape.apart in
     let f1 : ScanAnswer = unwrap_or (misshapen cs disks) (found cs disks) in
     let f2 : ScanAnswer = unwrap_or (conflict cs) f1 in
     let f3 : ScanAnswer = unwrap_or (two_groups cs) f2 in
@@ -241,39 +281,52 @@ each_weaker : (P Q : AreaReading → Type 0) (disks : List Reading) → ((r : Ar
 each_weaker P Q [] weaker all = tt
 each_weaker P Q (d ∷ disks) weaker all = (all_weaker P Q (readings_in d) weaker all.0, each_weaker P Q disks weaker all.1)
 
-no_later_than_new : (old : Group) (old_text : List ℕ) (new : Group) (new_text : List ℕ) → old.id ≡ new.id → old.seqno < new.seqno → old_text ≢ new_text → (r : AreaReading) → GivesVersion old old_text new new_text r → GivesNoLater new new_text r
+no_later_than_new : (old : Group) (old_text : List ℕ) (new : Group) (new_text : List ℕ) → old.id ≡ new.id → old.seqno < new.seqno
+    → old_text ≢ new_text → (r : AreaReading) → GivesVersion old old_text new new_text r → GivesNoLater new new_text r
 no_later_than_new old old_text new new_text ids later differ HoldsNone is = tt
 no_later_than_new old old_text new new_text ids later differ (Refused why) is = absurd is
 no_later_than_new old old_text new new_text ids later differ (Copy other others passed) (inl it) =
     let e = ap (λ (g : Group). g.seqno) it.0 in
     (ap (λ (g : Group). g.id) it.0 ∙ ids, inr (omega arith, λ same. differ (sym it.1 ∙ same)))
-no_later_than_new old old_text new new_text ids later differ (Copy other others passed) (inr (inl it)) = (ap (λ (g : Group). g.id) it.0, inl it)
-no_later_than_new old old_text new new_text ids later differ (Copy other others passed) (inr (inr is)) = let lt : other.seqno < old.seqno = is.1 in (is.0 ∙ ids, inr (omega arith, is.3))
+no_later_than_new old old_text new new_text ids later differ (Copy other others passed) (inr (inl it)) =
+    (ap (λ (g : Group). g.id) it.0, inl it)
+no_later_than_new old old_text new new_text ids later differ (Copy other others passed) (inr (inr is)) =
+    let lt : other.seqno < old.seqno = is.1 in (is.0 ∙ ids, inr (omega arith, is.3))
 
 -- no area gives the new text
 abbrev pub GivesOld : Group → List ℕ → Group → List ℕ → AreaReading → Type 0
 GivesOld old old_text new new_text r = GivesVersion old old_text new new_text r × (gives new_text r ≡ false)
 
-no_later_than_old : (old : Group) (old_text : List ℕ) (new : Group) (new_text : List ℕ) → (r : AreaReading) → GivesOld old old_text new new_text r → GivesNoLater old old_text r
+no_later_than_old : (old : Group) (old_text : List ℕ) (new : Group) (new_text : List ℕ) → (r : AreaReading)
+    → GivesOld old old_text new new_text r → GivesNoLater old old_text r
 no_later_than_old old old_text new new_text HoldsNone is = tt
 no_later_than_old old old_text new new_text (Refused why) is = absurd is.0
 no_later_than_old old old_text new new_text (Copy other others passed) (inl it, apart) = (ap (λ (g : Group). g.id) it.0, inl it)
-no_later_than_old old old_text new new_text (Copy other others passed) (inr (inl it), apart) = absurd (false≢true (sym apart ∙ same_bytes_to others new_text it.1))
+no_later_than_old old old_text new new_text (Copy other others passed) (inr (inl it), apart) =
+    absurd (false≢true (sym apart ∙ same_bytes_to others new_text it.1))
 no_later_than_old old old_text new new_text (Copy other others passed) (inr (inr is), apart) = (is.0, inr (is.1, is.2))
 
 -- while a commit publishes, the scan finds the new version where a physical volume that it lists holds it, and the old
 -- one where no area gives the new
-pub scan_of_versions : (old : Group) (old_text : List ℕ) (new : Group) (new_text : List ℕ) (disks : List Reading) → old.id ≡ new.id → old.seqno < new.seqno → old_text ≢ new_text → EachArea (GivesVersion old old_text new new_text) disks
+pub scan_of_versions : (old : Group) (old_text : List ℕ) (new : Group) (new_text : List ℕ) (disks : List Reading) → old.id ≡ new.id
+    → old.seqno < new.seqno → old_text ≢ new_text → EachArea (GivesVersion old old_text new new_text) disks
     → (HasShape new disks → is_held new new_text disks ≡ true → group_found (decide_scan disks) ≡ Some (new, new_text))
-    × (HasShape old disks → EachArea (λ r. gives new_text r ≡ false) disks → is_held old old_text disks ≡ true → group_found (decide_scan disks) ≡ Some (old, old_text))
+    × (HasShape old disks → EachArea (λ r. gives new_text r ≡ false) disks → is_held old old_text disks ≡ true
+    → group_found (decide_scan disks) ≡ Some (old, old_text))
 scan_of_versions old old_text new new_text disks ids later differ all = (
-  λ shape held. scan_finds new new_text disks shape (each_weaker (GivesVersion old old_text new new_text) (GivesNoLater new new_text) disks (no_later_than_new old old_text new new_text ids later differ) all) held,
-  λ shape none held. scan_finds old old_text disks shape (each_weaker (GivesOld old old_text new new_text) (GivesNoLater old old_text) disks (no_later_than_old old old_text new new_text) (each_both disks all none)) held,
+  λ shape held. scan_finds new new_text disks shape
+      (each_weaker (GivesVersion old old_text new new_text) (GivesNoLater new new_text) disks
+      (no_later_than_new old old_text new new_text ids later differ) all) held,
+  λ shape none held. scan_finds old old_text disks shape
+      (each_weaker (GivesOld old old_text new new_text) (GivesNoLater old old_text) disks (no_later_than_old old old_text new new_text)
+      (each_both disks all none)) held,
 )
   where
-    each_both : (disks : List Reading) → EachArea (GivesVersion old old_text new new_text) disks → EachArea (λ r. gives new_text r ≡ false) disks → EachArea (GivesOld old old_text new new_text) disks
+    each_both : (disks : List Reading) → EachArea (GivesVersion old old_text new new_text) disks
+        → EachArea (λ r. gives new_text r ≡ false) disks → EachArea (GivesOld old old_text new new_text) disks
     each_both [] a b = tt
     each_both (d ∷ disks) a b = (both (readings_in d) a.0 b.0, each_both disks a.1 b.1) where
-      both : (rs : List AreaReading) → AllByRecursion (GivesVersion old old_text new new_text) rs → AllByRecursion (λ r. gives new_text r ≡ false) rs → AllByRecursion (GivesOld old old_text new new_text) rs
+      both : (rs : List AreaReading) → AllByRecursion (GivesVersion old old_text new new_text) rs
+          → AllByRecursion (λ r. gives new_text r ≡ false) rs → AllByRecursion (GivesOld old old_text new new_text) rs
       both [] a b = tt
       both (r ∷ rs) a b = ((a.0, b.0), both rs a.1 b.1)

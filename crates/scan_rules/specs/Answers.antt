@@ -1,7 +1,9 @@
 -- What a decision says of the answer that the readings give.
-use Rattle.std.specs.Prelude.{◌≡◌, ◌≢◌, ℕ, Bool, true, false, ◌&&◌, ◌==◌, not, Option, None, Some, List, [], find, option_map, unwrap_or, slice_get}
+use Rattle.std.specs.Prelude.{◌≡◌, ◌≢◌, ℕ, Bool, true, false, ◌&&◌, ◌==◌, not, Option, None, Some, List, [], find, option_map, unwrap_or,
+    slice_get}
 use Rattle.std.specs.FinSet as set
-use Rattle.scan_rules.specs.Decision.{Held, Reading, ScanAnswer, DuplicatePv, NoCopy, Unsupported, TwoGroups, Conflict, PvShape, NoGroup, FoundGroup, first_misplaced, found_with, is_held, no_copy, same_bytes, sum_agrees, two_groups}
+use Rattle.scan_rules.specs.Decision.{Held, Reading, ScanAnswer, DuplicatePv, NoCopy, Unsupported, TwoGroups, Conflict, PvShape, NoGroup,
+    FoundGroup, first_misplaced, found_with, is_held, no_copy, same_bytes, sum_agrees, two_groups}
 use Rattle.scan_rules.specs.declared.held.HeldCopy.{HeldCopy}
 use Rattle.scan_rules.specs.declared.readings.DiskRead.{DiskRead}
 use Rattle.scan_rules.specs.Flat.{all_held, held_copy, refused_on}
@@ -84,7 +86,8 @@ answer_without disks = unwrap_or (no_copy [] (refused_on 0 disks)) NoGroup
 
 -- where this copy is best: why it isn't taken, or what is found
 abbrev pub answer_with : List GroupCopy → List DiskRead → List HeldCopy → ℕ → GroupCopy → ScanAnswer
-answer_with copies disks held disk copy = unwrap_or (denial copies disks held disk copy) (found_with (readings_of copies disks) (held_copy disk copy))
+answer_with copies disks held disk copy =
+    unwrap_or (denial copies disks held disk copy) (found_with (readings_of copies disks) (held_copy disk copy))
 
 -- the copy that is held
 abbrev pub answer_for : List GroupCopy → List DiskRead → List HeldCopy → HeldCopy → ScanAnswer

@@ -1,5 +1,6 @@
 -- The parts of what a scan finds, each as a list of its own.
-use Rattle.std.specs.Prelude.{ℕ, ◌+◌, ◌*◌, ◌<◌, ◌^◌, Bool, ◌&&◌, ◌||◌, not, Option, None, Some, List, [], ◌∷◌, length, map, filter, filter_map, find, option_map, if◌then◌else◌}
+use Rattle.std.specs.Prelude.{ℕ, ◌+◌, ◌*◌, ◌<◌, ◌^◌, Bool, ◌&&◌, ◌||◌, not, Option, None, Some, List, [], ◌∷◌, length, map, filter,
+    filter_map, find, option_map, if◌then◌else◌}
 use Rattle.std.specs.Option.{option_and_then}
 use Rattle.std.specs.List.{enumerate_from, flat_map, list_any}
 use Rattle.std.specs.FinMap as map
@@ -8,7 +9,8 @@ use Rattle.meta_model.specs.declared.group.Group.{Group}
 use Rattle.meta_model.specs.declared.pv.Pv.{Pv}
 use Rattle.scan_rules.specs.declared.readings.DiskRead.{DiskRead}
 use Rattle.scan_rules.specs.declared.readings.PvRead.{PvRead}
-use Rattle.scan_rules.specs.Decision.{Area, AreaReading, Found, Reading, gives, has_id, has_misplaced, is_listed, is_misplaced, same_bytes, stale_in}
+use Rattle.scan_rules.specs.Decision.{Area, AreaReading, Found, Reading, gives, has_id, has_misplaced, is_listed, is_misplaced, same_bytes,
+    stale_in}
 
 -- whether a physical volume of the group is this one, and doesn't lie well on the disk
 abbrev pub is_this_misplaced : ℕ → Reading → Found → List ℕ × Pv → Bool
@@ -17,7 +19,8 @@ is_this_misplaced extent_size disk found pv =
 
 -- the first disk on which one doesn't lie well, where the first has this number
 abbrev pub misplaced_from : Group → ℕ → List Reading → Option ℕ
-misplaced_from group first disks = option_map (λ (d : ℕ × Reading). d.0) (find (λ (d : ℕ × Reading). has_misplaced group d.1) (enumerate_from first disks))
+misplaced_from group first disks =
+    option_map (λ (d : ℕ × Reading). d.0) (find (λ (d : ℕ × Reading). has_misplaced group d.1) (enumerate_from first disks))
 
 -- the stale ones of a disk's areas, where the first has this number
 abbrev pub stale_if : List ℕ → ℕ → ℕ × Area → Option (ℕ × ℕ)

@@ -1,5 +1,6 @@
 -- The checksum of bytes, one bit at a time, is that of the state taken as a number.
-use Rattle.std.proofs.Common.{lit≤, ◌≡◌, ◌≤◌, ◌<◌, ℕ, zero, suc, ◌/◌, ◌%◌, ◌^◌, Bool, true, false, ◌==◌, cond, List, [], ◌∷◌, ◌++◌, length, replicate, refl, sym, ap, ◌∙◌, arith}
+use Rattle.std.proofs.Common.{lit≤, ◌≡◌, ◌≤◌, ◌<◌, ℕ, zero, suc, ◌/◌, ◌%◌, ◌^◌, Bool, true, false, ◌==◌, cond, List, [], ◌∷◌, ◌++◌, length,
+    replicate, refl, sym, ap, ◌∙◌, arith}
 use Rattle.std.specs.List.{flat_map}
 use Rattle.std.proofs.lemmas.Nat.{xor_shr, xor_mod}
 use Rattle.std.proofs.lemmas.Bool.Decides.{nat_tests}
@@ -55,12 +56,14 @@ xor_bits-zeros (false ∷ xs) zero = refl
 xor_bits-zeros (true ∷ xs) (suc count) = ap (λ (l : List Bool). true ∷ l) (xor_bits-zeros xs count)
 xor_bits-zeros (false ∷ xs) (suc count) = ap (λ (l : List Bool). false ∷ l) (xor_bits-zeros xs count)
 
-pub xor_bits-bits_of : (xs : List Bool) (few many n : ℕ) → n < 2 ^ few → few ≤ many → xor_bits xs (bits_of many n) ≡ xor_bits xs (bits_of few n)
+pub xor_bits-bits_of : (xs : List Bool) (few many n : ℕ) → n < 2 ^ few → few ≤ many
+    → xor_bits xs (bits_of many n) ≡ xor_bits xs (bits_of few n)
 unfolding bits_of
 xor_bits-bits_of [] few many n h le = refl
 xor_bits-bits_of (x ∷ xs) zero many n h le = let e : n ≡ 0 = omega arith in rw e (xor_bits-zeros (x ∷ xs) many)
 xor_bits-bits_of (x ∷ xs) (suc few) zero n h le = absurd (omega arith)
-xor_bits-bits_of (x ∷ xs) (suc few) (suc many) n h le = ap (λ (l : List Bool). differs x (n % 2 == 1) ∷ l) (xor_bits-bits_of xs few many (n / 2) (omega arith) (omega arith))
+xor_bits-bits_of (x ∷ xs) (suc few) (suc many) n h le =
+    ap (λ (l : List Bool). differs x (n % 2 == 1) ∷ l) (xor_bits-bits_of xs few many (n / 2) (omega arith) (omega arith))
 
 -- exclusive or in either order
 differs-swap : (a b c : Bool) → differs (differs a b) c ≡ differs (differs a c) b
@@ -79,7 +82,8 @@ xor_bits-swap (x ∷ xs) [] [] = refl
 xor_bits-swap (x ∷ xs) [] (z ∷ zs) = refl
 xor_bits-swap (x ∷ xs) (y ∷ ys) [] = refl
 xor_bits-swap (x ∷ xs) (y ∷ ys) (z ∷ zs) =
-    ap (λ (t : Bool). t ∷ xor_bits (xor_bits xs ys) zs) (differs-swap x y z) ∙ ap (λ (l : List Bool). differs (differs x z) y ∷ l) (xor_bits-swap xs ys zs)
+    ap (λ (t : Bool). t ∷ xor_bits (xor_bits xs ys) zs) (differs-swap x y z)
+        ∙ ap (λ (l : List Bool). differs (differs x z) y ∷ l) (xor_bits-swap xs ys zs)
 
 xor_bits-push : (xs ys : List Bool) → length ys ≤ length xs → xor_bits (xs ++ false ∷ []) ys ≡ xor_bits xs ys ++ false ∷ []
 xor_bits-push [] [] le = refl
@@ -95,9 +99,12 @@ differs-false false = refl
 pub with_bit-xor_bits : (low input : Bool) (high inputs : List Bool) → length inputs ≤ length high
     → with_bit (xor_bits (low ∷ high) (input ∷ inputs)) false ≡ xor_bits (with_bit (low ∷ high) input) inputs
 with_bit-xor_bits low input high inputs le =
-    ap (λ (t : Bool). cond t (xor_bits (xor_bits high inputs ++ false ∷ []) polynomial) (xor_bits high inputs ++ false ∷ [])) (differs-false (differs low input))
-    ∙ (elim (differs low input) as (λ t. cond t (xor_bits (xor_bits high inputs ++ false ∷ []) polynomial) (xor_bits high inputs ++ false ∷ []) ≡ xor_bits (cond t (xor_bits (high ++ false ∷ []) polynomial) (high ++ false ∷ [])) inputs) [
-      | true ↦ ap (λ (l : List Bool). xor_bits l polynomial) (sym (xor_bits-push high inputs le)) ∙ xor_bits-swap (high ++ false ∷ []) inputs polynomial
+    ap (λ (t : Bool). cond t (xor_bits (xor_bits high inputs ++ false ∷ []) polynomial) (xor_bits high inputs ++ false ∷ []))
+        (differs-false (differs low input))
+    ∙ (elim (differs low input) as (λ t. cond t (xor_bits (xor_bits high inputs ++ false ∷ []) polynomial)
+    (xor_bits high inputs ++ false ∷ []) ≡ xor_bits (cond t (xor_bits (high ++ false ∷ []) polynomial) (high ++ false ∷ [])) inputs) [
+      | true ↦ ap (λ (l : List Bool). xor_bits l polynomial) (sym (xor_bits-push high inputs le))
+          ∙ xor_bits-swap (high ++ false ∷ []) inputs polynomial
       | false ↦ sym (xor_bits-push high inputs le)
     ])
 
@@ -137,29 +144,38 @@ replicate-push zero = refl
 replicate-push (suc n) = ap (λ (l : List Bool). false ∷ l) (replicate-push n)
 
 -- one step more without input
-pub with_bits-step : (state : List Bool) (n : ℕ) → with_bits state (replicate (suc n) false) ≡ with_bit (with_bits state (replicate n false)) false
-with_bits-step state n = ap (λ (l : List Bool). with_bits state l) (replicate-push n) ∙ with_bits-append state (replicate n false) (false ∷ [])
+pub with_bits-step : (state : List Bool) (n : ℕ)
+    → with_bits state (replicate (suc n) false) ≡ with_bit (with_bits state (replicate n false)) false
+with_bits-step state n =
+    ap (λ (l : List Bool). with_bits state l) (replicate-push n) ∙ with_bits-append state (replicate n false) (false ∷ [])
 
 -- one step of a state that is a number
-pub with_bit-number : (n : ℕ) → n < 2 ^ 32 → with_bit (bits_of 32 n) false ≡ bits_of 32 (cond (n % 2 == 1) (bit_xor (n / 2) 0xEDB88320) (n / 2))
+pub with_bit-number : (n : ℕ) → n < 2 ^ 32
+    → with_bit (bits_of 32 n) false ≡ bits_of 32 (cond (n % 2 == 1) (bit_xor (n / 2) 0xEDB88320) (n / 2))
 unfolding bits_of polynomial
 with_bit-number n h =
     let shifted : bits_of 31 (n / 2) ++ false ∷ [] ≡ bits_of 32 (n / 2) = sym (bits_of-suc 31 (n / 2) (omega arith)) in
-    ap (λ (t : Bool). cond t (xor_bits (bits_of 31 (n / 2) ++ false ∷ []) (bits_of 32 0xEDB88320)) (bits_of 31 (n / 2) ++ false ∷ [])) (differs-false (n % 2 == 1))
-    ∙ (elim (n % 2 == 1) as (λ t. cond t (xor_bits (bits_of 31 (n / 2) ++ false ∷ []) (bits_of 32 0xEDB88320)) (bits_of 31 (n / 2) ++ false ∷ []) ≡ bits_of 32 (cond t (bit_xor (n / 2) 0xEDB88320) (n / 2))) [
+    ap (λ (t : Bool). cond t (xor_bits (bits_of 31 (n / 2) ++ false ∷ []) (bits_of 32 0xEDB88320)) (bits_of 31 (n / 2) ++ false ∷ []))
+        (differs-false (n % 2 == 1))
+    ∙ (elim (n % 2 == 1) as (λ t. cond t (xor_bits (bits_of 31 (n / 2) ++ false ∷ []) (bits_of 32 0xEDB88320))
+    (bits_of 31 (n / 2) ++ false ∷ []) ≡ bits_of 32 (cond t (bit_xor (n / 2) 0xEDB88320) (n / 2))) [
       | true ↦ ap (λ (l : List Bool). xor_bits l (bits_of 32 0xEDB88320)) shifted ∙ sym (bits_of-xor 32 (n / 2) 0xEDB88320)
       | false ↦ shifted
     ])
 
 -- one byte of a state that is a number
-pub with_bits-byte : (state byte : ℕ) → byte < 256 → with_bits (bits_of 32 state) (bits_of 8 byte) ≡ with_bits (bits_of 32 (bit_xor state byte)) (replicate 8 false)
+pub with_bits-byte : (state byte : ℕ) → byte < 256
+    → with_bits (bits_of 32 state) (bits_of 8 byte) ≡ with_bits (bits_of 32 (bit_xor state byte)) (replicate 8 false)
 with_bits-byte state byte h =
     sym (with_bits-xor_bits (bits_of 32 state) (bits_of 8 byte) (omega (arith, length-bits_of 8 byte, length-bits_of 32 state)))
     ∙ ap (λ (n : ℕ). with_bits (xor_bits (bits_of 32 state) (bits_of 8 byte)) (replicate n false)) (length-bits_of 8 byte)
-    ∙ ap (λ (l : List Bool). with_bits l (replicate 8 false)) (sym (bits_of-xor 32 state byte ∙ xor_bits-bits_of (bits_of 32 state) 8 32 byte h (lit≤ tt)))
+    ∙ ap (λ (l : List Bool). with_bits l (replicate 8 false))
+    (sym (bits_of-xor 32 state byte ∙ xor_bits-bits_of (bits_of 32 state) 8 32 byte h (lit≤ tt)))
 
 -- one byte more
-pub with_bits-bytes : (state : List Bool) (bytes : List ℕ) (byte : ℕ) → with_bits state (flat_map (bits_of 8) (bytes ++ byte ∷ [])) ≡ with_bits (with_bits state (flat_map (bits_of 8) bytes)) (bits_of 8 byte)
+pub with_bits-bytes : (state : List Bool) (bytes : List ℕ) (byte : ℕ)
+    → with_bits state (flat_map (bits_of 8) (bytes ++ byte ∷ []))
+    ≡ with_bits (with_bits state (flat_map (bits_of 8) bytes)) (bits_of 8 byte)
 with_bits-bytes state [] byte = with_bits-append state (bits_of 8 byte) []
 with_bits-bytes state (b ∷ bytes) byte =
     with_bits-append state (bits_of 8 b) (flat_map (bits_of 8) (bytes ++ byte ∷ []))

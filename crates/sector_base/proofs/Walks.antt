@@ -1,5 +1,6 @@
 -- One element more of a walk along a list.
-use Rattle.std.proofs.Common.{◌≡◌, ℕ, zero, suc, ◌+◌, ◌<◌, Bool, true, false, ◌||◌, List, [], ◌∷◌, length, drop, get_or, Some, sym, ap, ◌∙◌, arith, add-one, drop-cons}
+use Rattle.std.proofs.Common.{◌≡◌, ℕ, zero, suc, ◌+◌, ◌<◌, Bool, true, false, ◌||◌, List, [], ◌∷◌, length, drop, get_or, Some, sym, ap, ◌∙◌,
+    arith, add-one, drop-cons}
 use Rattle.std.specs.Prelude.{slice_get}
 use Rattle.std.specs.List.{list_any}
 use Rattle.std.proofs.lemmas.Option.{same_Some}
@@ -17,11 +18,13 @@ next_got (y ∷ ys) zero x got = ap (λ z. z ∷ ys) (same_Some y x got)
 next_got (y ∷ ys) (suc i) x got = next_got ys i x got ∙ ap (λ n. x ∷ drop n (y ∷ ys)) (let e : suc (i + 1) ≡ suc i + 1 = omega arith in e)
 
 -- whether one passes a test, from here on
-pub any_here : {X : Type 0} (test : X → Bool) (xs : List X) (i : ℕ) (x : X) (whole : Bool) → slice_get xs i ≡ Some x → list_any test (drop i xs) ≡ whole → test x ≡ true → true ≡ whole
+pub any_here : {X : Type 0} (test : X → Bool) (xs : List X) (i : ℕ) (x : X) (whole : Bool) → slice_get xs i ≡ Some x
+    → list_any test (drop i xs) ≡ whole → test x ≡ true → true ≡ whole
 any_here test xs i x whole got is passes =
     sym (ap (λ (b : Bool). b || list_any test (drop (i + 1) xs)) passes) ∙ sym (ap (list_any test) (next_got xs i x got)) ∙ is
 
-pub any_past : {X : Type 0} (test : X → Bool) (xs : List X) (i : ℕ) (x : X) (whole : Bool) → slice_get xs i ≡ Some x → list_any test (drop i xs) ≡ whole → test x ≡ false
+pub any_past : {X : Type 0} (test : X → Bool) (xs : List X) (i : ℕ) (x : X) (whole : Bool) → slice_get xs i ≡ Some x
+    → list_any test (drop i xs) ≡ whole → test x ≡ false
     → list_any test (drop (i + 1) xs) ≡ whole
 any_past test xs i x whole got is fails =
     sym (ap (λ (b : Bool). b || list_any test (drop (i + 1) xs)) fails) ∙ sym (ap (list_any test) (next_got xs i x got)) ∙ is

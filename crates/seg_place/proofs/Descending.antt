@@ -1,5 +1,6 @@
 -- One step of the way down, and what it costs.
-use Rattle.std.proofs.Common.{◌≡◌, ℕ, zero, suc, ◌+◌, ◌-◌, ◌*◌, ◌^◌, ◌<◌, ◌≤◌, List, [], ◌∷◌, length, Option, Some, None, refl, sym, ap, subst, ◌∙◌, arith}
+use Rattle.std.proofs.Common.{◌≡◌, ℕ, zero, suc, ◌+◌, ◌-◌, ◌*◌, ◌^◌, ◌<◌, ◌≤◌, List, [], ◌∷◌, length, Option, Some, None, refl, sym, ap,
+    subst, ◌∙◌, arith}
 use Rattle.std.specs.Prelude.{IsSome, option_map, unwrap_or}
 use Rattle.std.proofs.lemmas.Option.{same_Some}
 use Rattle.sector_base.specs.declared.places.At.{At}
@@ -46,7 +47,9 @@ goes_by group lv sector (suc steps) at is =
       meets = goes.meets;
       spot = goes.spot;
       is_spot = goes.is_spot;
-      rest = subst (λ (n : ℕ). IsSome (down group goes.spot.on n goes.spot.sector)) less (some_is (down group goes.spot.on steps goes.spot.sector) at goes.rest);
+      rest =
+          subst (λ (n : ℕ). IsSome (down group goes.spot.on n goes.spot.sector)) less
+              (some_is (down group goes.spot.on steps goes.spot.sector) at goes.rest);
     }
 
 pub goes_on : (group : Group) (lv sector most : ℕ) → IsSome (down group (on.Lv lv) most sector) → GoesOn group lv sector most
@@ -54,10 +57,12 @@ goes_on group lv sector most is = let one = the_some (down group (on.Lv lv) most
 
 -- the segment that is met is one of the volume
 pub is_met : (group : Group) (lv sector : ℕ) (m : Met) → met group lv sector ≡ Some m → IsMet group m
-is_met group lv sector m is = let meets : Meets group lv sector m = meets_is group lv sector m is in (sector, ap (λ (n : ℕ). met group n sector) meets.same_lv ∙ is)
+is_met group lv sector m is =
+    let meets : Meets group lv sector m = meets_is group lv sector m is in (sector, ap (λ (n : ℕ). met group n sector) meets.same_lv ∙ is)
 
 -- from where it has the sector the way goes on
-pub goes_from : (group : Group) (lv sector most : ℕ) (m : Met) (spot : Spot) → IsSome (down group (on.Lv lv) most sector) → met group lv sector ≡ Some m → primary_spot group.extent_size m ≡ Some spot → IsSome (down group spot.on (most - 1) spot.sector)
+pub goes_from : (group : Group) (lv sector most : ℕ) (m : Met) (spot : Spot) → IsSome (down group (on.Lv lv) most sector)
+    → met group lv sector ≡ Some m → primary_spot group.extent_size m ≡ Some spot → IsSome (down group spot.on (most - 1) spot.sector)
 goes_from group lv sector most m spot is meets there =
     let goes : GoesOn group lv sector most = goes_on group lv sector most is in
     let same : goes.m ≡ m = same_Some goes.m m (sym goes.meets ∙ meets) in
@@ -65,25 +70,31 @@ goes_from group lv sector most m spot is meets there =
     subst (λ (s : Spot). IsSome (down group s.on (most - 1) s.sector)) same' goes.rest
 
 -- to the place of the rest
-pub goes_to : (group : Group) (lv sector most : ℕ) (m : Met) (spot : Spot) (at : At) → IsSome (down group (on.Lv lv) most sector) → met group lv sector ≡ Some m → primary_spot group.extent_size m ≡ Some spot → down group spot.on (most - 1) spot.sector ≡ Some at
+pub goes_to : (group : Group) (lv sector most : ℕ) (m : Met) (spot : Spot) (at : At) → IsSome (down group (on.Lv lv) most sector)
+    → met group lv sector ≡ Some m → primary_spot group.extent_size m ≡ Some spot → down group spot.on (most - 1) spot.sector ≡ Some at
     → down group (on.Lv lv) most sector ≡ Some at
 goes_to group lv sector most m spot at is meets there rest =
-    let some : suc (most - 1) ≡ most = let goes : GoesOn group lv sector most = goes_on group lv sector most is in omega (arith, goes.some) in
+    let some : suc (most - 1) ≡ most =
+        let goes : GoesOn group lv sector most = goes_on group lv sector most is in omega (arith, goes.some) in
     ap (λ (n : ℕ). down group (on.Lv lv) n sector) (sym some) ∙ step_down group lv sector (most - 1) m spot at meets there rest
 
 -- and meets the segment first
-pub way_by : (group : Group) (lv sector most : ℕ) (m : Met) (spot : Spot) → IsSome (down group (on.Lv lv) most sector) → met group lv sector ≡ Some m → primary_spot group.extent_size m ≡ Some spot
+pub way_by : (group : Group) (lv sector most : ℕ) (m : Met) (spot : Spot) → IsSome (down group (on.Lv lv) most sector)
+    → met group lv sector ≡ Some m → primary_spot group.extent_size m ≡ Some spot
     → way group (on.Lv lv) most sector ≡ m ∷ way group spot.on (most - 1) spot.sector
 way_by group lv sector most m spot is meets there =
-    let some : suc (most - 1) ≡ most = let goes : GoesOn group lv sector most = goes_on group lv sector most is in omega (arith, goes.some) in
+    let some : suc (most - 1) ≡ most =
+        let goes : GoesOn group lv sector most = goes_on group lv sector most is in omega (arith, goes.some) in
     ap (λ (n : ℕ). way group (on.Lv lv) n sector) (sym some) ∙ way_is group lv sector (most - 1) m spot meets there
 
 -- the steps in the volume come before those of the rest
-pub takes_first : (group : Group) (lv sector : ℕ) (m : Met) (rest : List Met) (from mid to : ℕ) → met group lv sector ≡ Some m → Halves (segments_in group lv) from mid → TakesSteps group rest mid to → TakesSteps group (m ∷ rest) from to
+pub takes_first : (group : Group) (lv sector : ℕ) (m : Met) (rest : List Met) (from mid to : ℕ) → met group lv sector ≡ Some m
+    → Halves (segments_in group lv) from mid → TakesSteps group rest mid to → TakesSteps group (m ∷ rest) from to
 takes_first group lv sector m rest from mid to meets first later =
     let is : Meets group lv sector m = meets_is group lv sector m meets in
     let sum : mid ≡ from + (mid - from) = omega (arith, first.taken) in
-    (mid - from, subst (λ (n : ℕ). 2 ^ (mid - from) ≤ 2 * segments_in group n + 1) (sym is.same_lv) first.few, subst (λ (n : ℕ). TakesSteps group rest n to) sum later)
+    (mid - from, subst (λ (n : ℕ). 2 ^ (mid - from) ≤ 2 * segments_in group n + 1) (sym is.same_lv) first.few,
+        subst (λ (n : ℕ). TakesSteps group rest n to) sum later)
 
 -- each sector of a volume leads down to a place, and is small
 pub leads_down : (group : Group) (lv sector : ℕ) → IsAccepted group → sector < sectors_of group lv → IsSome (down group (on.Lv lv) 5 sector)
@@ -104,12 +115,14 @@ unfolding primary
 is_primary group lv sector at is = is
 
 -- a way passes as many volumes as it may at most
-way_by_spot : (group : Group) (m : Met) (steps : ℕ) (o : Option Spot) → ((s : Spot) → length (way group s.on steps s.sector) ≤ steps) → length (m ∷ unwrap_or (option_map (λ (s : Spot). way group s.on steps s.sector) o) []) ≤ suc steps
+way_by_spot : (group : Group) (m : Met) (steps : ℕ) (o : Option Spot) → ((s : Spot) → length (way group s.on steps s.sector) ≤ steps)
+    → length (m ∷ unwrap_or (option_map (λ (s : Spot). way group s.on steps s.sector) o) []) ≤ suc steps
 way_by_spot group m steps None rest = omega arith
 way_by_spot group m steps (Some s) rest = omega (arith, rest s)
 
 way_by_met : (group : Group) (steps : ℕ) (o : Option Met) → ((s : Spot) → length (way group s.on steps s.sector) ≤ steps)
-    → length (unwrap_or (option_map (λ (m : Met). m ∷ unwrap_or (option_map (λ (s : Spot). way group s.on steps s.sector) (primary_spot group.extent_size m)) []) o) []) ≤ suc steps
+    → length (unwrap_or (option_map (λ (m : Met). m
+    ∷ unwrap_or (option_map (λ (s : Spot). way group s.on steps s.sector) (primary_spot group.extent_size m)) []) o) []) ≤ suc steps
 way_by_met group steps None rest = omega arith
 way_by_met group steps (Some m) rest = way_by_spot group m steps (primary_spot group.extent_size m) rest
 
@@ -117,4 +130,5 @@ pub way_is_short : (group : Group) (steps : ℕ) (to : On) (sector : ℕ) → le
 way_is_short group zero (on.Pv pv) sector = omega arith
 way_is_short group (suc steps) (on.Pv pv) sector = omega arith
 way_is_short group zero (on.Lv lv) sector = omega arith
-way_is_short group (suc steps) (on.Lv lv) sector = way_by_met group steps (met group lv sector) (λ s. way_is_short group steps s.on s.sector)
+way_is_short group (suc steps) (on.Lv lv) sector =
+    way_by_met group steps (met group lv sector) (λ s. way_is_short group steps s.on s.sector)

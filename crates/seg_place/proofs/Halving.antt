@@ -1,5 +1,6 @@
 -- Halving the segments that may have an extent.
-use Rattle.std.proofs.Common.{◌≡◌, ℕ, zero, suc, ◌+◌, ◌-◌, ◌*◌, ◌^◌, ◌<◌, ◌≤◌, List, [], ◌∷◌, length, get_or, Some, None, ◌⊎◌, inl, inr, sym, ap, subst, ◌∙◌, arith, mul-le-mul_left}
+use Rattle.std.proofs.Common.{◌≡◌, ℕ, zero, suc, ◌+◌, ◌-◌, ◌*◌, ◌^◌, ◌<◌, ◌≤◌, List, [], ◌∷◌, length, get_or, Some, None, ◌⊎◌, inl, inr,
+    sym, ap, subst, ◌∙◌, arith, mul-le-mul_left}
 use Rattle.std.specs.Prelude.{slice_get, sum_by}
 use Rattle.std.proofs.lemmas.Option.{same_Some, slice_get_cases, slice_get_within}
 use Rattle.std.proofs.lemmas.List.Sums.{sum_by-cons}
@@ -35,7 +36,8 @@ halved p w v m small some narrow =
     (omega arith, omega arith)
 
 -- a step that leaves at most the half of them
-pub halves_more : (m low high low' high' from to : ℕ) → 2 * (high' - (low' + 1)) ≤ high - (low + 1) → 1 ≤ high - (low + 1) → HasHalved m low high from to → HasHalved m low' high' from (to + 1)
+pub halves_more : (m low high low' high' from to : ℕ) → 2 * (high' - (low' + 1)) ≤ high - (low + 1) → 1 ≤ high - (low + 1)
+    → HasHalved m low high from to → HasHalved m low' high' from (to + 1)
 halves_more m low high low' high' from to less some old =
     let more = halved (2 ^ (to - from)) (high - (low + 1)) (high' - (low' + 1)) m less some old.narrow in
     let twice : 2 ^ (to + 1 - from) ≡ 2 * 2 ^ (to - from) = power_more from to old.taken in
@@ -51,7 +53,8 @@ follow_first at [] s follow is = cc
 follow_first at (x ∷ xs) s follow is = subst (λ (y : Segment). y.start ≡ at) (same_Some x s is) follow.0
 
 -- each other one begins where the one before ends
-follow_next : (at : ℕ) (segments : List Segment) (k : ℕ) (s t : Segment) → Follow at segments → slice_get segments k ≡ Some s → slice_get segments (suc k) ≡ Some t → t.start ≡ s.start + s.count
+follow_next : (at : ℕ) (segments : List Segment) (k : ℕ) (s t : Segment) → Follow at segments → slice_get segments k ≡ Some s
+    → slice_get segments (suc k) ≡ Some t → t.start ≡ s.start + s.count
 follow_next at [] k s t follow is next = cc
 follow_next at (x ∷ xs) zero s t follow is next =
     let start : t.start ≡ at + x.count = follow_first (at + x.count) xs t follow.2 next in
@@ -59,17 +62,21 @@ follow_next at (x ∷ xs) zero s t follow is next =
 follow_next at (x ∷ xs) (suc k) s t follow is next = follow_next (at + x.count) xs k s t follow.2 is next
 
 -- the last one ends where they all do
-follow_last : (at : ℕ) (segments : List Segment) (k : ℕ) (s : Segment) → Follow at segments → slice_get segments k ≡ Some s → length segments ≤ suc k → s.start + s.count ≡ at + sum_by (λ (x : Segment). x.count) segments
+follow_last : (at : ℕ) (segments : List Segment) (k : ℕ) (s : Segment) → Follow at segments → slice_get segments k ≡ Some s
+    → length segments ≤ suc k → s.start + s.count ≡ at + sum_by (λ (x : Segment). x.count) segments
 follow_last at [] k s follow is last = cc
 follow_last at (x ∷ []) zero s follow is last =
-    subst (λ (y : Segment). y.start + y.count ≡ at + sum_by (λ (z : Segment). z.count) (x ∷ [])) (same_Some x s is) (omega (arith, follow.0, sum_by-cons (λ (z : Segment). z.count) x []))
+    subst (λ (y : Segment). y.start + y.count ≡ at + sum_by (λ (z : Segment). z.count) (x ∷ [])) (same_Some x s is)
+        (omega (arith, follow.0, sum_by-cons (λ (z : Segment). z.count) x []))
 follow_last at (x ∷ y ∷ xs) zero s follow is last = absurd (omega arith)
 follow_last at (x ∷ xs) (suc k) s follow is last =
-    let rest : s.start + s.count ≡ at + x.count + sum_by (λ (z : Segment). z.count) xs = follow_last (at + x.count) xs k s follow.2 is (omega arith) in
+    let rest : s.start + s.count ≡ at + x.count + sum_by (λ (z : Segment). z.count) xs =
+        follow_last (at + x.count) xs k s follow.2 is (omega arith) in
     omega (arith, rest, sum_by-cons (λ (z : Segment). z.count) x xs)
 
 -- what is there at the start
-pub all_between : (segments : List Segment) (extent : ℕ) → Follow 0 segments → extent < sum_by (λ (x : Segment). x.count) segments → IsBetween segments extent 0 (length segments)
+pub all_between : (segments : List Segment) (extent : ℕ) → Follow 0 segments → extent < sum_by (λ (x : Segment). x.count) segments
+    → IsBetween segments extent 0 (length segments)
 all_between [] extent follow within = absurd (omega arith)
 all_between (x ∷ xs) extent follow within =
     record {
@@ -90,7 +97,8 @@ none_halved m taken some =
     }
 
 -- where the one in the middle begins at the latest, it and those behind it are left
-pub halves_up : (segments : List Segment) (extent low high middle : ℕ) (x : Segment) → IsBetween segments extent low high → middle < high → slice_get segments middle ≡ Some x → x.start ≤ extent → IsBetween segments extent middle high
+pub halves_up : (segments : List Segment) (extent low high middle : ℕ) (x : Segment) → IsBetween segments extent low high → middle < high
+    → slice_get segments middle ≡ Some x → x.start ≤ extent → IsBetween segments extent middle high
 halves_up segments extent low high middle x between lt is begun =
     record {
       order = lt;
@@ -100,7 +108,8 @@ halves_up segments extent low high middle x between lt is begun =
     }
 
 -- where it begins later, those before it are left
-pub halves_down : (segments : List Segment) (extent low high middle : ℕ) (x : Segment) → IsBetween segments extent low high → low < middle → slice_get segments middle ≡ Some x → extent < x.start → IsBetween segments extent low middle
+pub halves_down : (segments : List Segment) (extent low high middle : ℕ) (x : Segment) → IsBetween segments extent low high → low < middle
+    → slice_get segments middle ≡ Some x → extent < x.start → IsBetween segments extent low middle
 halves_down segments extent low high middle x between lt is later =
     record {
       order = lt;
@@ -110,14 +119,18 @@ halves_down segments extent low high middle x between lt is later =
     }
 
 -- where they are one, it has the extent
-pub one_left : (segments : List Segment) (extent low high : ℕ) → Follow 0 segments → extent < sum_by (λ (x : Segment). x.count) segments → IsBetween segments extent low high → high ≤ low + 1 → HasExtent segments extent low
+pub one_left : (segments : List Segment) (extent low high : ℕ) → Follow 0 segments → extent < sum_by (λ (x : Segment). x.count) segments
+    → IsBetween segments extent low high → high ≤ low + 1 → HasExtent segments extent low
 one_left segments extent low high follow within between one = at_place (slice_get_cases segments low).1 where
-  at_place : ((x : Segment) × (low < length segments) × (slice_get segments low ≡ Some x) × (get_or segments low x ≡ x)) ⊎ ((length segments ≤ low) × (slice_get segments low ≡ None)) → HasExtent segments extent low
+  at_place : ((x : Segment) × (low < length segments) × (slice_get segments low ≡ Some x) × (get_or segments low x ≡ x))
+      ⊎ ((length segments ≤ low) × (slice_get segments low ≡ None)) → HasExtent segments extent low
   at_place (inr past) = absurd (omega (arith, past.0, between.order, between.within))
   at_place (inl here) = (here.0, here.2, between.begun here.0 here.2, ends (slice_get_cases segments (suc low)).1)
     where
-      ends : ((x : Segment) × (suc low < length segments) × (slice_get segments (suc low) ≡ Some x) × (get_or segments (suc low) x ≡ x)) ⊎ ((length segments ≤ suc low) × (slice_get segments (suc low) ≡ None)) → extent < here.0.start + here.0.count
+      ends : ((x : Segment) × (suc low < length segments) × (slice_get segments (suc low) ≡ Some x) × (get_or segments (suc low) x ≡ x))
+          ⊎ ((length segments ≤ suc low) × (slice_get segments (suc low) ≡ None)) → extent < here.0.start + here.0.count
       ends (inr past) = omega (arith, follow_last 0 segments low here.0 follow here.2 past.0)
       ends (inl next) =
-          let later : extent < next.0.start = between.ahead next.0 (subst (λ (k : ℕ). slice_get segments k ≡ Some next.0) (omega (arith, between.order)) next.2) in
+          let later : extent < next.0.start =
+              between.ahead next.0 (subst (λ (k : ℕ). slice_get segments k ≡ Some next.0) (omega (arith, between.order)) next.2) in
           omega (arith, later, follow_next 0 segments low here.0 next.0 follow here.2 next.2)

@@ -1,5 +1,6 @@
 -- Each step keeps the rule.
-use Rattle.std.proofs.Common.{◌≡◌, ℕ, ◌+◌, ◌<◌, ◌≤◌, ◌⊎◌, inl, inr, ⊎_elim, Bool, true, false, eqb, List, [], ◌∷◌, ◌++◌, length, get_or, set, sym, refl, ap, ◌∙◌, subst, arith, eq-eqb, ne_eqb, Option, Some, None, unwrap_or, replicate, length-append}
+use Rattle.std.proofs.Common.{◌≡◌, ℕ, ◌+◌, ◌<◌, ◌≤◌, ◌⊎◌, inl, inr, ⊎_elim, Bool, true, false, eqb, List, [], ◌∷◌, ◌++◌, length, get_or,
+    set, sym, refl, ap, ◌∙◌, subst, arith, eq-eqb, ne_eqb, Option, Some, None, unwrap_or, replicate, length-append}
 use mathlib.Core.Logic.{dite}
 use mathlib.Core.Option.{none, some, some-ne-none, some-injective}
 use mathlib.Core.List.{IsPrefix}
@@ -7,7 +8,8 @@ use native.Mathlib.Decide.{ℕ_discrete, dec_le}
 use lib.ListN.{get_elem?}
 use prog.Atomic.{either}
 use Rattle.std.specs.Option.{option_map_or}
-use Rattle.atomic_table.specs.Table.{State, Me, rest, step, Act, Valid, carried_after, keeps, takes, gives, stepped, Allows, Splits, Joins, opening, Final, Seen}
+use Rattle.atomic_table.specs.Table.{State, Me, rest, step, Act, Valid, carried_after, keeps, takes, gives, stepped, Allows, Splits, Joins,
+    opening, Final, Seen}
 use Rattle.atomic_table.proofs.Lists.{set_here, set_else}
 use Rattle.table_lock.specs.declared.event.LockEvent.{LockEvent}
 use Rattle.table_lock.specs.declared.event.LockEvent.TheVariants.{Given, Taken, Missed}
@@ -18,14 +20,16 @@ use Rattle.table_lock.specs.Rule.{IsKnown, IsKept, Takes, FreesTurn, Frees, Sett
 use Rattle.table_lock.proofs.Prefixes.{prefix_self, prefix_shorter, prefix_both, prefix_of_nothing}
 use Rattle.table_lock.proofs.Totals.{total-set, total-snoc, total-two, some_one}
 use Rattle.table_lock.proofs.Histories.{turn-append, value-append, value_kept, legal-append, prefix_legal, last_origin}
-use Rattle.table_lock.proofs.Views.{weight_none, weight_one, weight_most, at_here, Begins, Knows, each_set, each_snoc, each_longer, spent_set, spent_snoc, held_set, held_snoc, none_held, known_here, known_set, known_snoc, has_seen, since_miss}
+use Rattle.table_lock.proofs.Views.{weight_none, weight_one, weight_most, at_here, Begins, Knows, each_set, each_snoc, each_longer,
+    spent_set, spent_snoc, held_set, held_snoc, none_held, known_here, known_set, known_snoc, has_seen, since_miss}
 
 value_in : {T : Type 0} → Option T → List (ℕ × Option T) → Option T
 value_in d [] = d
 value_in d (x ∷ xs) = x.1
 
 -- the first slot has one value
-pub head_value : {T : Type 0} (x y : Option T) {xs ys : List (ℕ × Option T)} → (◌≡◌ {A = List (ℕ × Option T)} ((0, x) ∷ xs) ((0, y) ∷ ys)) → x ≡ y
+pub head_value : {T : Type 0} (x y : Option T) {xs ys : List (ℕ × Option T)} → (◌≡◌ {A = List (ℕ × Option T)} ((0, x) ∷ xs) ((0, y) ∷ ys))
+    → x ≡ y
 unfolding value_in
 head_value x y e = ap (value_in x) e
 
@@ -72,8 +76,11 @@ module _ {T O E : Type 0} (origin : T → O) (story : T → List E) where
       }
 
   -- the same of a copy of the value, and of slots that were filled
-  pub opens_with : (key value : T) (xs : List (Option T)) → key ≡ value → xs ≡ Some value ∷ [] → IsKept origin story (opening (0 ∷ []) xs (first_view key))
-  opens_with key value xs same items = subst (λ (ys : List (Option T)). IsKept origin story (opening (0 ∷ []) ys (first_view key))) (ap (λ (x : T). Some x ∷ []) same ∙ sym items) (opens key)
+  pub opens_with : (key value : T) (xs : List (Option T)) → key ≡ value → xs ≡ Some value ∷ []
+      → IsKept origin story (opening (0 ∷ []) xs (first_view key))
+  opens_with key value xs same items =
+      subst (λ (ys : List (Option T)). IsKept origin story (opening (0 ∷ []) ys (first_view key)))
+          (ap (λ (x : T). Some x ∷ []) same ∙ sym items) (opens key)
 
   word_is : (s : St) → (k : IsKept origin story s) → get_or s.words 0 0 ≡ weight (is_taken k.history)
   word_is s k = ap (λ ws. get_or ws 0 0) k.word
@@ -82,7 +89,8 @@ module _ {T O E : Type 0} (origin : T → O) (story : T → List E) where
   word_set s n b k e = ap (λ ws. set ws 0 n) k.word ∙ ap (λ j. j ∷ []) e
 
   -- a seat with all parts that hasn't the turn: nobody has
-  nobody : (s : St) → (k : IsKept origin story s) → (id : ℕ) (v : V) → get_elem? s.views id ≡ some v → v.parts ≡ 64 → v.has_turn ≡ false → is_taken k.history ≡ false
+  nobody : (s : St) → (k : IsKept origin story s) → (id : ℕ) (v : V) → get_elem? s.views id ≡ some v → v.parts ≡ 64 → v.has_turn ≡ false
+      → is_taken k.history ≡ false
   nobody s k id v at all idle = weight_none (is_taken k.history) (sym k.turn ∙ dite (ℕ_discrete (turns s.views) 0) (λ e. e) (λ ne.
       let r = some_one (λ (x : V). x.has_turn) s.views (omega arith) in
       dite (ℕ_discrete r.0 id)
@@ -94,7 +102,8 @@ module _ {T O E : Type 0} (origin : T → O) (story : T → List E) where
       absurd (cc ((k.spent r.0 r.1 r.2 (omega arith)).idle, r.3)))))
 
   -- and it has seen all
-  saw_all : (s : St) → (k : IsKept origin story s) → (id : ℕ) (v : V) → get_elem? s.views id ≡ some v → v.parts ≡ 64 → v.told ≡ [] → v.history ≡ k.history
+  saw_all : (s : St) → (k : IsKept origin story s) → (id : ℕ) (v : V) → get_elem? s.views id ≡ some v → v.parts ≡ 64 → v.told ≡ []
+      → v.history ≡ k.history
   saw_all s k id v at all untold =
       let known = k.known in
       let begins = k.begins id v at in
@@ -109,19 +118,24 @@ module _ {T O E : Type 0} (origin : T → O) (story : T → List E) where
       prefix_of_nothing v.history (subst (λ (l : H). IsPrefix v.history l) empty begins.0) ∙ sym empty)
 
   -- a seat adds to the history
-  added : (s : St) → (k : IsKept origin story s) → (id : ℕ) (v : V) (e : LockEvent T) → get_elem? s.views id ≡ some v → IsLegal origin story (k.history ++ e ∷ []) → Adds origin story v.history e (k.history ++ e ∷ [])
+  added : (s : St) → (k : IsKept origin story s) → (id : ℕ) (v : V) (e : LockEvent T) → get_elem? s.views id ≡ some v
+      → IsLegal origin story (k.history ++ e ∷ []) → Adds origin story v.history e (k.history ++ e ∷ [])
   added s k id v e at legal = let p = (k.begins id v at).0 in record { between = p.0; is = ap (λ l. l ++ e ∷ []) (sym p.1); legal = legal }
 
   -- what the others know is still part of the history
-  begins_more : (s : St) → (k : IsKept origin story s) → (id : ℕ) (v : V) (e : LockEvent T) (w : V) → get_elem? s.views id ≡ some v → w.history ≡ k.history ++ e ∷ [] → w.told ≡ v.told → EachBegins (set s.views id w) (k.history ++ e ∷ [])
+  begins_more : (s : St) → (k : IsKept origin story s) → (id : ℕ) (v : V) (e : LockEvent T) (w : V) → get_elem? s.views id ≡ some v
+      → w.history ≡ k.history ++ e ∷ [] → w.told ≡ v.told → EachBegins (set s.views id w) (k.history ++ e ∷ [])
   begins_more s k id v e w at seen told =
       let more : H = k.history ++ e ∷ [] in
       let all = each_longer s.views k.history more k.begins (e ∷ [], refl) in
-      each_set s.views id w more all (subst (λ (l : H). IsPrefix l more) (sym seen) (prefix_self more), subst (λ (l : H). IsPrefix l more) (sym told) (all id v at).1)
+      each_set s.views id w more all (subst (λ (l : H). IsPrefix l more) (sym seen) (prefix_self more),
+          subst (λ (l : H). IsPrefix l more) (sym told) (all id v at).1)
 
   -- the turn was free
-  won : (s : St) (id : ℕ) (m : M) → (k : IsKept origin story s) → 0 < m.0.parts → m.0.has_turn ≡ false → get_elem? s.views id ≡ some m.0 → (free : is_taken k.history ≡ false)
-      → IsKept origin story (stepped s 0 1 id m.1 (view m.0.parts true (k.history ++ Taken ∷ []) m.0.told (m.0.moves + 1)) (takes 0 (Some (k.home free).0)))
+  won : (s : St) (id : ℕ) (m : M) → (k : IsKept origin story s) → 0 < m.0.parts → m.0.has_turn ≡ false → get_elem? s.views id ≡ some m.0
+      → (free : is_taken k.history ≡ false)
+      → IsKept origin story (stepped s 0 1 id m.1 (view m.0.parts true (k.history ++ Taken ∷ []) m.0.told (m.0.moves + 1))
+      (takes 0 (Some (k.home free).0)))
   won s id m k some_parts idle at free =
       let h : H = k.history in
       let more : H = h ++ Taken ∷ [] in
@@ -153,8 +167,10 @@ module _ {T O E : Type 0} (origin : T → O) (story : T → List E) where
       append_none (x ∷ xs) = ap (λ ys. x ∷ ys) (append_none xs)
 
   -- the turn was taken
-  missed : (s : St) (id : ℕ) (m : M) → (k : IsKept origin story s) → 0 < m.0.parts → m.0.has_turn ≡ false → get_elem? s.views id ≡ some m.0 → (out : is_taken k.history ≡ true)
-      → IsKept origin story (stepped s 0 (get_or s.words 0 0) id m.1 (view m.0.parts m.0.has_turn (k.history ++ Missed ∷ []) m.0.told (m.0.moves + 1)) keeps)
+  missed : (s : St) (id : ℕ) (m : M) → (k : IsKept origin story s) → 0 < m.0.parts → m.0.has_turn ≡ false → get_elem? s.views id ≡ some m.0
+      → (out : is_taken k.history ≡ true)
+      → IsKept origin story (stepped s 0 (get_or s.words 0 0) id m.1
+      (view m.0.parts m.0.has_turn (k.history ++ Missed ∷ []) m.0.told (m.0.moves + 1)) keeps)
   missed s id m k some_parts idle at out =
       let h : H = k.history in
       let more : H = h ++ Missed ∷ [] in
@@ -196,7 +212,8 @@ module _ {T O E : Type 0} (origin : T → O) (story : T → List E) where
         w,
         takes 0 (Some home.0),
         home.1,
-        subst (λ b. IsKept origin story (stepped s 0 (either b 1 x) id m.1 w (takes 0 (Some home.0)))) (sym (eq-eqb x 0 zero_word)) (won s id m k some_parts idle at free),
+        subst (λ b. IsKept origin story (stepped s 0 (either b 1 x) id m.1 w (takes 0 (Some home.0)))) (sym (eq-eqb x 0 zero_word))
+            (won s id m k some_parts idle at free),
         (
           (λ _. record {
             after = more;
@@ -217,7 +234,8 @@ module _ {T O E : Type 0} (origin : T → O) (story : T → List E) where
         w,
         keeps,
         tt,
-        subst (λ b. IsKept origin story (stepped s 0 (either b 1 x) id m.1 w keeps)) (sym (ne_eqb x 0 not_zero)) (missed s id m k some_parts idle at out),
+        subst (λ b. IsKept origin story (stepped s 0 (either b 1 x) id m.1 w keeps)) (sym (ne_eqb x 0 not_zero))
+            (missed s id m k some_parts idle at out),
         (
           (λ zero_word. absurd (not_zero zero_word)),
           λ _. record {
@@ -230,18 +248,23 @@ module _ {T O E : Type 0} (origin : T → O) (story : T → List E) where
       ))
 
   -- what a seat gives continues the value that was given last
-  follows : (s : St) → (k : IsKept origin story s) → (id : ℕ) (v : V) (first value : T) → get_elem? s.views id ≡ some v → v.has_turn ≡ true → IsOpenedWith first v.history → origin value ≡ origin first
+  follows : (s : St) → (k : IsKept origin story s) → (id : ℕ) (v : V) (first value : T) → get_elem? s.views id ≡ some v → v.has_turn ≡ true
+      → IsOpenedWith first v.history → origin value ≡ origin first
       → IsPrefix (story_at story v.history) (story value) → Follows origin story (last_value k.history) value
   follows s k id v first value at has opening from longer =
       let p = (k.begins id v at).0 in
       let since = k.held id v at has in
       let r = last_origin origin story first v.history opening (prefix_legal origin story v.history k.history p k.legal) in
-      let same : last_value k.history ≡ Some r.0 = ap last_value since.1 ∙ (value-append None v.history (replicate since.0 Missed) ∙ (value_kept (last_value v.history) since.0 ∙ r.1)) in
-      let grows : IsPrefix (story r.0) (story value) = subst (λ (l : Option T). IsPrefix (option_map_or story l []) (story value)) r.1 longer in
+      let same : last_value k.history ≡ Some r.0 =
+          ap last_value since.1 ∙ (value-append None v.history (replicate since.0 Missed)
+              ∙ (value_kept (last_value v.history) since.0 ∙ r.1)) in
+      let grows : IsPrefix (story r.0) (story value) =
+          subst (λ (l : Option T). IsPrefix (option_map_or story l []) (story value)) r.1 longer in
       let one : Continues origin story r.0 value = record { same = from ∙ sym r.2; longer = grows } in
       subst (λ (l : Option T). Follows origin story l value) (sym same) one
 
-  pub sets_free : (slots id : ℕ) (m : M) (first value : T) → 0 < slots → m.1 ≡ (0, Some value) ∷ [] → 0 < m.0.parts → m.0.has_turn ≡ true → IsOpenedWith first m.0.history → origin value ≡ origin first
+  pub sets_free : (slots id : ℕ) (m : M) (first value : T) → 0 < slots → m.1 ≡ (0, Some value) ∷ [] → 0 < m.0.parts → m.0.has_turn ≡ true
+      → IsOpenedWith first m.0.history → origin value ≡ origin first
       → IsPrefix (story_at story m.0.history) (story value)
       → Allows (IsKept origin story) slots id m 0 (λ _. 0) (λ _. Frees origin story (step slots 0 0 0 none) m 0)
   sets_free slots id m first value room is some_parts has opening from longer s k wide at _ =
@@ -258,7 +281,9 @@ module _ {T O E : Type 0} (origin : T → O) (story : T → List E) where
       let free : is_taken more ≡ false = turn-append true h (Given value ∷ []) in
       let empty : turns (set s.views id w) ≡ 0 = omega arith in
       let long = length-append h (Given value ∷ []) in
-      let legal = legal-append origin story true None h (Given value ∷ []) k.legal (out, follows s k id m.0 first value at has opening from longer, tt) in
+      let legal =
+          legal-append origin story true None h (Given value ∷ []) k.legal
+              (out, follows s k id m.0 first value at has opening from longer, tt) in
       let since = k.held id m.0 at has in
       let moved = k.moves in let whole = k.parts in
       let Kept : List (ℕ × Option T) → Type 0 = λ c. IsKept origin story (stepped s 0 0 id c w gives) in (
@@ -312,21 +337,25 @@ module _ {T O E : Type 0} (origin : T → O) (story : T → List E) where
       }
 
   -- after a join some seat knows the whole history still, or was told it
-  known_joined : (views : List V) (id : ℕ) (v : V) (other : ℕ) (w : V) (h : H) → get_elem? views id ≡ some v → ¬ (other ≡ id) → get_elem? views other ≡ some w → v.told ≡ [] → w.told ≡ [] → Begins v h → Begins w h
+  known_joined : (views : List V) (id : ℕ) (v : V) (other : ℕ) (w : V) (h : H) → get_elem? views id ≡ some v → ¬ (other ≡ id)
+      → get_elem? views other ≡ some w → v.told ≡ [] → w.told ≡ [] → Begins v h → Begins w h
       → IsKnown views h → IsKnown (set (set views id (joined_views v w)) other spent_view) h
   known_joined views id v other w h at apart there untold untold' own theirs known =
       let both : V = joined_views v w in
       let mid : List V = set views id both in
-      let here : get_elem? (set mid other spent_view) id ≡ some both = set_else mid other id spent_view (λ e. apart (sym e)) ∙ at_here views id v both at in
+      let here : get_elem? (set mid other spent_view) id ≡ some both =
+          set_else mid other id spent_view (λ e. apart (sym e)) ∙ at_here views id v both at in
       dite (ℕ_discrete known.0 other)
       (λ e. let same : known.1 ≡ w = some-injective known.1 w (sym known.2 ∙ (ap (λ (j : ℕ). get_elem? views j) e ∙ there)) in
       (id, both, here, inr (has_seen w h untold' theirs (subst (λ (x : V). Knows x h) same known.3))))
       (λ not_other. dite (ℕ_discrete known.0 id)
       (λ e. let same : known.1 ≡ v = some-injective known.1 v (sym known.2 ∙ (ap (λ (j : ℕ). get_elem? views j) e ∙ at)) in
       (id, both, here, inl (has_seen v h untold own (subst (λ (x : V). Knows x h) same known.3))))
-      (λ not_id. (known.0, known.1, set_else mid other known.0 spent_view not_other ∙ (set_else views id known.0 both not_id ∙ known.2), known.3)))
+      (λ not_id. (known.0, known.1, set_else mid other known.0 spent_view not_other ∙ (set_else views id known.0 both not_id ∙ known.2),
+          known.3)))
 
-  pub joins : (id : ℕ) (v : V) (other : ℕ) (w : V) → 0 < v.parts → v.has_turn ≡ false → w.has_turn ≡ false → v.told ≡ [] → w.told ≡ [] → Joins (IsKept origin story) id v other w (joined_views v w) spent_view
+  pub joins : (id : ℕ) (v : V) (other : ℕ) (w : V) → 0 < v.parts → v.has_turn ≡ false → w.has_turn ≡ false → v.told ≡ [] → w.told ≡ []
+      → Joins (IsKept origin story) id v other w (joined_views v w) spent_view
   joins id v other w some_parts idle idle' untold untold' s k at apart at' =
       let h : H = k.history in
       let both : V = joined_views v w in
@@ -350,15 +379,20 @@ module _ {T O E : Type 0} (origin : T → O) (story : T → List E) where
         word = k.word;
         turn = same ∙ k.turn;
         home = k.home;
-        held = held_set mid other spent_view h (held_set s.views id both h k.held (λ has. absurd (cc (idle, has)))) (λ has. absurd (cc (has)));
+        held =
+            held_set mid other spent_view h (held_set s.views id both h k.held (λ has. absurd (cc (idle, has)))) (λ has. absurd (cc (has)));
         parts = omega arith;
-        spent = spent_set mid other spent_view (spent_set s.views id both k.spent (λ e. absurd (omega arith))) (λ _. record { idle = refl; unseen = refl; untold = refl });
+        spent =
+            spent_set mid other spent_view (spent_set s.views id both k.spent (λ e. absurd (omega arith)))
+                (λ _. record { idle = refl; unseen = refl; untold = refl });
       }
 
   -- a seat that was told a history keeps the longer one
-  settled : (s : St) (slots id : ℕ) (m : M) → m.0.has_turn ≡ false → (k : IsKept origin story s) → get_elem? s.views id ≡ some m.0 → (both : H) → (both ≡ m.0.history) ⊎ (both ≡ m.0.told) → IsPrefix m.0.history both → IsPrefix m.0.told both
+  settled : (s : St) (slots id : ℕ) (m : M) → m.0.has_turn ≡ false → (k : IsKept origin story s) → get_elem? s.views id ≡ some m.0
+      → (both : H) → (both ≡ m.0.history) ⊎ (both ≡ m.0.told) → IsPrefix m.0.history both → IsPrefix m.0.told both
       → IsPrefix both k.history
-      → (w : V) × (a : Act (Option T)) × Valid s.homes m.1 a × IsKept origin story (stepped s 0 (get_or s.words 0 0) id m.1 w a) × Settles origin story (step slots 0 0 0 none) m (get_or s.words 0 0) (w, carried_after m.1 a)
+      → (w : V) × (a : Act (Option T)) × Valid s.homes m.1 a × IsKept origin story (stepped s 0 (get_or s.words 0 0) id m.1 w a)
+      × Settles origin story (step slots 0 0 0 none) m (get_or s.words 0 0) (w, carried_after m.1 a)
   settled s slots id m idle k at both one own told below =
       let h : H = k.history in
       let w : V = view m.0.parts m.0.has_turn both [] m.0.moves in
@@ -375,32 +409,40 @@ module _ {T O E : Type 0} (origin : T → O) (story : T → List E) where
           legal = k.legal;
           begins = each_set s.views id w h k.begins (below, (h, refl));
           known = known_set s.views id m.0 w h at
-              (⊎_elim (λ e. inl (prefix_both both h below (subst (λ (l : H). IsPrefix l both) e own))) (λ e. inl (prefix_both both h below (subst (λ (l : H). IsPrefix l both) e told)))) k.known;
+              (⊎_elim (λ e. inl (prefix_both both h below (subst (λ (l : H). IsPrefix l both) e own)))
+                  (λ e. inl (prefix_both both h below (subst (λ (l : H). IsPrefix l both) e told)))) k.known;
           moves = omega arith;
           word = word_set s (get_or s.words 0 0) (is_taken h) k (word_is s k);
           turn = same ∙ k.turn;
           home = k.home;
           held = held_set s.views id w h k.held (λ has. absurd (cc (idle, has)));
           parts = omega arith;
-          spent = spent_set s.views id w k.spent (λ e. let none = k.spent id m.0 at e in record { idle = idle; unseen = ⊎_elim (λ is. is ∙ none.unseen) (λ is. is ∙ none.untold) one; untold = refl });
+          spent =
+              spent_set s.views id w k.spent (λ e. let none = k.spent id m.0 at
+                  e in record { idle = idle; unseen = ⊎_elim (λ is. is ∙ none.unseen) (λ is. is ∙ none.untold) one; untold = refl });
         },
         record { both = both; is = refl; one = one; own = own; told = told; legal = prefix_legal origin story both h below k.legal },
       )
 
-  pub settles : (slots id : ℕ) (m : M) → m.0.has_turn ≡ false → Allows (IsKept origin story) slots id m 0 (λ n. n) (Settles origin story (step slots 0 0 0 none) m)
+  pub settles : (slots id : ℕ) (m : M) → m.0.has_turn ≡ false
+      → Allows (IsKept origin story) slots id m 0 (λ n. n) (Settles origin story (step slots 0 0 0 none) m)
   settles slots id m idle s k wide at _ =
       let begins = k.begins id m.0 at in
       dite (dec_le (length m.0.history) (length m.0.told))
-      (λ le. settled s slots id m idle k at m.0.told (inr refl) (prefix_shorter m.0.history m.0.told k.history begins.0 begins.1 le) (prefix_self m.0.told) begins.1)
-      (λ more. settled s slots id m idle k at m.0.history (inl refl) (prefix_self m.0.history) (prefix_shorter m.0.told m.0.history k.history begins.1 begins.0 (omega arith)) begins.0)
+      (λ le. settled s slots id m idle k at m.0.told (inr refl) (prefix_shorter m.0.history m.0.told k.history begins.0 begins.1 le)
+          (prefix_self m.0.told) begins.1)
+      (λ more. settled s slots id m idle k at m.0.history (inl refl) (prefix_self m.0.history)
+          (prefix_shorter m.0.told m.0.history k.history begins.1 begins.0 (omega arith)) begins.0)
 
   -- at the end the slot has the value that was given last, which the closing seat has seen
-  pub closes : (id : ℕ) (v : V) (ws : List ℕ) (xs : List (Option T)) (first : T) → v.parts ≡ 64 → v.has_turn ≡ false → v.told ≡ [] → IsOpenedWith first v.history → Final (Seen (IsKept origin story) id v) ws xs
+  pub closes : (id : ℕ) (v : V) (ws : List ℕ) (xs : List (Option T)) (first : T) → v.parts ≡ 64 → v.has_turn ≡ false → v.told ≡ []
+      → IsOpenedWith first v.history → Final (Seen (IsKept origin story) id v) ws xs
       → (value : T) × (get_elem? xs 0 ≡ some (Some value)) × (last_value v.history ≡ Some value) × (origin value ≡ origin first)
   closes id v ws xs first all idle untold opening f =
       let s = f.0 in let k = f.1.0 in let at = f.1.1 in
       let home = k.home (nobody s k id v at all idle) in
       let last : last_value v.history ≡ Some home.0 = ap last_value (saw_all s k id v at all untold) ∙ home.2 in
-      let r = last_origin origin story first v.history opening (prefix_legal origin story v.history k.history (k.begins id v at).0 k.legal) in
+      let r =
+          last_origin origin story first v.history opening (prefix_legal origin story v.history k.history (k.begins id v at).0 k.legal) in
       let same : home.0 ≡ r.0 = ap (λ o. unwrap_or o r.0) (sym last ∙ r.1) in
       (home.0, f.4 0 (Some home.0) home.1, last, ap origin same ∙ r.2)

@@ -12,8 +12,10 @@ use Rattle.table_lock.proofs.Histories.{opened_longer, story_longer, adds_longer
 use Rattle.table_lock.proofs.Keeps.{head_value}
 
 -- a seat that has the turn put the value into its slot
-pub filled : {T : Type 0} (m n : Me (Option T) (SeatView T)) (value : T) → m.1 ≡ slots_of m.0.has_turn → m.0.has_turn ≡ true → n ≡ (m.0, (0, Some value) ∷ rest m.1) → n.1 ≡ (0, Some value) ∷ []
-filled {T} m n value carries has e = ap (λ (x : Me (Option T) (SeatView T)). x.1) e ∙ ap (λ (l : List (ℕ × Option T)). (0, Some value) ∷ rest l) (carries ∙ ap slots_of has)
+pub filled : {T : Type 0} (m n : Me (Option T) (SeatView T)) (value : T) → m.1 ≡ slots_of m.0.has_turn → m.0.has_turn ≡ true
+    → n ≡ (m.0, (0, Some value) ∷ rest m.1) → n.1 ≡ (0, Some value) ∷ []
+filled {T} m n value carries has e =
+    ap (λ (x : Me (Option T) (SeatView T)). x.1) e ∙ ap (λ (l : List (ℕ × Option T)). (0, Some value) ∷ rest l) (carries ∙ ap slots_of has)
 
 module _ {T O E : Type 0} (origin : T → O) (story : T → List E) where
   abbrev M : Type 0
@@ -24,19 +26,23 @@ module _ {T O E : Type 0} (origin : T → O) (story : T → List E) where
 
   -- a seat that missed the turn
   pub missed_seat : (first : T) (m n : M) → IsOpenedWith first m.0.history → MissesTurn origin story m n
-      → IsOpenedWith first n.0.history × (n.0.parts ≡ m.0.parts) × (n.0.moves ≡ m.0.moves + 1) × IsPrefix (story_at story m.0.history) (story_at story n.0.history)
+      → IsOpenedWith first n.0.history × (n.0.parts ≡ m.0.parts) × (n.0.moves ≡ m.0.moves + 1)
+      × IsPrefix (story_at story m.0.history) (story_at story n.0.history)
   missed_seat first m n opening t =
       let new : n.0.history ≡ t.after = ap (λ (x : M). x.0.history) t.is in
       let longer = adds_longer origin story m.0.history t.after Missed t.adds in (
         subst (IsOpenedWith first) (sym new) (opened_longer first m.0.history t.after longer opening),
         ap (λ (x : M). x.0.parts) t.is,
         ap (λ (x : M). x.0.moves) t.is,
-        subst (λ (l : H). IsPrefix (story_at story m.0.history) (story_at story l)) (sym new) (story_longer origin story m.0.history t.after longer t.adds.legal),
+        subst (λ (l : H). IsPrefix (story_at story m.0.history) (story_at story l)) (sym new)
+            (story_longer origin story m.0.history t.after longer t.adds.legal),
       )
 
   -- a seat that took the turn, and then the value out of its slot
-  pub taken_seat : (first : T) (m mid n : M) (result : Option T) → IsOpenedWith first m.0.history → TakesTurn origin story m mid → mid.1 ≡ (0, result) ∷ rest mid.1 → n.0 ≡ mid.0
-      → IsOpenedWith first n.0.history × (n.0.parts ≡ m.0.parts) × (n.0.moves ≡ m.0.moves + 1) × IsPrefix (story_at story m.0.history) (story_at story n.0.history)
+  pub taken_seat : (first : T) (m mid n : M) (result : Option T) → IsOpenedWith first m.0.history → TakesTurn origin story m mid
+      → mid.1 ≡ (0, result) ∷ rest mid.1 → n.0 ≡ mid.0
+      → IsOpenedWith first n.0.history × (n.0.parts ≡ m.0.parts) × (n.0.moves ≡ m.0.moves + 1)
+      × IsPrefix (story_at story m.0.history) (story_at story n.0.history)
       × IfSome result (λ v. (last_value n.0.history ≡ Some v) × (story_at story n.0.history ≡ story v) × (origin v ≡ origin first))
   taken_seat first m mid n result opening t slot same =
       let view = same ∙ ap (λ (x : M). x.0) t.is in
@@ -47,9 +53,12 @@ module _ {T O E : Type 0} (origin : T → O) (story : T → List E) where
         subst (IsOpenedWith first) (sym new) (opened_longer first m.0.history t.after longer opening),
         ap (λ (v : SeatView T). v.parts) view,
         ap (λ (v : SeatView T). v.moves) view,
-        subst (λ (l : H). IsPrefix (story_at story m.0.history) (story_at story l)) (sym new) (story_longer origin story m.0.history t.after longer t.adds.legal),
-        subst (λ (o : Option T). IfSome o (λ v. (last_value n.0.history ≡ Some v) × (story_at story n.0.history ≡ story v) × (origin v ≡ origin first))) out
-            (subst (λ (l : H). (last_value l ≡ Some t.value) × (story_at story l ≡ story t.value) × (origin t.value ≡ origin first)) (sym new) r),
+        subst (λ (l : H). IsPrefix (story_at story m.0.history) (story_at story l)) (sym new)
+            (story_longer origin story m.0.history t.after longer t.adds.legal),
+        subst (λ (o : Option T). IfSome o (λ v. (last_value n.0.history ≡ Some v) × (story_at story n.0.history ≡ story v)
+            × (origin v ≡ origin first))) out
+            (subst (λ (l : H). (last_value l ≡ Some t.value) × (story_at story l ≡ story t.value) × (origin t.value ≡ origin first))
+                (sym new) r),
       )
 
   -- what is known of a seat that gave a value
@@ -66,13 +75,16 @@ module _ {T O E : Type 0} (origin : T → O) (story : T → List E) where
     pub alone : m.0.parts ≡ 64 → n.0.history ≡ m.0.history ++ Given value ∷ []
 
   -- a seat that gave the value in its slot
-  pub gave_seat : (first : T) (m mid n : M) (value : T) → IsOpenedWith first m.0.history → 0 < m.0.parts → m.0.told ≡ [] → mid.0 ≡ m.0 → FreesTurn origin story mid value n → GaveValue first m n value
+  pub gave_seat : (first : T) (m mid n : M) (value : T) → IsOpenedWith first m.0.history → 0 < m.0.parts → m.0.told ≡ [] → mid.0 ≡ m.0
+      → FreesTurn origin story mid value n → GaveValue first m n value
   gave_seat first m mid n value opening some_parts untold same t =
       let new : n.0.history ≡ t.after = ap (λ (x : M). x.0.history) t.is in
       let gives = subst (λ (v : SeatView T). GivesBack origin story v.history value t.after) same t.gives in
       let parts : n.0.parts ≡ m.0.parts = ap (λ (x : M). x.0.parts) t.is ∙ ap (λ (v : SeatView T). v.parts) same in
       let all_told : mid.0.told ≡ [] = ap (λ (v : SeatView T). v.told) same ∙ untold in record {
-        opening = subst (IsOpenedWith first) (sym new) (opened_longer first m.0.history t.after (gives_longer origin story m.0.history t.after value gives) opening);
+        opening =
+            subst (IsOpenedWith first) (sym new) (opened_longer first m.0.history t.after
+                (gives_longer origin story m.0.history t.after value gives) opening);
         parts = parts;
         moves = ap (λ (x : M). x.0.moves) t.is ∙ ap (λ (v : SeatView T). v.moves + 1) same;
         idle = ap (λ (x : M). x.0.has_turn) t.is;
@@ -81,7 +93,9 @@ module _ {T O E : Type 0} (origin : T → O) (story : T → List E) where
         untold = ap (λ (x : M). x.0.told) t.is ∙ all_told;
         gives = subst (λ (l : H). GivesBack origin story m.0.history value l) (sym new) gives;
         last = ap last_value new ∙ gives_last origin story m.0.history t.after value gives;
-        alone = λ all. new ∙ (t.alone (ap (λ (v : SeatView T). v.parts) same ∙ all) all_told ∙ ap (λ (v : SeatView T). v.history ++ Given value ∷ []) same);
+        alone =
+            λ all. new ∙ (t.alone (ap (λ (v : SeatView T). v.parts) same ∙ all) all_told
+                ∙ ap (λ (v : SeatView T). v.history ++ Given value ∷ []) same);
       }
 
   -- a seat that took in what another had seen

@@ -27,7 +27,8 @@ module _ {X : Type 0} (f : X → ℕ) where
   total-two (x ∷ xs) (suc i) (suc j) v w n e d = let r = total-two xs i j v w (λ h. n (ap suc h)) e d in omega arith
 
 module _ {X : Type 0} (f : X → Bool) where
-  some_step : (x : X) (xs : List X) (b : Bool) → f x ≡ b → (0 < total (λ y. weight (f y)) xs → (k : ℕ) × (v : X) × (get_elem? xs k ≡ some v) × (f v ≡ true))
+  some_step : (x : X) (xs : List X) (b : Bool) → f x ≡ b
+      → (0 < total (λ y. weight (f y)) xs → (k : ℕ) × (v : X) × (get_elem? xs k ≡ some v) × (f v ≡ true))
       → 0 < weight b + total (λ y. weight (f y)) xs → (k : ℕ) × (v : X) × (get_elem? (x ∷ xs) k ≡ some v) × (f v ≡ true)
   some_step x xs true is more h = (0, x, refl, is)
   some_step x xs false is more h = let r = more (omega arith) in (suc r.0, r.1, r.2, r.3)

@@ -60,13 +60,15 @@ module _ {T O E : Type 0} (origin : T → O) (story : T → List E) where
   IsLegal history = IsLegalFrom true None history
 
 -- a seat that had seen the first history does this: then the second is the first, what other seats did since, and this
-pub record Adds {T O E : Type 0} (origin : T → O) (story : T → List E) (before : List (LockEvent T)) (event : LockEvent T) (after : List (LockEvent T)) : Type 0 where
+pub record Adds {T O E : Type 0} (origin : T → O) (story : T → List E) (before : List (LockEvent T)) (event : LockEvent T)
+    (after : List (LockEvent T)) : Type 0 where
   pub between : List (LockEvent T)
   pub is : after ≡ (before ++ between) ++ event ∷ []
   pub legal : IsLegal origin story after
 
 -- a seat that has the turn and had seen the first history gives this value: other seats did nothing since but miss the turn
-pub record GivesBack {T O E : Type 0} (origin : T → O) (story : T → List E) (before : List (LockEvent T)) (value : T) (after : List (LockEvent T)) : Type 0 where
+pub record GivesBack {T O E : Type 0} (origin : T → O) (story : T → List E) (before : List (LockEvent T)) (value : T)
+    (after : List (LockEvent T)) : Type 0 where
   pub misses : ℕ
   pub is : after ≡ (before ++ replicate misses Missed) ++ Given value ∷ []
   pub legal : IsLegal origin story after

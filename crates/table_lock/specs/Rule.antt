@@ -24,7 +24,8 @@ module _ {T : Type 0} where
   IsSince seen history = (misses : ℕ) × (history ≡ seen ++ replicate misses Missed)
 
 -- There is one legal history, which begins with all that each seat has seen, and which some seat knows whole; each entry is one seat's own.
--- The word is 1 where the turn is taken, and then one seat has it. While it is free, the slot has the value that was given last; while it is
+-- The word is 1 where the turn is taken, and then one seat has it. While it is free, the slot has the value that was given last; while it
+-- is
 -- taken, other seats only miss it. All parts add up to 64, and a seat without a part knows nothing.
 pub record IsKept {T O E : Type 0} (origin : T → O) (story : T → List E) (s : State (Option T) (SeatView T)) : Type 0 where
   pub history : List (LockEvent T)
@@ -56,7 +57,8 @@ pub record MissesTurn {T O E : Type 0} (origin : T → O) (story : T → List E)
   pub others : m.0.parts ≢ 64
 
 -- the seat gave the value in its slot, and the turn is free
-pub record FreesTurn {T O E : Type 0} (origin : T → O) (story : T → List E) (m : Me (Option T) (SeatView T)) (value : T) (n : Me (Option T) (SeatView T)) : Type 0 where
+pub record FreesTurn {T O E : Type 0} (origin : T → O) (story : T → List E) (m : Me (Option T) (SeatView T)) (value : T)
+    (n : Me (Option T) (SeatView T)) : Type 0 where
   pub after : List (LockEvent T)
   pub is : n ≡ (view m.0.parts false after m.0.told (m.0.moves + 1), [])
   pub gives : GivesBack origin story m.0.history value after

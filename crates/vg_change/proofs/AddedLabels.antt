@@ -41,14 +41,16 @@ record Fits (label : ℕ) (header : PvHeader) : Type 0 where
   sector : label < 4
   fits : length header.data_areas + length header.areas ≤ 24
 
-fits_by : (pv sectors : ℕ) (found : PvFound) (label : ℕ) (header : PvHeader) → ContentsCanStand pv sectors (Some found) → pv_in found ≡ Some (label, header) → Fits label header
+fits_by : (pv sectors : ℕ) (found : PvFound) (label : ℕ) (header : PvHeader) → ContentsCanStand pv sectors (Some found)
+    → pv_in found ≡ Some (label, header) → Fits label header
 fits_by pv sectors (NoLabel refusal) label header stands is = absurd cc
 fits_by pv sectors (NoHeader other refusal) label header stands is = absurd cc
 fits_by pv sectors (Whole other own areas) label header stands is =
     subst (λ (pair : ℕ × PvHeader). Fits pair.0 pair.1) (same_Some (other, own) (label, header) is)
     (record { sector = stands.0; fits = lists_fit stands.1.0 own stands.1.1.fields })
 
-fits_in : (pv sectors : ℕ) (contents : Option PvFound) (label : ℕ) (header : PvHeader) → ContentsCanStand pv sectors contents → option_and_then pv_in contents ≡ Some (label, header) → Fits label header
+fits_in : (pv sectors : ℕ) (contents : Option PvFound) (label : ℕ) (header : PvHeader) → ContentsCanStand pv sectors contents
+    → option_and_then pv_in contents ≡ Some (label, header) → Fits label header
 fits_in pv sectors None label header stands is = absurd cc
 fits_in pv sectors (Some found) label header stands is = fits_by pv sectors found label header stands is
 
@@ -58,7 +60,8 @@ abbrev added_with : List ℕ → ℕ → ℕ → ℕ × PvHeader → AddedPv
 added_with name number sectors pv = record { disk = number; name = name; sectors = sectors; label = pv.0; header = pv.1 }
 
 stands_with : (state : GroupState) → IsState state → (name : List ℕ) (number : ℕ) (disk : Disk) → slice_get state.disks number ≡ Some disk
-    → (o : Option (ℕ × PvHeader)) → option_and_then pv_in disk.contents ≡ o → (added : AddedPv) → option_map (added_with name number disk.sectors) o ≡ Some added → StandsOn state.disks added
+    → (o : Option (ℕ × PvHeader)) → option_and_then pv_in disk.contents ≡ o → (added : AddedPv)
+    → option_map (added_with name number disk.sectors) o ≡ Some added → StandsOn state.disks added
 stands_with state is name number disk there None found added has = absurd (none-some added has)
 stands_with state is name number disk there (Some (label, header)) found added has =
     let whole : IsDisk number disk = is.disks number disk there in
@@ -66,7 +69,8 @@ stands_with state is name number disk there (Some (label, header)) found added h
     subst (StandsOn state.disks) (same_Some (added_with name number disk.sectors (label, header)) added has)
     (record { disk = disk; there = there; least = whole.least; sector = fits.sector; fits = fits.fits })
 
-stands_on : (state : GroupState) → IsState state → (name : List ℕ) (added : AddedPv) → added_named state name ≡ Some added → StandsOn state.disks added
+stands_on : (state : GroupState) → IsState state → (name : List ℕ) (added : AddedPv) → added_named state name ≡ Some added
+    → StandsOn state.disks added
 unfolding added_named
 stands_on state is name added found =
     option_and_then_some {P = StandsOn state.disks added} (added_at state name) (number_named state.names name) added found
@@ -77,7 +81,8 @@ stands_on state is name added found =
 -- all of them
 pub all_stand : (state : GroupState) → IsState state → (names : List (List ℕ)) → All (StandsOn state.disks) (added_of state names)
 all_stand state is names =
-    all_kept (StandsOn state.disks) (λ name. Unit {0}) (added_named state) (λ name added any found. stands_on state is name added found) names (λ k d within. tt)
+    all_kept (StandsOn state.disks) (λ name. Unit {0}) (added_named state) (λ name added any found. stands_on state is name added found)
+        names (λ k d within. tt)
 
 -- ---- their labels
 
@@ -87,7 +92,9 @@ module _ (disks : List Disk) (all : List AddedPv) (stand : All (StandsOn disks) 
       All-map CanLabel label_of all
       (All-weaker (StandsOn disks) (λ added. CanLabel (label_of added))
       (λ added stands. record {
-        disk_below = let within : added.disk < length disks = slice_get_within disks added.disk stands.disk stands.there in omega (arith, within, few);
+        disk_below =
+            let within : added.disk < length disks = slice_get_within disks added.disk stands.disk stands.there in omega
+                (arith, within, few);
         sector_below = stands.sector;
         fits = stands.fits;
       }) all stand)
@@ -103,17 +110,21 @@ module _ (disks : List Disk) (all : List AddedPv) (stand : All (StandsOn disks) 
   pub added_there : All (λ n. n < length disks) (disks_added all)
   added_there =
       All-map (λ n. n < length disks) (λ (added : AddedPv). added.disk) all
-      (All-weaker (StandsOn disks) (λ (added : AddedPv). added.disk < length disks) (λ added stands. slice_get_within disks added.disk stands.disk stands.there) all stand)
+      (All-weaker (StandsOn disks) (λ (added : AddedPv). added.disk < length disks)
+          (λ added stands. slice_get_within disks added.disk stands.disk stands.there) all stand)
 
 -- on disks that differ
 abbrev LabelsApart : NewLabel → NewLabel → Type 0
 LabelsApart a b = a.disk ≢ b.disk
 
-first_apart : (added : AddedPv) (more : List AddedPv) → Each (DiskApart added) more → Each (LabelsApart (label_of added)) (map label_of more)
+first_apart : (added : AddedPv) (more : List AddedPv) → Each (DiskApart added) more
+    → Each (LabelsApart (label_of added)) (map label_of more)
 first_apart added [] apart = tt
 first_apart added (other ∷ more) apart = ((λ same. apart.0 (sym same)), first_apart added more apart.1)
 
 pub labels_differ : (all : List AddedPv) → DisksApart all → AllPairs LabelsApart (map label_of all)
 labels_differ [] apart = λ i j d before within. absurd (omega (arith, before, within))
 labels_differ (added ∷ more) apart =
-    AllPairs-cons LabelsApart (label_of added) (map label_of more) (All-from_recursion (LabelsApart (label_of added)) (map label_of more) (first_apart added more apart.0)) (labels_differ more apart.1)
+    AllPairs-cons LabelsApart (label_of added) (map label_of more)
+        (All-from_recursion (LabelsApart (label_of added)) (map label_of more) (first_apart added more apart.0))
+        (labels_differ more apart.1)

@@ -23,7 +23,8 @@ use Rattle.group_ops.specs.Planning.{IsPlanned, asks_of, change_of, refusal_of, 
 use Rattle.change_batches.specs.Batches.{change_batches, clear_batches, zero_batches}
 use Rattle.change_batches.specs.Sound.{sizes_of, CanMake, FitsFields, IsReadAgain, LiesOn}
 use Rattle.vg_change.specs.LineBatches.{batches_of, clears_of, zeros_of}
-use Rattle.vg_change.specs.CarryingOut.{ClearsBehind, IsCarried, IsMade, IsUnclearedBy, KeepsImages, WritesBoth, clear_fault, fault_of, made_at}
+use Rattle.vg_change.specs.CarryingOut.{ClearsBehind, IsCarried, IsMade, IsUnclearedBy, KeepsImages, WritesBoth, clear_fault, fault_of,
+    made_at}
 use Rattle.vg_change.specs.declared.fault.ChangeFault.{ChangeFault}
 use Rattle.vg_change.specs.declared.fault.ChangeFault.TheVariants.{NoMemory, Failed}
 use Rattle.vg_change.proofs.LineImages.{keeps_images}
@@ -31,12 +32,14 @@ use Rattle.vg_change.proofs.Sound.{can_make, lies_on}
 
 -- ---- some parts with which it was judged
 
-passes_with : (asks : Option Asking) (rows : List Part → List (Option OpRefusal)) (wanted : List Part → Change) (change : Change) → PlansWith asks rows wanted (Ok change)
+passes_with : (asks : Option Asking) (rows : List Part → List (Option OpRefusal)) (wanted : List Part → Change) (change : Change)
+    → PlansWith asks rows wanted (Ok change)
     → (given : List Part) × Takes asks given × (first_refusal (rows given) ≡ None) × (change ≡ wanted given)
 passes_with None rows wanted change plans = ([], refl, plans.0, plans.1)
 passes_with (Some asking) rows wanted change plans = (plans.0, plans.1, plans.2.0, plans.2.1)
 
-refused_with : (asks : Option Asking) (rows : List Part → List (Option OpRefusal)) (wanted : List Part → Change) (refusal : OpRefusal) → PlansWith asks rows wanted (Err (plan.Refused refusal))
+refused_with : (asks : Option Asking) (rows : List Part → List (Option OpRefusal)) (wanted : List Part → Change) (refusal : OpRefusal)
+    → PlansWith asks rows wanted (Err (plan.Refused refusal))
     → (given : List Part) × Takes asks given × (first_refusal (rows given) ≡ Some refusal)
 refused_with None rows wanted refusal plans = ([], refl, plans)
 refused_with (Some asking) rows wanted refusal plans = (plans.0, plans.1, plans.2)
@@ -72,17 +75,22 @@ module _ (state : GroupState) (line : Line) (now : ℕ) where
   -- ---- its batches were begun
 
   module _ (is : IsState state) (planned : IsPlanned line.id line.command) (change : Change) (plans : Plans (Ok change)) where
-    passed : (given : List Part) × Takes (asks_of state line) given × (refusal_of state line now given ≡ None) × (change ≡ change_of state line now given)
+    passed : (given : List Part) × Takes (asks_of state line) given × (refusal_of state line now given ≡ None)
+        × (change ≡ change_of state line now given)
     passed = passes_with (asks_of state line) (rows_of state line now) (change_of state line now) change plans
 
     pub made : CanMake state.areas change now
     made = subst (λ (c : Change). CanMake state.areas c now) (sym passed.3) (can_make state line now passed.0 is planned passed.1 passed.2)
 
     pub lies : LiesOn (sizes_of state.disks) state.areas change
-    lies = subst (λ (c : Change). LiesOn (sizes_of state.disks) state.areas c) (sym passed.3) (lies_on state line now passed.0 is planned passed.1 passed.2)
+    lies =
+        subst (λ (c : Change). LiesOn (sizes_of state.disks) state.areas c) (sym passed.3)
+            (lies_on state line now passed.0 is planned passed.1 passed.2)
 
-    module _ (again : IsReadAgain state.areas change now) (fields : All FitsFields (unused_labels change.cleared state.disks)) (old mid made_state new : State) (ops sectors : ℕ) (reserves : Reserves old ops sectors mid)
-        (zeros : List (List Put)) (zeros_are : zeros ≡ zero_batches change) (puts : List (List Put)) (writes : puts ≡ change_batches change state.areas now)
+    module _ (again : IsReadAgain state.areas change now) (fields : All FitsFields (unused_labels change.cleared state.disks))
+        (old mid made_state new : State) (ops sectors : ℕ) (reserves : Reserves old ops sectors mid)
+        (zeros : List (List Put)) (zeros_are : zeros ≡ zero_batches change) (puts : List (List Put))
+            (writes : puts ≡ change_batches change state.areas now)
         (clears : List (List Put)) (clears_are : clears ≡ clear_batches change.cleared state.disks state.areas) where
       same_zeros : zeros ≡ zeros_of state line now passed.0
       same_zeros = zeros_are ∙ ap zero_batches passed.3
@@ -93,10 +101,14 @@ module _ (state : GroupState) (line : Line) (now : ℕ) where
       same_clears : clears ≡ clears_of state line now passed.0
       same_clears = clears_are ∙ ap (λ (c : Change). clear_batches c.cleared state.disks state.areas) passed.3
 
-      written : (well : Bool) (after : Option Record) → BetweenRecords (WritesBoth zeros puts well) mid.told after → BetweenRecords (WritesBoth (zeros_of state line now passed.0) (batches_of state line now passed.0) well) old.told after
+      written : (well : Bool) (after : Option Record) → BetweenRecords (WritesBoth zeros puts well) mid.told after
+          → BetweenRecords (WritesBoth (zeros_of state line now passed.0) (batches_of state line now passed.0) well) old.told after
       written well after told =
-          subst (λ (o : Option Record). BetweenRecords (WritesBoth (zeros_of state line now passed.0) (batches_of state line now passed.0) well) o after) (ap (λ (s : State). s.told) reserves.same)
-          (subst (λ (l : List (List Put)). BetweenRecords (WritesBoth l (batches_of state line now passed.0) well) mid.told after) same_zeros
+          subst (λ (o : Option Record). BetweenRecords
+              (WritesBoth (zeros_of state line now passed.0) (batches_of state line now passed.0) well) o after)
+              (ap (λ (s : State). s.told) reserves.same)
+          (subst (λ (l : List (List Put)). BetweenRecords (WritesBoth l (batches_of state line now passed.0) well) mid.told after)
+              same_zeros
           (subst (λ (l : List (List Put)). BetweenRecords (WritesBoth zeros l well) mid.told after) same_puts told))
 
       faults_kept : HasSameFaults old mid
@@ -106,7 +118,8 @@ module _ (state : GroupState) (line : Line) (now : ℕ) where
       images_kept = keeps_images state line now passed.0 is planned passed.1 passed.2 change passed.3 again fields
 
       -- an operation of its zeros or batches failed
-      pub failed : (pv : ℕ) → mid.faults pv < new.faults pv → BetweenRecords (WritesBoth zeros puts false) mid.told new.told → IsCarried state line now old (Err (Failed pv)) new
+      pub failed : (pv : ℕ) → mid.faults pv < new.faults pv → BetweenRecords (WritesBoth zeros puts false) mid.told new.told
+          → IsCarried state line now old (Err (Failed pv)) new
       failed pv risen told = record {
         given = passed.0;
         takes = λ judged. passed.1;
@@ -116,16 +129,20 @@ module _ (state : GroupState) (line : Line) (now : ℕ) where
       }
 
       -- all of these were carried out, and the disks cleared, as far as that came
-      module _ (lawful : IsLawful made_state) (again_made : IsIdleAgain mid made_state) (again_cleared : IsIdleAgain made_state new) (faults : HasSameFaults mid made_state) (first : BetweenRecords (WritesBoth zeros puts true) mid.told made_state.told) where
+      module _ (lawful : IsLawful made_state) (again_made : IsIdleAgain mid made_state) (again_cleared : IsIdleAgain made_state new)
+          (faults : HasSameFaults mid made_state) (first : BetweenRecords (WritesBoth zeros puts true) mid.told made_state.told) where
         abbrev behind : (well : Bool) → BetweenRecords (λ before after. WritesInTurn before clears well after) made_state.told new.told
-            → ClearsBehind (zeros_of state line now passed.0) (batches_of state line now passed.0) (clears_of state line now passed.0) well old new
+            → ClearsBehind (zeros_of state line now passed.0) (batches_of state line now passed.0) (clears_of state line now passed.0) well
+            old new
         behind well told = record {
           made = made_state;
           lawful = lawful;
           later = subst (λ (n : ℕ). n ≤ made_state.steps) (ap (λ (s : State). s.steps) reserves.same) again_made.later;
           sooner = again_cleared.later;
           first = written true made_state.told first;
-          behind = subst (λ (l : List (List Put)). BetweenRecords (λ before after. WritesInTurn before l well after) made_state.told new.told) same_clears told;
+          behind =
+              subst (λ (l : List (List Put)). BetweenRecords (λ before after. WritesInTurn before l well after) made_state.told new.told)
+                  same_clears told;
         }
 
         commits_is : (commits : Bool) → commits ≡ is_some change.group → is_some (change_of state line now passed.0).group ≡ commits
@@ -134,7 +151,9 @@ module _ (state : GroupState) (line : Line) (now : ℕ) where
         faults_until : HasSameFaults old made_state
         faults_until pv = faults pv ∙ faults_kept pv
 
-        done : (commits : Bool) → is_some (change_of state line now passed.0).group ≡ commits → (moment : ℕ) → IsMade commits made_state new moment → BetweenRecords (λ before after. WritesInTurn before clears true after) made_state.told new.told
+        done : (commits : Bool) → is_some (change_of state line now passed.0).group ≡ commits → (moment : ℕ)
+            → IsMade commits made_state new moment → BetweenRecords (λ before after. WritesInTurn before clears true after) made_state.told
+            new.told
             → IsCarried state line now old (Ok moment) new
         done commits same moment made_then told = record {
           given = passed.0;
@@ -144,7 +163,9 @@ module _ (state : GroupState) (line : Line) (now : ℕ) where
           told = (behind true told, made_then.1 ∙ ap (λ (b : Bool). made_at b made_state.steps new.steps) (sym same));
         }
 
-        uncleared : (commits : Bool) → is_some (change_of state line now passed.0).group ≡ commits → (pv : ℕ) → made_state.faults pv < new.faults pv → BetweenRecords (λ before after. WritesInTurn before clears false after) made_state.told new.told
+        uncleared : (commits : Bool) → is_some (change_of state line now passed.0).group ≡ commits → (pv : ℕ)
+            → made_state.faults pv < new.faults pv → BetweenRecords (λ before after. WritesInTurn before clears false after) made_state.told
+            new.told
             → IsCarried state line now old (Err (clear_fault commits pv made_state.steps)) new
         uncleared true same pv risen told = record {
           given = passed.0;
@@ -161,8 +182,11 @@ module _ (state : GroupState) (line : Line) (now : ℕ) where
           told = inr (same, behind false told);
         }
 
-        pub cleared : (commits : Bool) → commits ≡ is_some change.group → (result : Result ℕ ChangeFault) → MatchResult result (IsMade commits made_state new) (IsUnclearedBy commits made_state new)
-            → BetweenRecords (λ before after. WritesInTurn before clears (is_ok result) after) made_state.told new.told → IsCarried state line now old result new
+        pub cleared : (commits : Bool) → commits ≡ is_some change.group → (result : Result ℕ ChangeFault)
+            → MatchResult result (IsMade commits made_state new) (IsUnclearedBy commits made_state new)
+            → BetweenRecords (λ before after. WritesInTurn before clears (is_ok result) after) made_state.told new.told
+            → IsCarried state line now old result new
         cleared commits same (Ok moment) made_then told = done commits (commits_is commits same) moment made_then told
         cleared commits same (Err fault) why told =
-            subst (λ (f : ChangeFault). IsCarried state line now old (Err f) new) (sym why.2) (uncleared commits (commits_is commits same) why.0 why.1 told)
+            subst (λ (f : ChangeFault). IsCarried state line now old (Err f) new) (sym why.2)
+                (uncleared commits (commits_is commits same) why.0 why.1 told)

@@ -9,7 +9,8 @@ use Rattle.std.specs.Option.{option_map_or}
 use Rattle.std.proofs.lemmas.List.Elements.{All-nil}
 use Rattle.sector_base.specs.declared.spans.Span.{Span}
 use Rattle.command_table.specs.declared.command.Command.{Command}
-use Rattle.command_table.specs.declared.command.Command.TheVariants.{Lvcreate, Lvextend, Lvreduce, Lvremove, Lvrename, Pvcreate, Vgcfgrestore, Vgcreate, Vgextend, Vgreduce, Vgremove, Vgrename}
+use Rattle.command_table.specs.declared.command.Command.TheVariants.{Lvcreate, Lvextend, Lvreduce, Lvremove, Lvrename, Pvcreate,
+    Vgcfgrestore, Vgcreate, Vgextend, Vgreduce, Vgremove, Vgrename}
 use Rattle.line_answers.specs.declared.op_refusal.OpRefusal.TheVariants.{GroupStands, UnknownGroup}
 use Rattle.lvm_script.specs.declared.line.Line.{Line}
 use Rattle.conf_text.specs.Printed.{printed}
@@ -22,7 +23,8 @@ use Rattle.group_edits.specs.ReducedGroup.{reduced_group}
 use Rattle.group_edits.specs.NextVersion.{next_version}
 use Rattle.group_edits.specs.RestoredGroup.{restored_group}
 use Rattle.group_plan.specs.Added.{added_of}
-use Rattle.group_plan.specs.Committing.{change_where_found, length_row, length_row_on, no_area_row, no_change, version_change, version_change_on}
+use Rattle.group_plan.specs.Committing.{change_where_found, length_row, length_row_on, no_area_row, no_change, version_change,
+    version_change_on}
 use Rattle.group_plan.specs.Judging.{area_row, first_refusal, large_row, set_of, stored_size, used_row}
 use Rattle.group_plan.specs.NewGroup.{change_with, extended}
 use Rattle.group_plan.specs.State.{IsState}
@@ -49,64 +51,82 @@ IsSound state change now = CanMake state.areas change now × LiesOn (sizes_of st
 
 -- ---- vgcreate
 
-new_sound : (state : GroupState) → IsState state → (base : Group) (names : List (List ℕ)) (now : ℕ) → first_refusal (new_rows state base names now) ≡ None → IsSound state (vgcreate_change state base names) now
+new_sound : (state : GroupState) → IsState state → (base : Group) (names : List (List ℕ)) (now : ℕ)
+    → first_refusal (new_rows state base names now) ≡ None → IsSound state (vgcreate_change state base names) now
 new_sound state is base names now none =
     let rows = none_holds (new_rows state base names now) none in
     let no_disk : All (λ n. n < length state.disks) [] = All-nil (λ n. n < length state.disks) in
-    (commit_can_make state is base [] names no_disk rows.1.0 now rows.1.1.0 rows.1.1.1.1.1.1.0, commit_lies_on state is base [] names no_disk rows.1.0)
+    (commit_can_make state is base [] names no_disk rows.1.0 now rows.1.1.0 rows.1.1.1.1.1.1.0,
+        commit_lies_on state is base [] names no_disk rows.1.0)
 
 vgcreate_sound : (state : GroupState) → IsState state → (base : Group) (names : List (List ℕ)) (now : ℕ) (o : Option Group)
-    → first_refusal (option_map_or (λ (group : Group). Some (GroupStands group.name) ∷ []) o (new_rows state base names now)) ≡ None → IsSound state (vgcreate_change state base names) now
+    → first_refusal (option_map_or (λ (group : Group). Some (GroupStands group.name) ∷ []) o (new_rows state base names now)) ≡ None
+    → IsSound state (vgcreate_change state base names) now
 vgcreate_sound state is base names now None none = new_sound state is base names now none
 vgcreate_sound state is base names now (Some group) none = absurd cc
 
 -- ---- vgextend
 
-listed_there : (state : GroupState) (group : Group) → IsState state → state.group ≡ Some group → All (λ n. n < length state.disks) state.disk_of
-listed_there state group is found = subst (λ (o : Option Group). IfSome o (λ g. All (λ n. n < length state.disks) state.disk_of)) found is.there
+listed_there : (state : GroupState) (group : Group) → IsState state → state.group ≡ Some group
+    → All (λ n. n < length state.disks) state.disk_of
+listed_there state group is found =
+    subst (λ (o : Option Group). IfSome o (λ g. All (λ n. n < length state.disks) state.disk_of)) found is.there
 
-found_sound : (state : GroupState) → IsState state → (vg : List ℕ) (names : List (List ℕ)) (now : ℕ) (group : Group) → state.group ≡ Some group → first_refusal (found_rows state vg names now group) ≡ None
+found_sound : (state : GroupState) → IsState state → (vg : List ℕ) (names : List (List ℕ)) (now : ℕ) (group : Group)
+    → state.group ≡ Some group → first_refusal (found_rows state vg names now group) ≡ None
     → IsSound state (vgextend_change state group names) now
 found_sound state is vg names now group found none =
     let rows = none_holds (found_rows state vg names now group) none in
     let listed : All (λ n. n < length state.disks) state.disk_of = listed_there state group is found in (
-      commit_can_make state is (next_version group) state.disk_of names listed rows.1.1.1.1.0 now rows.1.1.1.1.1.0 rows.1.1.1.1.1.1.1.1.1.1.0,
+      commit_can_make state is (next_version group) state.disk_of names listed rows.1.1.1.1.0 now rows.1.1.1.1.1.0
+          rows.1.1.1.1.1.1.1.1.1.1.0,
       commit_lies_on state is (next_version group) state.disk_of names listed rows.1.1.1.1.0,
     )
 
 vgextend_sound : (state : GroupState) → IsState state → (vg : List ℕ) (names : List (List ℕ)) (now : ℕ) (o : Option Group) → state.group ≡ o
-    → first_refusal (option_map_or (found_rows state vg names now) o (Some (UnknownGroup vg) ∷ [])) ≡ None → IsSound state (extend_by state o names) now
+    → first_refusal (option_map_or (found_rows state vg names now) o (Some (UnknownGroup vg) ∷ [])) ≡ None
+    → IsSound state (extend_by state o names) now
 vgextend_sound state is vg names now None found none = absurd cc
 vgextend_sound state is vg names now (Some group) found none = found_sound state is vg names now group found none
 
 -- ---- the next version, on the disks of the group
 
 -- whatever sectors are to hold zeros before
-with_zeros : (state : GroupState) (change : Change) (zero : List Span) (now : ℕ) → IsSound state change now → IsSound state (record change { zero = zero }) now
+with_zeros : (state : GroupState) (change : Change) (zero : List Span) (now : ℕ) → IsSound state change now
+    → IsSound state (record change { zero = zero }) now
 with_zeros state change zero now sound = (
   record {
     labels = sound.0.labels;
-    commit = λ group is. let t : CanTakeText change state.areas (printed (tree_of group now)) = sound.0.commit group is in record { listed = t.listed; committed = t.committed; room = t.room };
+    commit =
+        λ group is. let t : CanTakeText change state.areas (printed (tree_of group now)) = sound.0.commit group
+            is in record { listed = t.listed; committed = t.committed; room = t.room };
   },
   record { labels = sound.1.labels; differ = sound.1.differ; new_areas = sound.1.new_areas; commit = sound.1.commit },
 )
 
 -- and whatever disks are cleared behind
-with_cleared : (state : GroupState) (change : Change) (cleared : FinSet nat_cmp) (now : ℕ) → IsSound state change now → IsSound state (record change { cleared = cleared }) now
+with_cleared : (state : GroupState) (change : Change) (cleared : FinSet nat_cmp) (now : ℕ) → IsSound state change now
+    → IsSound state (record change { cleared = cleared }) now
 with_cleared state change cleared now sound = (
   record {
     labels = sound.0.labels;
-    commit = λ group is. let t : CanTakeText change state.areas (printed (tree_of group now)) = sound.0.commit group is in record { listed = t.listed; committed = t.committed; room = t.room };
+    commit =
+        λ group is. let t : CanTakeText change state.areas (printed (tree_of group now)) = sound.0.commit group
+            is in record { listed = t.listed; committed = t.committed; room = t.room };
   },
   record { labels = sound.1.labels; differ = sound.1.differ; new_areas = sound.1.new_areas; commit = sound.1.commit },
 )
 
 -- as the change of a group to which no physical volume is added
-pub version_on : (state : GroupState) (disks : List ℕ) (next : Group) → change_with next disks (added_of state []) ≡ version_change_on disks next
+pub version_on : (state : GroupState) (disks : List ℕ) (next : Group)
+    → change_with next disks (added_of state []) ≡ version_change_on disks next
 unfolding extended
-version_on state disks next = λ i. record { group = Some next; zero = []; labels = []; taken = set.empty; cleared = set.empty; disk_of = append_nil disks i }
+version_on state disks next =
+    λ i. record { group = Some next; zero = []; labels = []; taken = set.empty; cleared = set.empty; disk_of = append_nil disks i }
 
-version_sound_on : (state : GroupState) → IsState state → (disks : List ℕ) (next : Group) (now : ℕ) → All (λ n. n < length state.disks) disks → area_row state.areas disks ≡ None → length_row_on state disks next now ≡ None → IsSound state (version_change_on disks next) now
+version_sound_on : (state : GroupState) → IsState state → (disks : List ℕ) (next : Group) (now : ℕ)
+    → All (λ n. n < length state.disks) disks → area_row state.areas disks ≡ None → length_row_on state disks next now ≡ None
+    → IsSound state (version_change_on disks next) now
 unfolding used_row
 version_sound_on state is disks next now listed has_area fits =
     let same : disks ++ [] ≡ disks = append_nil disks in
@@ -118,13 +138,15 @@ version_sound_on state is disks next now listed has_area fits =
       commit_lies_on state is next disks [] listed refl,
     )
 
-version_sound : (state : GroupState) → IsState state → (next : Group) (now : ℕ) → All (λ n. n < length state.disks) state.disk_of → no_area_row state ≡ None → length_row state next now ≡ None → IsSound state (version_change state next) now
+version_sound : (state : GroupState) → IsState state → (next : Group) (now : ℕ) → All (λ n. n < length state.disks) state.disk_of
+    → no_area_row state ≡ None → length_row state next now ≡ None → IsSound state (version_change state next) now
 version_sound state is next now listed has_area fits = version_sound_on state is state.disk_of next now listed has_area fits
 
 next_sound : (state : GroupState) → IsState state → (change : Change) (now : ℕ) → CommitsNext state change now → IsSound state change now
 next_sound state is change now made =
     subst (λ (c : Change). IsSound state c now) (sym made.change_is)
-    (with_zeros state (version_change state made.next) made.zero now (version_sound state is made.next now (listed_there state made.old is made.there) made.has_area made.fits))
+    (with_zeros state (version_change state made.next) made.zero now
+        (version_sound state is made.next now (listed_there state made.old is made.there) made.has_area made.fits))
 
 -- ---- vgreduce and vgremove
 
@@ -134,10 +156,13 @@ leaves_sound state is change now left =
     let next : Group = reduced_group left.old left.number in
     subst (λ (c : Change). IsSound state c now) (sym left.change_is)
     (with_cleared state (version_change_on rest next) (set_of (slice_index state.disk_of left.number ∷ [])) now
-    (version_sound_on state is rest next now (all_without (λ (n : ℕ). n < length state.disks) state.disk_of left.number (listed_there state left.old is left.there)) left.has_area left.fits))
+    (version_sound_on state is rest next now
+        (all_without (λ (n : ℕ). n < length state.disks) state.disk_of left.number (listed_there state left.old is left.there))
+        left.has_area left.fits))
 
 -- nothing is committed, and no label is written, whatever disks are cleared
-none_sound : (state : GroupState) (cleared : FinSet nat_cmp) (disks : List ℕ) (now : ℕ) → IsSound state (record (no_change state) { cleared = cleared; disk_of = disks }) now
+none_sound : (state : GroupState) (cleared : FinSet nat_cmp) (disks : List ℕ) (now : ℕ)
+    → IsSound state (record (no_change state) { cleared = cleared; disk_of = disks }) now
 none_sound state cleared disks now = (
   record { labels = All-nil CanLabel; commit = λ group same. cc },
   record {
@@ -153,42 +178,60 @@ none_sound state cleared disks now = (
 restores_sound : (state : GroupState) → IsState state → (change : Change) (now : ℕ) → Restores state change now → IsSound state change now
 restores_sound state is change now made =
     subst (λ (c : Change). IsSound state c now) (sym made.change_is)
-    (version_sound_on state is (disks_of made.said state.disks) (restored_group made.old made.said) now (made.listed is) (made.has_area is) made.fits)
+    (version_sound_on state is (disks_of made.said state.disks) (restored_group made.old made.said) now (made.listed is) (made.has_area is)
+        made.fits)
 
 -- nothing changes where nothing is known of a text
-restore_sound : (state : GroupState) → IsState state → (vg : List ℕ) (now : ℕ) → first_refusal (vgcfgrestore_rows state vg now) ≡ None → IsSound state (vgcfgrestore_change state) now
+restore_sound : (state : GroupState) → IsState state → (vg : List ℕ) (now : ℕ) → first_refusal (vgcfgrestore_rows state vg now) ≡ None
+    → IsSound state (vgcfgrestore_change state) now
 restore_sound state is vg now none = by state.backup refl where
   by : (backup : Option Backup) → state.backup ≡ backup → IsSound state (vgcfgrestore_change state) now
-  by None gives = subst (λ (o : Option Backup). IsSound state (option_map_or (λ (b : Backup). change_where_found state (backup_change state b)) o (no_change state)) now) (sym gives) (none_sound state set.empty state.disk_of now)
+  by None gives =
+      subst (λ (o : Option Backup). IsSound state
+          (option_map_or (λ (b : Backup). change_where_found state (backup_change state b)) o (no_change state)) now) (sym gives)
+          (none_sound state set.empty state.disk_of now)
   by (Some backup) gives = restores_sound state is (vgcfgrestore_change state) now (restores state vg now (ap is_some gives) none)
 
 -- ---- all commands
 
-sound_by : (state : GroupState) → IsState state → (number : ℕ) (id : Option (List ℕ)) (command : Command) (now : ℕ) (given : List Part) → IsPlanned id command → Takes (asks_of state (record { number = number; id = id; command = command })) given
-    → refusal_of state (record { number = number; id = id; command = command }) now given ≡ None → IsSound state (change_of state (record { number = number; id = id; command = command }) now given) now
+sound_by : (state : GroupState) → IsState state → (number : ℕ) (id : Option (List ℕ)) (command : Command) (now : ℕ) (given : List Part)
+    → IsPlanned id command → Takes (asks_of state (record { number = number; id = id; command = command })) given
+    → refusal_of state (record { number = number; id = id; command = command }) now given ≡ None
+    → IsSound state (change_of state (record { number = number; id = id; command = command }) now given) now
 sound_by state is number id (Pvcreate pv copies) now given planned takes none =
     (pvcreate_can_make state is (unwrap_or id []) pv copies now, pvcreate_lies_on state is (unwrap_or id []) pv copies none)
-sound_by state is number id (Vgcreate vg extent_size pvs) now given planned takes none = vgcreate_sound state is (empty_group (unwrap_or id []) vg extent_size) pvs now state.group none
+sound_by state is number id (Vgcreate vg extent_size pvs) now given planned takes none =
+    vgcreate_sound state is (empty_group (unwrap_or id []) vg extent_size) pvs now state.group none
 sound_by state is number id (Vgextend vg pvs) now given planned takes none = vgextend_sound state is vg pvs now state.group refl none
-sound_by state is number id (Vgreduce vg pv) now given planned takes none = leaves_sound state is (vgreduce_change state pv) now (leaves_next state vg pv now none)
+sound_by state is number id (Vgreduce vg pv) now given planned takes none =
+    leaves_sound state is (vgreduce_change state pv) now (leaves_next state vg pv now none)
 sound_by state is number id (Vgremove vg) now given planned takes none = none_sound state (set_of state.disk_of) [] now
 sound_by state is number id (Vgcfgrestore vg text) now given planned takes none = restore_sound state is vg now none
 sound_by state is number id (Vgrename vg new) now given planned takes none =
-    next_sound state is (change_of state (record { number = number; id = id; command = Vgrename vg new }) now given) now (commits_next state number id (Vgrename vg new) now given planned refl takes none)
+    next_sound state is (change_of state (record { number = number; id = id; command = Vgrename vg new }) now given) now
+        (commits_next state number id (Vgrename vg new) now given planned refl takes none)
 sound_by state is number id (Lvcreate new) now given planned takes none =
-    next_sound state is (change_of state (record { number = number; id = id; command = Lvcreate new }) now given) now (commits_next state number id (Lvcreate new) now given planned refl takes none)
+    next_sound state is (change_of state (record { number = number; id = id; command = Lvcreate new }) now given) now
+        (commits_next state number id (Lvcreate new) now given planned refl takes none)
 sound_by state is number id (Lvextend path growth pvs) now given planned takes none =
-    next_sound state is (change_of state (record { number = number; id = id; command = Lvextend path growth pvs }) now given) now (commits_next state number id (Lvextend path growth pvs) now given planned refl takes none)
+    next_sound state is (change_of state (record { number = number; id = id; command = Lvextend path growth pvs }) now given) now
+        (commits_next state number id (Lvextend path growth pvs) now given planned refl takes none)
 sound_by state is number id (Lvreduce path amount) now given planned takes none =
-    next_sound state is (change_of state (record { number = number; id = id; command = Lvreduce path amount }) now given) now (commits_next state number id (Lvreduce path amount) now given planned refl takes none)
+    next_sound state is (change_of state (record { number = number; id = id; command = Lvreduce path amount }) now given) now
+        (commits_next state number id (Lvreduce path amount) now given planned refl takes none)
 sound_by state is number id (Lvremove path) now given planned takes none =
-    next_sound state is (change_of state (record { number = number; id = id; command = Lvremove path }) now given) now (commits_next state number id (Lvremove path) now given planned refl takes none)
+    next_sound state is (change_of state (record { number = number; id = id; command = Lvremove path }) now given) now
+        (commits_next state number id (Lvremove path) now given planned refl takes none)
 sound_by state is number id (Lvrename vg old new) now given planned takes none =
-    next_sound state is (change_of state (record { number = number; id = id; command = Lvrename vg old new }) now given) now (commits_next state number id (Lvrename vg old new) now given planned refl takes none)
+    next_sound state is (change_of state (record { number = number; id = id; command = Lvrename vg old new }) now given) now
+        (commits_next state number id (Lvrename vg old new) now given planned refl takes none)
 sound_by state is number id command now given planned takes none = absurd planned
 
-pub can_make : (state : GroupState) (line : Line) (now : ℕ) (given : List Part) → IsState state → IsPlanned line.id line.command → Takes (asks_of state line) given → refusal_of state line now given ≡ None → CanMake state.areas (change_of state line now given) now
+pub can_make : (state : GroupState) (line : Line) (now : ℕ) (given : List Part) → IsState state → IsPlanned line.id line.command
+    → Takes (asks_of state line) given → refusal_of state line now given ≡ None → CanMake state.areas (change_of state line now given) now
 can_make state line now given is planned takes none = (sound_by state is line.number line.id line.command now given planned takes none).0
 
-pub lies_on : (state : GroupState) (line : Line) (now : ℕ) (given : List Part) → IsState state → IsPlanned line.id line.command → Takes (asks_of state line) given → refusal_of state line now given ≡ None → LiesOn (sizes_of state.disks) state.areas (change_of state line now given)
+pub lies_on : (state : GroupState) (line : Line) (now : ℕ) (given : List Part) → IsState state → IsPlanned line.id line.command
+    → Takes (asks_of state line) given → refusal_of state line now given ≡ None
+    → LiesOn (sizes_of state.disks) state.areas (change_of state line now given)
 lies_on state line now given is planned takes none = (sound_by state is line.number line.id line.command now given planned takes none).1

@@ -31,25 +31,32 @@ use Rattle.vg_change.proofs.TextRoom.{some_area, text_has_room}
 -- ---- the areas on some of the disks
 
 -- an area of one of the disks, where they are at most 64, which is among these
-one_on : (disks : List Disk) (listed : List ℕ) (area : Area × Option Locn) → length disks ≤ 64 → LiesIn (sizes_of disks) area → lies_on (set_of listed) area ≡ true → IsOnDiskOf (set_of listed) area
+one_on : (disks : List Disk) (listed : List ℕ) (area : Area × Option Locn) → length disks ≤ 64 → LiesIn (sizes_of disks) area
+    → lies_on (set_of listed) area ≡ true → IsOnDiskOf (set_of listed) area
 one_on disks listed area few there on =
     let count : length (sizes_of disks) ≡ length disks = length-map disks (λ (disk : Disk). disk.sectors) in
     (omega (arith, there.disk, count, few), on)
 
-all_on : (disks : List Disk) (listed : List ℕ) (areas : List (Area × Option Locn)) → length disks ≤ 64 → All (LiesIn (sizes_of disks)) areas → All (IsOnDiskOf (set_of listed)) (filter (lies_on (set_of listed)) areas)
+all_on : (disks : List Disk) (listed : List ℕ) (areas : List (Area × Option Locn)) → length disks ≤ 64 → All (LiesIn (sizes_of disks)) areas
+    → All (IsOnDiskOf (set_of listed)) (filter (lies_on (set_of listed)) areas)
 all_on disks listed areas few lie k d within =
-    one_on disks listed (slice_index_or (filter (lies_on (set_of listed)) areas) k d) few (All-filter (lies_on (set_of listed)) (LiesIn (sizes_of disks)) areas lie k d within)
+    one_on disks listed (slice_index_or (filter (lies_on (set_of listed)) areas) k d) few
+        (All-filter (lies_on (set_of listed)) (LiesIn (sizes_of disks)) areas lie k d within)
     (filter_passes (lies_on (set_of listed)) areas k d within)
 
-are_committed : (state : GroupState) → IsState state → (listed : List ℕ) → area_row state.areas listed ≡ None → AreCommitted (filter (lies_on (set_of listed)) state.areas) (set_of listed)
+are_committed : (state : GroupState) → IsState state → (listed : List ℕ) → area_row state.areas listed ≡ None
+    → AreCommitted (filter (lies_on (set_of listed)) state.areas) (set_of listed)
 are_committed state is listed some = record {
   some = some_area state.areas listed some;
   take = All-filter (lies_on (set_of listed)) CanTake state.areas (areas_take state is);
-  apart = AllPairs-filter LieApart (lies_on (set_of listed)) state.areas (subst (AllPairs LieApart) (sym is.areas) (areas_shaped state.disks is.disks).1);
+  apart =
+      AllPairs-filter LieApart (lies_on (set_of listed)) state.areas
+          (subst (AllPairs LieApart) (sym is.areas) (areas_shaped state.disks is.disks).1);
   on_disks = all_on state.disks listed state.areas is.few (areas_lie state is);
 }
 
-are_within : (state : GroupState) → IsState state → (listed : List ℕ) → All (λ n. n < length state.disks) listed → AreWithin (sizes_of state.disks) (filter (lies_on (set_of listed)) state.areas) (set_of listed)
+are_within : (state : GroupState) → IsState state → (listed : List ℕ) → All (λ n. n < length state.disks) listed
+    → AreWithin (sizes_of state.disks) (filter (lies_on (set_of listed)) state.areas) (set_of listed)
 are_within state is listed there = record {
   areas_lie = All-filter (lies_on (set_of listed)) (LiesIn (sizes_of state.disks)) state.areas (areas_lie state is);
   disks_are = of_disks (λ n. n < length (sizes_of state.disks)) listed (sizes_below state.disks listed there);
@@ -57,25 +64,35 @@ are_within state is listed there = record {
 
 -- ---- the change
 
-module _ (state : GroupState) (is : IsState state) (base : Group) (listed : List ℕ) (names : List (List ℕ)) (there : All (λ n. n < length state.disks) listed) (used : used_row listed (added_of state names) ≡ None) where
+module _ (state : GroupState) (is : IsState state) (base : Group) (listed : List ℕ) (names : List (List ℕ))
+    (there : All (λ n. n < length state.disks) listed) (used : used_row listed (added_of state names) ≡ None) where
   all_there : All (λ n. n < length state.disks) (listed ++ disks_added (added_of state names))
   all_there =
-      All-append (λ n. n < length state.disks) listed (disks_added (added_of state names)) there (added_there state.disks (added_of state names) (all_stand state is names))
+      All-append (λ n. n < length state.disks) listed (disks_added (added_of state names)) there
+          (added_there state.disks (added_of state names) (all_stand state is names))
 
-  can_take_text : (now : ℕ) → area_row state.areas (listed ++ disks_added (added_of state names)) ≡ None → text_row state base listed (added_of state names) now ≡ None
-      → CanTakeText (change_with base listed (added_of state names)) state.areas (printed (tree_of (extended base (added_of state names)) now))
+  can_take_text : (now : ℕ) → area_row state.areas (listed ++ disks_added (added_of state names)) ≡ None
+      → text_row state base listed (added_of state names) now ≡ None
+      → CanTakeText (change_with base listed (added_of state names)) state.areas
+      (printed (tree_of (extended base (added_of state names)) now))
   can_take_text now some room = record {
-    listed = All-weaker (λ n. n < length state.disks) (λ n. n < 64) (λ n below. omega (arith, below, is.few)) (listed ++ disks_added (added_of state names)) all_there;
+    listed =
+        All-weaker (λ n. n < length state.disks) (λ n. n < 64) (λ n below. omega (arith, below, is.few))
+            (listed ++ disks_added (added_of state names)) all_there;
     committed = are_committed state is (listed ++ disks_added (added_of state names)) some;
-    room = text_has_room state.areas (listed ++ disks_added (added_of state names)) (extended base (added_of state names)) now (areas_take state is) room;
+    room =
+        text_has_room state.areas (listed ++ disks_added (added_of state names)) (extended base (added_of state names)) now
+            (areas_take state is) room;
   }
 
-  pub commit_can_make : (now : ℕ) → area_row state.areas (listed ++ disks_added (added_of state names)) ≡ None → text_row state base listed (added_of state names) now ≡ None
+  pub commit_can_make : (now : ℕ) → area_row state.areas (listed ++ disks_added (added_of state names)) ≡ None
+      → text_row state base listed (added_of state names) now ≡ None
       → CanMake state.areas (change_with base listed (added_of state names)) now
   commit_can_make now some room = record {
     labels = can_label state.disks (added_of state names) (all_stand state is names) is.few;
     commit = λ group same.
-        subst (λ (g : Group). CanTakeText (change_with base listed (added_of state names)) state.areas (printed (tree_of g now))) (same_Some (extended base (added_of state names)) group same) (can_take_text now some room);
+        subst (λ (g : Group). CanTakeText (change_with base listed (added_of state names)) state.areas (printed (tree_of g now)))
+            (same_Some (extended base (added_of state names)) group same) (can_take_text now some room);
   }
 
   pub commit_lies_on : LiesOn (sizes_of state.disks) state.areas (change_with base listed (added_of state names))

@@ -1,5 +1,6 @@
 -- The label of a new physical volume can be written, and lies on its disk.
-use Rattle.std.proofs.Common.{◌≡◌, ◌≢◌, ◌≤◌, ◌<◌, ℕ, ◌==◌, Bool, true, false, cond, ltb, List, [], ◌∷◌, length, Option, Some, None, refl, subst, arith}
+use Rattle.std.proofs.Common.{◌≡◌, ◌≢◌, ◌≤◌, ◌<◌, ℕ, ◌==◌, Bool, true, false, cond, ltb, List, [], ◌∷◌, length, Option, Some, None, refl,
+    subst, arith}
 use Rattle.std.specs.Prelude.{All, AllPairs, slice_get, unwrap_or}
 use Rattle.std.specs.Option.{option_and_then, option_map_or}
 use Rattle.std.proofs.lemmas.Bool.{ltb-false}
@@ -18,7 +19,8 @@ use Rattle.group_plan.specs.State.{IsState}
 use Rattle.group_plan.specs.declared.state.GroupState.{GroupState}
 use Rattle.group_plan.specs.declared.state.NewLabel.{NewLabel}
 use Rattle.group_plan.proofs.Rows.{none_holds, test_fails}
-use Rattle.pv_plans.specs.Pvcreate.{disk_rows, few_row, fewest_sectors, label_in, label_sector, new_areas, new_label, pvcreate_change, pvcreate_rows}
+use Rattle.pv_plans.specs.Pvcreate.{disk_rows, few_row, fewest_sectors, label_in, label_sector, new_areas, new_label, pvcreate_change,
+    pvcreate_rows}
 use Rattle.change_batches.proofs.HeldInDisks.{HasSize, has_size}
 use Rattle.change_batches.specs.Sound.{sizes_of, AreasLie, CanLabel, CanMake, IsOnDisk, LabelLies, LiesOn, header_sector}
 
@@ -46,11 +48,14 @@ module _ (id : List ℕ) (copies : ℕ) where
   labels_apart R disks None = none_apart R
   labels_apart R disks (Some number) = label_apart R number (slice_get disks number)
 
-  label_has : (P : NewLabel → Type 0) (number : ℕ) (o : Option Disk) → ((disk : Disk) → o ≡ Some disk → P (new_label id copies number disk)) → All P (label_by number o)
+  label_has : (P : NewLabel → Type 0) (number : ℕ) (o : Option Disk) → ((disk : Disk) → o ≡ Some disk → P (new_label id copies number disk))
+      → All P (label_by number o)
   label_has P number None has = All-nil P
   label_has P number (Some disk) has = All-cons P (new_label id copies number disk) [] (has disk refl) (All-nil P)
 
-  labels_have : (P : NewLabel → Type 0) (disks : List Disk) (o : Option ℕ) → ((number : ℕ) (disk : Disk) → o ≡ Some number → slice_get disks number ≡ Some disk → P (new_label id copies number disk)) → All P (labels_by disks o)
+  labels_have : (P : NewLabel → Type 0) (disks : List Disk) (o : Option ℕ)
+      → ((number : ℕ) (disk : Disk) → o ≡ Some number → slice_get disks number ≡ Some disk → P (new_label id copies number disk))
+      → All P (labels_by disks o)
   labels_have P disks None has = All-nil P
   labels_have P disks (Some number) has = label_has P number (slice_get disks number) (λ disk there. has number disk refl there)
 
@@ -61,7 +66,8 @@ found_sector pv sectors (NoLabel refusal) stands = omega arith
 found_sector pv sectors (NoHeader label refusal) stands = stands
 found_sector pv sectors (Whole label header areas) stands = stands.0
 
-sector_by : (pv sectors : ℕ) (contents : Option PvFound) → ContentsCanStand pv sectors contents → unwrap_or (option_and_then label_in contents) 1 < 4
+sector_by : (pv sectors : ℕ) (contents : Option PvFound) → ContentsCanStand pv sectors contents
+    → unwrap_or (option_and_then label_in contents) 1 < 4
 sector_by pv sectors None stands = omega arith
 sector_by pv sectors (Some found) stands = found_sector pv sectors found stands
 
@@ -71,11 +77,14 @@ abbrev rows_by : GroupState → List ℕ → List ℕ → Option ℕ → List (O
 rows_by state id name None = Some (UnknownPv name) ∷ []
 rows_by state id name (Some number) = disk_rows state id name number (slice_get state.disks number)
 
-has_enough : (state : GroupState) (id name : List ℕ) (number : ℕ) (disk : Disk) → first_refusal (pvcreate_rows state id name) ≡ None → number_named state.names name ≡ Some number → slice_get state.disks number ≡ Some disk
+has_enough : (state : GroupState) (id name : List ℕ) (number : ℕ) (disk : Disk) → first_refusal (pvcreate_rows state id name) ≡ None
+    → number_named state.names name ≡ Some number → slice_get state.disks number ≡ Some disk
     → fewest_sectors ≤ disk.sectors
 has_enough state id name number disk none named there =
-    let rows : first_refusal (rows_by state id name (Some number)) ≡ None = subst (λ (o : Option ℕ). first_refusal (rows_by state id name o) ≡ None) named none in
-    let few : few_row disk ≡ None = subst (λ (o : Option Disk). option_and_then few_row o ≡ None) there (none_holds (rows_by state id name (Some number)) rows).1.0 in
+    let rows : first_refusal (rows_by state id name (Some number)) ≡ None =
+        subst (λ (o : Option ℕ). first_refusal (rows_by state id name o) ≡ None) named none in
+    let few : few_row disk ≡ None =
+        subst (λ (o : Option Disk). option_and_then few_row o ≡ None) there (none_holds (rows_by state id name (Some number)) rows).1.0 in
     ltb-false disk.sectors fewest_sectors (test_fails (ltb disk.sectors fewest_sectors) (TooSmall disk.sectors fewest_sectors) few)
 
 -- ---- its metadata area
@@ -92,26 +101,31 @@ apart_by : (R : Extent → Extent → Type 0) (b : Bool) (area : Extent) → All
 apart_by R true area = none_apart R
 apart_by R false area = one_apart R area
 
-areas_on_disk : (sizes : List ℕ) (pv sectors copies : ℕ) → HasSize sizes pv sectors → fewest_sectors ≤ sectors → All (λ (area : Extent). IsOnDisk sizes pv (header_sector area)) (new_areas copies)
+areas_on_disk : (sizes : List ℕ) (pv sectors copies : ℕ) → HasSize sizes pv sectors → fewest_sectors ≤ sectors
+    → All (λ (area : Extent). IsOnDisk sizes pv (header_sector area)) (new_areas copies)
 areas_on_disk sizes pv sectors copies has enough =
     areas_by (λ (area : Extent). IsOnDisk sizes pv (header_sector area)) (copies == 0) (record { offset = 4096; size = 1044480 })
     (record { disk = has.within; within = omega (arith, has.size, enough) })
 
 -- ---- the change
 
-pub pvcreate_can_make : (state : GroupState) → IsState state → (id name : List ℕ) (copies now : ℕ) → CanMake state.areas (pvcreate_change state id name copies) now
+pub pvcreate_can_make : (state : GroupState) → IsState state → (id name : List ℕ) (copies now : ℕ)
+    → CanMake state.areas (pvcreate_change state id name copies) now
 pvcreate_can_make state is id name copies now = record {
   labels =
       labels_have id copies CanLabel state.disks (number_named state.names name)
       (λ number disk named there. record {
-        disk_below = let within : number < length state.disks = slice_get_within state.disks number disk there in omega (arith, within, is.few);
+        disk_below =
+            let within : number < length state.disks = slice_get_within state.disks number disk there in omega (arith, within, is.few);
         sector_below = sector_by number disk.sectors disk.contents (is.disks number disk there).contents;
-        fits = let few : length (new_areas copies) ≤ 1 = few_by (copies == 0) (record { offset = 4096; size = 1044480 }) in omega (arith, few);
+        fits =
+            let few : length (new_areas copies) ≤ 1 = few_by (copies == 0) (record { offset = 4096; size = 1044480 }) in omega (arith, few);
       });
   commit = λ group same. absurd (none-some group same);
 }
 
-pub pvcreate_lies_on : (state : GroupState) → IsState state → (id name : List ℕ) (copies : ℕ) → first_refusal (pvcreate_rows state id name) ≡ None → LiesOn (sizes_of state.disks) state.areas (pvcreate_change state id name copies)
+pub pvcreate_lies_on : (state : GroupState) → IsState state → (id name : List ℕ) (copies : ℕ)
+    → first_refusal (pvcreate_rows state id name) ≡ None → LiesOn (sizes_of state.disks) state.areas (pvcreate_change state id name copies)
 pvcreate_lies_on state is id name copies none = record {
   labels =
       labels_have id copies (LabelLies (sizes_of state.disks)) state.disks (number_named state.names name)
@@ -124,7 +138,9 @@ pvcreate_lies_on state is id name copies none = record {
   new_areas = λ no_group.
       labels_have id copies (AreasLie (sizes_of state.disks)) state.disks (number_named state.names name)
       (λ number disk named there. record {
-        lie = areas_on_disk (sizes_of state.disks) number disk.sectors copies (has_size state.disks number disk there) (has_enough state id name number disk none named there);
+        lie =
+            areas_on_disk (sizes_of state.disks) number disk.sectors copies (has_size state.disks number disk there)
+                (has_enough state id name number disk none named there);
         differ = apart_by (λ (a b : Extent). header_sector a ≢ header_sector b) (copies == 0) (record { offset = 4096; size = 1044480 });
       });
   commit = λ group same. absurd (none-some group same);

@@ -1,5 +1,6 @@
 -- What is promised of a line that is carried out.
-use Rattle.std.specs.Prelude.{◌≡◌, ◌≤◌, ◌<◌, ◌⊎◌, ℕ, Bool, true, false, is_some, List, length, take, All, None, Some, Result, Ok, Err, MatchResult}
+use Rattle.std.specs.Prelude.{◌≡◌, ◌≤◌, ◌<◌, ◌⊎◌, ℕ, Bool, true, false, is_some, List, length, take, All, None, Some, Result, Ok, Err,
+    MatchResult}
 use Rattle.lvm_script.specs.declared.line.Line.{Line}
 use Rattle.disk_model.specs.Faults.{HasSameFaults}
 use Rattle.disk_model.specs.Since.{BetweenRecords}
@@ -36,10 +37,13 @@ IsFault state line now given old new (Uncleared pv made) = (refusal_of state lin
 -- area shows what it showed. Once all is written what the line makes is found. The base shows the entries of the areas. While
 -- disks are cleared behind that, in every image their labels and areas are the old ones or cleared, and all else stays.
 pub record KeepsImages (state : GroupState) (line : Line) (now : ℕ) (given : List Part) : Type 0 where
-  pub kept : (base image : Image) → ShowsEntries state.areas base → HasFirstBatches (batches_of state line now given) base image → AreasAreKept state line now given base image
-  pub unpublished : (base image : Image) (n : ℕ) (group : Group) → ShowsEntries state.areas base → (change_of state line now given).group ≡ Some group → n < length (batches_of state line now given)
+  pub kept : (base image : Image) → ShowsEntries state.areas base → HasFirstBatches (batches_of state line now given) base image
+      → AreasAreKept state line now given base image
+  pub unpublished : (base image : Image) (n : ℕ) (group : Group) → ShowsEntries state.areas base
+      → (change_of state line now given).group ≡ Some group → n < length (batches_of state line now given)
       → HasFirstBatches (take n (batches_of state line now given)) base image → All (ShowsBy (old_reading (text_in base)) image) state.areas
-  pub found : (base : Image) → ShowsEntries state.areas base → IsFoundAfter state line now given (with_batches (batches_of state line now given) base)
+  pub found : (base : Image) → ShowsEntries state.areas base
+      → IsFoundAfter state line now given (with_batches (batches_of state line now given) base)
   pub clears : ClearsImages (change_of state line now given).cleared state.disks state.areas
 
 -- its writes were begun
@@ -91,9 +95,13 @@ IsUnclearedBy commits old new fault = (pv : ℕ) × (old.faults pv < new.faults 
 -- all were carried out, as far as they came, and this is when the change was made; where the line is refused or memory was wanting
 -- none was, and no operation was submitted
 abbrev pub Carries : Bool → List (List Put) → List (List Put) → List (List Put) → Result ℕ ChangeFault → State → State → Type 0
-Carries commits zeros batches clears (Ok moment) old new = (w : ClearsBehind zeros batches clears true old new) × (moment ≡ made_at commits w.made.steps new.steps)
-Carries commits zeros batches clears (Err (Failed pv)) old new = BetweenRecords (WritesBoth zeros batches false) old.told new.told ⊎ ((commits ≡ false) × ClearsBehind zeros batches clears false old new)
-Carries commits zeros batches clears (Err (Uncleared pv moment)) old new = (w : ClearsBehind zeros batches clears false old new) × (moment ≡ w.made.steps) × (commits ≡ true)
+Carries commits zeros batches clears (Ok moment) old new =
+    (w : ClearsBehind zeros batches clears true old new) × (moment ≡ made_at commits w.made.steps new.steps)
+Carries commits zeros batches clears (Err (Failed pv)) old new =
+    BetweenRecords (WritesBoth zeros batches false) old.told new.told
+        ⊎ ((commits ≡ false) × ClearsBehind zeros batches clears false old new)
+Carries commits zeros batches clears (Err (Uncleared pv moment)) old new =
+    (w : ClearsBehind zeros batches clears false old new) × (moment ≡ w.made.steps) × (commits ≡ true)
 Carries commits zeros batches clears (Err _) old new = BetweenRecords (λ before after. after ≡ before) old.told new.told
 
 -- memory sufficed to judge the line
@@ -105,6 +113,8 @@ HasJudged _ = Unit {0}
 pub record IsCarried (state : GroupState) (line : Line) (now : ℕ) (old : State) (result : Result ℕ ChangeFault) (new : State) : Type 0 where
   pub given : List Part
   pub takes : HasJudged result → Takes (asks_of state line) given
-  pub cause : MatchResult result (λ _. HasSameFaults old new × (refusal_of state line now given ≡ None)) (IsFault state line now given old new)
+  pub cause : MatchResult result (λ _. HasSameFaults old new × (refusal_of state line now given ≡ None))
+      (IsFault state line now given old new)
   pub images : HasBegun result → KeepsImages state line now given
-  pub told : Carries (is_some (change_of state line now given).group) (zeros_of state line now given) (batches_of state line now given) (clears_of state line now given) result old new
+  pub told : Carries (is_some (change_of state line now given).group) (zeros_of state line now given) (batches_of state line now given)
+      (clears_of state line now given) result old new

@@ -14,7 +14,8 @@ pub all_at : {X : Type 0} (P : X → Type 0) (xs : List X) (n : ℕ) (x : X) →
 all_at P xs n x all is = subst P (get_or_from_slice_get xs n x x is) (all n x (slice_get_within xs n x is))
 
 -- one element more
-pub all_more : {X : Type 0} (P : X → Type 0) (xs : List X) (n : ℕ) (x : X) → n < length xs → x ≡ get_or xs n x → All P (take n xs) → P x → All P (take (n + 1) xs)
+pub all_more : {X : Type 0} (P : X → Type 0) (xs : List X) (n : ℕ) (x : X) → n < length xs → x ≡ get_or xs n x → All P (take n xs) → P x
+    → All P (take (n + 1) xs)
 all_more P xs n x lt is all here = All-more P xs n x lt all (subst P is here)
 
 -- all were walked

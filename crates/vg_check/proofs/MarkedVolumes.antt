@@ -1,5 +1,6 @@
 -- A volume's mark after five rounds says whether it is moving.
-use Rattle.std.proofs.Common.{◌≡◌, ◌↔◌, ℕ, zero, suc, ◌+◌, ◌<◌, ◌≤◌, max, IsTrue, Bool, true, false, ◌||◌, cond, List, [], ◌∷◌, length, map, get_or, Option, Some, inl, inr, refl, sym, ap, subst, ◌∙◌, arith}
+use Rattle.std.proofs.Common.{◌≡◌, ◌↔◌, ℕ, zero, suc, ◌+◌, ◌<◌, ◌≤◌, max, IsTrue, Bool, true, false, ◌||◌, cond, List, [], ◌∷◌, length, map,
+    get_or, Option, Some, inl, inr, refl, sym, ap, subst, ◌∙◌, arith}
 use Rattle.std.specs.Prelude.{slice_get, option_map, unwrap_or}
 use Rattle.std.specs.List.{list_any}
 use Rattle.std.proofs.lemmas.Bool.{cases_eq}
@@ -25,10 +26,12 @@ either true false = refl
 either false true = refl
 either false false = refl
 
-any_mark : (test : ℕ → Bool) (number : ℕ → ℕ) (xs : List ℕ) → ((x : ℕ) → number x ≡ mark (test x)) → greatest (map number xs) ≡ mark (list_any test xs)
+any_mark : (test : ℕ → Bool) (number : ℕ → ℕ) (xs : List ℕ) → ((x : ℕ) → number x ≡ mark (test x))
+    → greatest (map number xs) ≡ mark (list_any test xs)
 any_mark test number [] same = refl
 any_mark test number (x ∷ xs) same =
-    ap (λ n. max n (greatest (map number xs))) (same x) ∙ ap (max (mark (test x))) (any_mark test number xs same) ∙ either (test x) (list_any test xs)
+    ap (λ n. max n (greatest (map number xs))) (same x) ∙ ap (max (mark (test x))) (any_mark test number xs same)
+        ∙ either (test x) (list_any test xs)
 
 no_mark : (xs : List ℕ) → greatest (map (λ (x : ℕ). 0) xs) ≡ 0
 no_mark [] = refl
@@ -41,14 +44,16 @@ no_more n = omega arith
 pub marks : (group : Group) (steps lv : ℕ) → climbed group Moves (suc steps) lv ≡ mark (leads_to_pvmove group steps lv)
 marks group zero lv = ap (max (mark (has_pvmove group lv))) (no_mark (named_by group lv)) ∙ no_more (mark (has_pvmove group lv))
 marks group (suc steps) lv =
-    ap (max (mark (has_pvmove group lv))) (any_mark (λ below. leads_to_pvmove group steps below) (climbed group Moves (suc steps)) (named_by group lv) (marks group steps))
+    ap (max (mark (has_pvmove group lv))) (any_mark (λ below. leads_to_pvmove group steps below) (climbed group Moves (suc steps))
+        (named_by group lv) (marks group steps))
     ∙ either (has_pvmove group lv) (list_any (λ below. leads_to_pvmove group steps below) (named_by group lv))
 
 marked : (is : Bool) → 1 ≤ mark is → is ≡ true
 marked true high = refl
 marked false high = absurd (omega arith)
 
-pub locked_tell : (group : Group) (numbers : List ExtentSpan) (answer : Bool) → DepthIsAtMostThree group → length numbers ≡ length group.lvs → HasClimbed group Moves 5 numbers
+pub locked_tell : (group : Group) (numbers : List ExtentSpan) (answer : Bool) → DepthIsAtMostThree group → length numbers ≡ length group.lvs
+    → HasClimbed group Moves 5 numbers
     → IsTrue answer ↔ LockedAreMarked group numbers (length numbers) → IsTrue answer ↔ LockedVolumesMove group
 locked_tell group numbers answer depth long has tells = (
   λ is number lv there locked.
@@ -61,7 +66,8 @@ locked_tell group numbers answer depth long has tells = (
 )
 
 -- one volume more
-pub marked_more : (group : Group) (numbers : List ExtentSpan) (n : ℕ) (lv : Lv) → IsLv group n lv → (lv.status.locked ≡ true → 1 ≤ told numbers n) → LockedAreMarked group numbers n → LockedAreMarked group numbers (n + 1)
+pub marked_more : (group : Group) (numbers : List ExtentSpan) (n : ℕ) (lv : Lv) → IsLv group n lv
+    → (lv.status.locked ≡ true → 1 ≤ told numbers n) → LockedAreMarked group numbers n → LockedAreMarked group numbers (n + 1)
 marked_more group numbers n lv is here before k volume lt there locked =
     elim (cases_eq k n) [
       | inl same ↦
@@ -73,4 +79,5 @@ marked_more group numbers n lv is here before k volume lt there locked =
 
 -- the number of a volume, as it is read
 pub told_at : (numbers : List ExtentSpan) (n : ℕ) (d : ExtentSpan) → n < length numbers → told numbers n ≡ (get_or numbers n d).first
-told_at numbers n d lt = ap (λ (o : Option ExtentSpan). unwrap_or (option_map (λ (run : ExtentSpan). run.first) o) 0) (slice_get-get_or numbers n d lt)
+told_at numbers n d lt =
+    ap (λ (o : Option ExtentSpan). unwrap_or (option_map (λ (run : ExtentSpan). run.first) o) 0) (slice_get-get_or numbers n d lt)

@@ -10,7 +10,9 @@ use Rattle.vg_check.specs.declared.offence.Offence.{Offence}
 use Rattle.vg_check.proofs.OffenceBreaks.{offence_breaks}
 
 -- the rule is the first that the group breaks, since it keeps each before it
-pub refused_first : (group : Group) (P : Type 0) (rule : Rule) (at other : ℕ) (result : Result (Unit {0}) Offence) → result ≡ Err (record { rule = rule; at = at; other = other }) → KeepsBelow (number_of rule) group → IsOffence group rule at other → MatchResult result (λ _. P) (IsFirstOffence group)
+pub refused_first : (group : Group) (P : Type 0) (rule : Rule) (at other : ℕ) (result : Result (Unit {0}) Offence)
+    → result ≡ Err (record { rule = rule; at = at; other = other }) → KeepsBelow (number_of rule) group → IsOffence group rule at other
+    → MatchResult result (λ _. P) (IsFirstOffence group)
 refused_first group P rule at other result is below offence =
     subst
     (λ (r : Result (Unit {0}) Offence). MatchResult r (λ _. P) (IsFirstOffence group))

@@ -47,7 +47,8 @@ HasId group kind block id = (run : ExtentSpan) × Contains block run × (id_of g
 
 -- no volume of the kind has an id of the block, from this number on
 abbrev pub NoneHas : Group → Kind → List ExtentSpan → Kind → ℕ → Type 0
-NoneHas group kind block other from = (number : ℕ) → from ≤ number → number < length (kind_ids group other) → HasId group kind block (id_of group other number) → ⊥
+NoneHas group kind block other from =
+    (number : ℕ) → from ≤ number → number < length (kind_ids group other) → HasId group kind block (id_of group other number) → ⊥
 
 -- neither the group nor a volume of an earlier kind has one
 abbrev pub NoneBeforeHas : Group → Kind → List ExtentSpan → Type 0

@@ -8,4 +8,5 @@ use Rattle.vg_check.specs.Climbing.{told}
 
 -- each of the first volumes, so many, that is locked has one
 abbrev pub LockedAreMarked : Group → List ExtentSpan → ℕ → Type 0
-LockedAreMarked group numbers many = (number : ℕ) (lv : Lv) → number < many → IsLv group number lv → IsTrue lv.status.locked → 1 ≤ told numbers number
+LockedAreMarked group numbers many =
+    (number : ℕ) (lv : Lv) → number < many → IsLv group number lv → IsTrue lv.status.locked → 1 ≤ told numbers number

@@ -17,7 +17,8 @@ LegsLieInside group segment = All (LegLiesInside group segment) (legs_of segment
 
 -- one of its legs doesn't
 abbrev pub HasLegOutside : Group → Segment → Type 0
-HasLegOutside group segment = (number : ℕ) × (leg : Leg) × (slice_get (legs_of segment.kind) number ≡ Some leg) × (LegLiesInside group segment leg → ⊥)
+HasLegOutside group segment =
+    (number : ℕ) × (leg : Leg) × (slice_get (legs_of segment.kind) number ≡ Some leg) × (LegLiesInside group segment leg → ⊥)
 
 -- the segment with this number has one
 abbrev pub SegmentFails : Group → List Segment → ℕ → Type 0

@@ -23,12 +23,15 @@ use Rattle.vg_commit.specs.CommitHolds.{Commit, HaveFlushed, is_own}
 use Rattle.vg_commit.specs.SectorReading.{AreSized, old_reading}
 
 -- the disks that were flushed were so once the shelf has gone on
-pub flushed_along : (c : Commit) (P : Record → Type 0) (old new : State) → AllAlong P old new → IfSome old.told (λ told. HaveFlushed c told.steps) → IfSome new.told (λ told. HaveFlushed c told.steps)
+pub flushed_along : (c : Commit) (P : Record → Type 0) (old new : State) → AllAlong P old new
+    → IfSome old.told (λ told. HaveFlushed c told.steps) → IfSome new.told (λ told. HaveFlushed c told.steps)
 flushed_along c P old new h flushed =
-    told_after (steps_on h.newer) (λ told. HaveFlushed c told.steps) (λ told. HaveFlushed c told.steps) old.told new.told h.told (λ t is f k d within. flushed_steps (is_own c) c.from _ h.newer t (f k d within)) flushed
+    told_after (steps_on h.newer) (λ told. HaveFlushed c told.steps) (λ told. HaveFlushed c told.steps) old.told new.told h.told
+        (λ t is f k d within. flushed_steps (is_own c) c.from _ h.newer t (f k d within)) flushed
 
 -- what is known once a batch of the commit has taken a completion
-pub record Took (c : Commit) (target : ℕ → ℕ → Bool) (Now Goal : ℕ → ℕ → List ℕ → Type 0) (before : State) (flush : List ℕ) (came : BatchStep) (mid : State) : Type 0 where
+pub record Took (c : Commit) (target : ℕ → ℕ → Bool) (Now Goal : ℕ → ℕ → List ℕ → Type 0) (before : State) (flush : List ℕ)
+    (came : BatchStep) (mid : State) : Type 0 where
   pub now : Came (is_own c) target Now Goal came mid
   pub along : AllAlong (AllLeave (is_own c) Now) before mid
   pub sized : IfSome mid.told (λ told. AreSized (old_reading c.bytes) c.areas)
@@ -36,7 +39,8 @@ pub record Took (c : Commit) (target : ℕ → ℕ → Bool) (Now Goal : ℕ →
   pub faults : FaultsSince c.faults (lost_of came) mid
   pub flush_stays : KeepsFlush flush came
 
-module _ (c : Commit) (target : ℕ → ℕ → Bool) (Now Goal : ℕ → ℕ → List ℕ → Type 0) (before old mid : State) (view : View) (done : Done) (lawful : IsLawful old) (completes : Completes before done old) where
+module _ (c : Commit) (target : ℕ → ℕ → Bool) (Now Goal : ℕ → ℕ → List ℕ → Type 0) (before old mid : State) (view : View) (done : Done)
+    (lawful : IsLawful old) (completes : Completes before done old) where
   abbrev Leaves : Record → Type 0
   Leaves = AllLeave (is_own c) Now
 
@@ -51,9 +55,13 @@ module _ (c : Commit) (target : ℕ → ℕ → Bool) (Now Goal : ℕ → ℕ �
     at_old = leaves_before old (after_done view done) (own_completes (is_own c) target Now Goal before old done view lawful completes h)
 
     moments : (came : BatchStep) → Goes old view done came mid → AllAlong Leaves before mid
-    moments came goes = along_both Leaves before old mid (along_completes Leaves before old done completes (leaves_before before view h) at_old) (along_goes (is_own c) Now old mid view done came goes at_old)
+    moments came goes =
+        along_both Leaves before old mid (along_completes Leaves before old done completes (leaves_before before view h) at_old)
+            (along_goes (is_own c) Now old mid view done came goes at_old)
 
-    pub took : (came : BatchStep) → Goes old view done came mid → ((pv sector : ℕ) → IsTrue (is_own c pv sector) → IsTrue (target pv sector) → IsAmong view.flush pv) → IfSome before.told Sized → c.from ≤ before.next_tag → FaultsSince c.faults view.lost before
+    pub took : (came : BatchStep) → Goes old view done came mid
+        → ((pv sector : ℕ) → IsTrue (is_own c pv sector) → IsTrue (target pv sector) → IsAmong view.flush pv) → IfSome before.told Sized
+        → c.from ≤ before.next_tag → FaultsSince c.faults view.lost before
         → Took c target Now Goal before view.flush came mid
     took came goes among sized since faults =
         let along : AllAlong Leaves before mid = moments came goes in

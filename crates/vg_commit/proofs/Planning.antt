@@ -1,10 +1,12 @@
 -- The plan of a commit, area by area, and what is prepared from it.
-use Rattle.std.proofs.Common.{◌≡◌, ◌≤◌, ◌<◌, ℕ, ◌+◌, ◌-◌, ◌*◌, ◌%◌, Bool, true, false, cond, nat_lt, List, [], ◌∷◌, ◌++◌, length, take, drop, map, get_or, Option, None, Some, IfSome, refl, sym, ap, subst, subst₂, ◌∙◌, arith}
+use Rattle.std.proofs.Common.{◌≡◌, ◌≤◌, ◌<◌, ℕ, ◌+◌, ◌-◌, ◌*◌, ◌%◌, Bool, true, false, cond, nat_lt, List, [], ◌∷◌, ◌++◌, length, take,
+    drop, map, get_or, Option, None, Some, IfSome, refl, sym, ap, subst, subst₂, ◌∙◌, arith}
 use Rattle.std.specs.Prelude.{All, IfErr, IfOk, MatchResult, Result, Ok, Err}
 use Rattle.std.specs.Ordering.{nat_cmp}
 use Rattle.std.specs.FinSet.{FinSet}
 use Rattle.std.proofs.lemmas.Bool.{cond-false, le-ltb}
-use Rattle.std.proofs.lemmas.List.{append-nil, append_assoc, get_or-map, get_or_default, length-map, map_push, take-append-drop, take_all, take_more}
+use Rattle.std.proofs.lemmas.List.{append-nil, append_assoc, get_or-map, get_or_default, length-map, map_push, take-append-drop, take_all,
+    take_more}
 use Rattle.std.proofs.lemmas.List.Elements.{All-map, All-nil, All-push}
 use Rattle.sector_base.specs.Checksum.{checksum, lvm_crc_start}
 use Rattle.sector_base.specs.declared.spans.Span.{Span}
@@ -24,7 +26,8 @@ use Rattle.vg_commit.specs.declared.plan.Plan.{Plan}
 use Rattle.vg_commit.specs.declared.prepared.Prepared.{Prepared}
 use Rattle.vg_commit.specs.declared.refusal.CommitRefusal.{CommitRefusal}
 use Rattle.vg_commit.specs.declared.refusal.CommitRefusal.TheVariants.{NoMemory, TooLarge}
-use Rattle.vg_commit.specs.Written.{area_span, area_writes, header_after, header_before, header_of, header_span, headers_of, new_entry, publish_of, puts_on, stored, text_puts, texts_of, with_entries}
+use Rattle.vg_commit.specs.Written.{area_span, area_writes, header_after, header_before, header_of, header_span, headers_of, new_entry,
+    publish_of, puts_on, stored, text_puts, texts_of, with_entries}
 use Rattle.vg_commit.specs.TooLarge.{IsCause, first_too_large}
 use Rattle.vg_commit.specs.Plans.{Adds, HeadersRead, IsPlan}
 use Rattle.vg_commit.specs.Preparing.{AreCommitted, AreWithin, CanStart, HasBatches, IsOnDiskOf, IsPrepared, area_disks}
@@ -34,9 +37,12 @@ use Rattle.vg_commit.proofs.Disks.{area_disks_too}
 use Rattle.vg_commit.proofs.Lying.{headers_lie, headers_some, publish_lie, publish_some, texts_lie, texts_some}
 
 -- the first span has no more sectors than the text
-pub cut_fits : (size offset count sectors len : ℕ) (spans : Span × Option Span) → size % 512 ≡ 0 → offset % 512 ≡ 0 → 512 * sectors ≤ size - 512 → sectors ≡ need count → spans_count spans ≡ touched_count size offset count → len ≡ sectors → spans.0.count ≤ len
+pub cut_fits : (size offset count sectors len : ℕ) (spans : Span × Option Span) → size % 512 ≡ 0 → offset % 512 ≡ 0
+    → 512 * sectors ≤ size - 512 → sectors ≡ need count → spans_count spans ≡ touched_count size offset count → len ≡ sectors
+    → spans.0.count ≤ len
 cut_fits size offset count sectors len spans whole aligned fits are counted is =
-    let t : touched_count size offset count ≡ need count = touched_is size offset count whole aligned (subst (λ (n : ℕ). 512 * n ≤ size - 512) are fits) in
+    let t : touched_count size offset count ≡ need count =
+        touched_is size offset count whole aligned (subst (λ (n : ℕ). 512 * n ≤ size - 512) are fits) in
     let c : spans_count spans ≡ len = counted ∙ t ∙ sym are ∙ sym is in
     omega (arith, c)
 
@@ -45,15 +51,23 @@ if_inside size None h = tt
 if_inside size (Some locn) h = h
 
 -- one area's writes
-pub adds_area : (text : List ℕ) (area : Area) (committed : Option Locn) (place : Place) (count sum : ℕ) (old new : Plan) (bytes : List ℕ) → bytes ≡ text → count ≡ length bytes + 1 → IsNext area.size committed count place → sum ≡ checksum lvm_crc_start (stored text)
+pub adds_area : (text : List ℕ) (area : Area) (committed : Option Locn) (place : Place) (count sum : ℕ) (old new : Plan) (bytes : List ℕ)
+    → bytes ≡ text → count ≡ length bytes + 1 → IsNext area.size committed count place → sum ≡ checksum lvm_crc_start (stored text)
     → new.texts.items ≡ old.texts.items ++ puts_on (ring_spans area place.offset (length text + 1)) (text_sectors text place.sectors)
-    → new.headers.items ≡ old.headers.items ++ (header_span area, header_bytes (header_of area committed (Some (record { offset = place.offset; size = count; sum = sum }))) ∷ []) ∷ []
-    → new.publish.items ≡ old.publish.items ++ (header_span area, header_bytes (header_of area (Some (record { offset = place.offset; size = count; sum = sum })) None) ∷ []) ∷ []
+    → new.headers.items ≡ old.headers.items ++ (header_span area,
+    header_bytes (header_of area committed (Some (record { offset = place.offset; size = count; sum = sum }))) ∷ []) ∷ []
+    → new.publish.items ≡ old.publish.items ++ (header_span area,
+    header_bytes (header_of area (Some (record { offset = place.offset; size = count; sum = sum })) None) ∷ []) ∷ []
     → new.areas.items ≡ old.areas.items ++ (area, Some (record { offset = place.offset; size = count; sum = sum })) ∷ []
-    → (CanBeRead (header_of area committed (Some (record { offset = place.offset; size = count; sum = sum }))) → IsHeader (header_bytes (header_of area committed (Some (record { offset = place.offset; size = count; sum = sum })))) (header_of area committed (Some (record { offset = place.offset; size = count; sum = sum }))))
-    → (CanBeRead (header_of area (Some (record { offset = place.offset; size = count; sum = sum })) None) → IsHeader (header_bytes (header_of area (Some (record { offset = place.offset; size = count; sum = sum })) None)) (header_of area (Some (record { offset = place.offset; size = count; sum = sum })) None))
+    → (CanBeRead (header_of area committed (Some (record { offset = place.offset; size = count; sum = sum })))
+    → IsHeader (header_bytes (header_of area committed (Some (record { offset = place.offset; size = count; sum = sum }))))
+    (header_of area committed (Some (record { offset = place.offset; size = count; sum = sum }))))
+    → (CanBeRead (header_of area (Some (record { offset = place.offset; size = count; sum = sum })) None)
+    → IsHeader (header_bytes (header_of area (Some (record { offset = place.offset; size = count; sum = sum })) None))
+    (header_of area (Some (record { offset = place.offset; size = count; sum = sum })) None))
     → IsArea area → IsNoneOrInside area.size committed → Adds text (area, committed) old new
-adds_area text area committed place count sum old new bytes same_bytes count_is next sum_is texts headers publish entries read_before read_after good inside =
+adds_area text area committed place count sum old new bytes same_bytes count_is next sum_is texts headers publish entries read_before
+    read_after good inside =
     let long : count ≡ length text + 1 = count_is ∙ ap (λ (l : List ℕ). length l + 1) same_bytes in
     let entry : Locn = record { offset = place.offset; size = count; sum = sum } in
     let same : entry ≡ new_entry text (area, committed) =
@@ -61,113 +75,165 @@ adds_area text area committed place count sum old new bytes same_bytes count_is 
     ∙ ap (λ (n : ℕ). record { offset = next_offset area.size committed; size = n; sum = sum }) long
     ∙ ap (λ (s : ℕ). record { offset = next_offset area.size committed; size = length text + 1; sum = s }) sum_is
     in
-    let has_room : need (length text + 1) ≤ room area.size committed = subst (λ (n : ℕ). need n ≤ room area.size committed) long next.has_room in
-    let in_area : IsInside area.size (new_entry text (area, committed)) = (entry_inside text (area, committed) (is_placed text (area, committed) (good, if_inside area.size committed inside) has_room)).0 in
+    let has_room : need (length text + 1) ≤ room area.size committed =
+        subst (λ (n : ℕ). need n ≤ room area.size committed) long next.has_room in
+    let in_area : IsInside area.size (new_entry text (area, committed)) =
+        (entry_inside text (area, committed) (is_placed text (area, committed) (good, if_inside area.size committed inside) has_room)).0 in
     record {
       texts =
-          texts ∙ ap (λ (o : ℕ). old.texts.items ++ puts_on (ring_spans area o (length text + 1)) (text_sectors text place.sectors)) next.offset_is
-          ∙ ap (λ (s : ℕ). old.texts.items ++ puts_on (ring_spans area (next_offset area.size committed) (length text + 1)) (text_sectors text s)) (next.sectors_is ∙ ap need long);
-      headers = headers ∙ ap (λ (e : Locn). old.headers.items ++ (header_span area, header_bytes (header_of area committed (Some e)) ∷ []) ∷ []) same;
-      publish = publish ∙ ap (λ (e : Locn). old.publish.items ++ (header_span area, header_bytes (header_of area (Some e) None) ∷ []) ∷ []) same;
+          texts ∙ ap (λ (o : ℕ). old.texts.items ++ puts_on (ring_spans area o (length text + 1)) (text_sectors text place.sectors))
+              next.offset_is
+          ∙ ap (λ (s : ℕ). old.texts.items ++ puts_on (ring_spans area (next_offset area.size committed) (length text + 1))
+          (text_sectors text s)) (next.sectors_is ∙ ap need long);
+      headers =
+          headers ∙ ap (λ (e : Locn). old.headers.items ++ (header_span area, header_bytes (header_of area committed (Some e)) ∷ []) ∷ [])
+              same;
+      publish =
+          publish ∙ ap (λ (e : Locn). old.publish.items ++ (header_span area, header_bytes (header_of area (Some e) None) ∷ []) ∷ []) same;
       entries = entries ∙ ap (λ (e : Locn). old.areas.items ++ (area, Some e) ∷ []) same;
-      room = cond-false (nat_lt (room area.size committed) (need (length text + 1))) _ _ (le-ltb (room area.size committed) (need (length text + 1)) has_room);
+      room =
+          cond-false (nat_lt (room area.size committed) (need (length text + 1))) _ _
+              (le-ltb (room area.size committed) (need (length text + 1)) has_room);
       read = record {
-        before = subst (λ (e : Locn). IsHeader (header_bytes (header_of area committed (Some e))) (header_of area committed (Some e))) same (read_before (record { committed = inside; precommitted = subst (IsInside area.size) (sym same) in_area }));
-        after = subst (λ (e : Locn). IsHeader (header_bytes (header_of area (Some e) None)) (header_of area (Some e) None)) same (read_after (record { committed = subst (IsInside area.size) (sym same) in_area; precommitted = tt }));
+        before =
+            subst (λ (e : Locn). IsHeader (header_bytes (header_of area committed (Some e))) (header_of area committed (Some e))) same
+                (read_before (record { committed = inside; precommitted = subst (IsInside area.size) (sym same) in_area }));
+        after =
+            subst (λ (e : Locn). IsHeader (header_bytes (header_of area (Some e) None)) (header_of area (Some e) None)) same
+                (read_after (record { committed = subst (IsInside area.size) (sym same) in_area; precommitted = tt }));
       };
     }
 
 -- one area more in each list
 module _ (text : List ℕ) (a : Area × Option Locn) where
-  texts_push : (areas : List (Area × Option Locn)) → texts_of (map (area_writes text) (areas ++ a ∷ [])) ≡ texts_of (map (area_writes text) areas) ++ text_puts text a
+  texts_push : (areas : List (Area × Option Locn))
+      → texts_of (map (area_writes text) (areas ++ a ∷ [])) ≡ texts_of (map (area_writes text) areas) ++ text_puts text a
   texts_push [] = append-nil (text_puts text a)
-  texts_push (b ∷ areas) = ap (λ (l : List (Span × List (List ℕ))). text_puts text b ++ l) (texts_push areas) ∙ sym (append_assoc (text_puts text b) (texts_of (map (area_writes text) areas)) (text_puts text a))
+  texts_push (b ∷ areas) =
+      ap (λ (l : List (Span × List (List ℕ))). text_puts text b ++ l) (texts_push areas)
+          ∙ sym (append_assoc (text_puts text b) (texts_of (map (area_writes text) areas)) (text_puts text a))
 
-  headers_push : (areas : List (Area × Option Locn)) → headers_of (map (area_writes text) (areas ++ a ∷ [])) ≡ headers_of (map (area_writes text) areas) ++ (header_span a.0, header_bytes (header_before text a) ∷ []) ∷ []
+  headers_push : (areas : List (Area × Option Locn))
+      → headers_of (map (area_writes text) (areas ++ a ∷ []))
+      ≡ headers_of (map (area_writes text) areas) ++ (header_span a.0, header_bytes (header_before text a) ∷ []) ∷ []
   headers_push [] = refl
-  headers_push (b ∷ areas) = ap (λ (l : List (Span × List (List ℕ))). (header_span b.0, header_bytes (header_before text b) ∷ []) ∷ l) (headers_push areas)
+  headers_push (b ∷ areas) =
+      ap (λ (l : List (Span × List (List ℕ))). (header_span b.0, header_bytes (header_before text b) ∷ []) ∷ l) (headers_push areas)
 
-  publish_push : (areas : List (Area × Option Locn)) → publish_of (map (area_writes text) (areas ++ a ∷ [])) ≡ publish_of (map (area_writes text) areas) ++ (header_span a.0, header_bytes (header_after text a) ∷ []) ∷ []
+  publish_push : (areas : List (Area × Option Locn))
+      → publish_of (map (area_writes text) (areas ++ a ∷ []))
+      ≡ publish_of (map (area_writes text) areas) ++ (header_span a.0, header_bytes (header_after text a) ∷ []) ∷ []
   publish_push [] = refl
-  publish_push (b ∷ areas) = ap (λ (l : List (Span × List (List ℕ))). (header_span b.0, header_bytes (header_after text b) ∷ []) ∷ l) (publish_push areas)
+  publish_push (b ∷ areas) =
+      ap (λ (l : List (Span × List (List ℕ))). (header_span b.0, header_bytes (header_after text b) ∷ []) ∷ l) (publish_push areas)
 
   -- the first that is too large
-  first_push : (areas : List (Area × Option Locn)) → first_too_large text areas ≡ None → first_too_large text (areas ++ a ∷ []) ≡ first_too_large text (a ∷ [])
+  first_push : (areas : List (Area × Option Locn)) → first_too_large text areas ≡ None
+      → first_too_large text (areas ++ a ∷ []) ≡ first_too_large text (a ∷ [])
   first_push [] none = refl
   first_push (b ∷ areas) none = step (λ rest. first_push areas rest) (nat_lt (room b.0.size b.1) (need (length text + 1))) none
     where
-      step : (first_too_large text areas ≡ None → first_too_large text (areas ++ a ∷ []) ≡ first_too_large text (a ∷ [])) → (c : Bool) → cond c (Some (need (length text + 1), room b.0.size b.1)) (first_too_large text areas) ≡ None
-          → cond c (Some (need (length text + 1), room b.0.size b.1)) (first_too_large text (areas ++ a ∷ [])) ≡ first_too_large text (a ∷ [])
+      step : (first_too_large text areas ≡ None → first_too_large text (areas ++ a ∷ []) ≡ first_too_large text (a ∷ [])) → (c : Bool)
+          → cond c (Some (need (length text + 1), room b.0.size b.1)) (first_too_large text areas) ≡ None
+          → cond c (Some (need (length text + 1), room b.0.size b.1)) (first_too_large text (areas ++ a ∷ []))
+          ≡ first_too_large text (a ∷ [])
       step rest true h = cc
       step rest false h = rest h
 
-  first_found : (areas more : List (Area × Option Locn)) (found : ℕ × ℕ) → first_too_large text areas ≡ Some found → first_too_large text (areas ++ more) ≡ Some found
+  first_found : (areas more : List (Area × Option Locn)) (found : ℕ × ℕ) → first_too_large text areas ≡ Some found
+      → first_too_large text (areas ++ more) ≡ Some found
   first_found [] more found is = cc
-  first_found (b ∷ areas) more found is = step (λ rest. first_found areas more found rest) (nat_lt (room b.0.size b.1) (need (length text + 1))) is
+  first_found (b ∷ areas) more found is =
+      step (λ rest. first_found areas more found rest) (nat_lt (room b.0.size b.1) (need (length text + 1))) is
     where
-      step : (first_too_large text areas ≡ Some found → first_too_large text (areas ++ more) ≡ Some found) → (c : Bool) → cond c (Some (need (length text + 1), room b.0.size b.1)) (first_too_large text areas) ≡ Some found
+      step : (first_too_large text areas ≡ Some found → first_too_large text (areas ++ more) ≡ Some found) → (c : Bool)
+          → cond c (Some (need (length text + 1), room b.0.size b.1)) (first_too_large text areas) ≡ Some found
           → cond c (Some (need (length text + 1), room b.0.size b.1)) (first_too_large text (areas ++ more)) ≡ Some found
       step rest true h = h
       step rest false h = rest h
 
-  plan_push : (areas : List (Area × Option Locn)) (old new : Plan) → IsPlan text areas old → Adds text a old new → IsPlan text (areas ++ a ∷ []) new
+  plan_push : (areas : List (Area × Option Locn)) (old new : Plan) → IsPlan text areas old → Adds text a old new
+      → IsPlan text (areas ++ a ∷ []) new
   plan_push areas old new plan adds = record {
     texts = adds.texts ∙ ap (λ (l : List (Span × List (List ℕ))). l ++ text_puts text a) plan.texts ∙ sym (texts_push areas);
-    headers = adds.headers ∙ ap (λ (l : List (Span × List (List ℕ))). l ++ (header_span a.0, header_bytes (header_before text a) ∷ []) ∷ []) plan.headers ∙ sym (headers_push areas);
-    publish = adds.publish ∙ ap (λ (l : List (Span × List (List ℕ))). l ++ (header_span a.0, header_bytes (header_after text a) ∷ []) ∷ []) plan.publish ∙ sym (publish_push areas);
-    entries = adds.entries ∙ ap (λ (l : List (Area × Option Locn)). l ++ (a.0, Some (new_entry text a)) ∷ []) plan.entries ∙ sym (map_push (λ (b : Area × Option Locn). (b.0, Some (new_entry text b))) areas a);
+    headers =
+        adds.headers ∙ ap (λ (l : List (Span × List (List ℕ))). l ++ (header_span a.0, header_bytes (header_before text a) ∷ []) ∷ [])
+            plan.headers ∙ sym (headers_push areas);
+    publish =
+        adds.publish ∙ ap (λ (l : List (Span × List (List ℕ))). l ++ (header_span a.0, header_bytes (header_after text a) ∷ []) ∷ [])
+            plan.publish ∙ sym (publish_push areas);
+    entries =
+        adds.entries ∙ ap (λ (l : List (Area × Option Locn)). l ++ (a.0, Some (new_entry text a)) ∷ []) plan.entries
+            ∙ sym (map_push (λ (b : Area × Option Locn). (b.0, Some (new_entry text b))) areas a);
     room = first_push areas plan.room ∙ adds.room;
     read = All-push (HeadersRead text) areas a plan.read adds.read;
   }
 
 -- no area yet
-pub plan_none : (text : List ℕ) (areas : List (Area × Option Locn)) (plan : Plan) → plan.texts.items ≡ [] → plan.headers.items ≡ [] → plan.publish.items ≡ [] → plan.areas.items ≡ [] → IsPlan text (take 0 areas) plan
-plan_none text areas plan a b c d = record { texts = a; headers = b; publish = c; entries = d; room = refl; read = All-nil (HeadersRead text) }
+pub plan_none : (text : List ℕ) (areas : List (Area × Option Locn)) (plan : Plan) → plan.texts.items ≡ [] → plan.headers.items ≡ []
+    → plan.publish.items ≡ [] → plan.areas.items ≡ [] → IsPlan text (take 0 areas) plan
+plan_none text areas plan a b c d =
+    record { texts = a; headers = b; publish = c; entries = d; room = refl; read = All-nil (HeadersRead text) }
 
 -- the next area of a loop
-pub plan_on : (text : List ℕ) (areas : List (Area × Option Locn)) (i : ℕ) (a : Area × Option Locn) (old new : Plan) → i < length areas → a ≡ get_or areas i a → IsPlan text (take i areas) old → Adds text a old new → IsPlan text (take (i + 1) areas) new
+pub plan_on : (text : List ℕ) (areas : List (Area × Option Locn)) (i : ℕ) (a : Area × Option Locn) (old new : Plan) → i < length areas
+    → a ≡ get_or areas i a → IsPlan text (take i areas) old → Adds text a old new → IsPlan text (take (i + 1) areas) new
 plan_on text areas i a old new within is plan adds =
-    subst (λ (l : List (Area × Option Locn)). IsPlan text l new) (sym (take_more areas i a within ∙ ap (λ (b : Area × Option Locn). take i areas ++ b ∷ []) (sym is)))
+    subst (λ (l : List (Area × Option Locn)). IsPlan text l new)
+        (sym (take_more areas i a within ∙ ap (λ (b : Area × Option Locn). take i areas ++ b ∷ []) (sym is)))
     (plan_push text a (take i areas) old new plan adds)
 
 -- all of them
-pub plan_all : (text : List ℕ) (areas : List (Area × Option Locn)) (i : ℕ) (plan : Plan) → length areas ≤ i → IsPlan text (take i areas) plan → IsPlan text areas plan
+pub plan_all : (text : List ℕ) (areas : List (Area × Option Locn)) (i : ℕ) (plan : Plan) → length areas ≤ i
+    → IsPlan text (take i areas) plan → IsPlan text areas plan
 plan_all text areas i plan past h = subst (λ (l : List (Area × Option Locn)). IsPlan text l plan) (take_all i areas past) h
 
 -- the area that can't take the text is the first one
-pub cause_on : (text : List ℕ) (areas : List (Area × Option Locn)) (i : ℕ) (a : Area × Option Locn) (plan : Plan) (refusal : CommitRefusal) → i < length areas → a ≡ get_or areas i a → IsPlan text (take i areas) plan → IsCause text (a ∷ []) refusal → IsCause text areas refusal
+pub cause_on : (text : List ℕ) (areas : List (Area × Option Locn)) (i : ℕ) (a : Area × Option Locn) (plan : Plan) (refusal : CommitRefusal)
+    → i < length areas → a ≡ get_or areas i a → IsPlan text (take i areas) plan → IsCause text (a ∷ []) refusal → IsCause text areas refusal
 cause_on text areas i a plan NoMemory within is done cause = tt
 cause_on text areas i a plan (TooLarge n r) within is done cause =
     let front : first_too_large text (take (i + 1) areas) ≡ Some (n, r) =
-    ap (first_too_large text) (take_more areas i a within ∙ ap (λ (b : Area × Option Locn). take i areas ++ b ∷ []) (sym is)) ∙ first_push text a (take i areas) done.room ∙ cause
+    ap (first_too_large text) (take_more areas i a within ∙ ap (λ (b : Area × Option Locn). take i areas ++ b ∷ []) (sym is))
+        ∙ first_push text a (take i areas) done.room ∙ cause
     in
-    ap (first_too_large text) (sym (take-append-drop (i + 1) areas)) ∙ first_found text a (take (i + 1) areas) (drop (i + 1) areas) (n, r) front
+    ap (first_too_large text) (sym (take-append-drop (i + 1) areas))
+        ∙ first_found text a (take (i + 1) areas) (drop (i + 1) areas) (n, r) front
 
 -- disks are small
-pub small_disks : (areas : List (Area × Option Locn)) (flush : FinSet nat_cmp) → AreCommitted areas flush → All (λ (a : Area × Option Locn). a.0.pv < 64) areas
+pub small_disks : (areas : List (Area × Option Locn)) (flush : FinSet nat_cmp) → AreCommitted areas flush
+    → All (λ (a : Area × Option Locn). a.0.pv < 64) areas
 small_disks areas flush committed k d within = (committed.on_disks k d within).0
 
 -- a next text can be committed to the areas with their new entries
-again : (text : List ℕ) (areas : List (Area × Option Locn)) (flush : FinSet nat_cmp) → AreCommitted areas flush → first_too_large text areas ≡ None → AreCommitted (with_entries text areas) flush
+again : (text : List ℕ) (areas : List (Area × Option Locn)) (flush : FinSet nat_cmp) → AreCommitted areas flush
+    → first_too_large text areas ≡ None → AreCommitted (with_entries text areas) flush
 again text areas flush committed room_is =
     let f : Area × Option Locn → Area × Option Locn = λ a. (a.0, Some (new_entry text a)) in
     record {
       some = omega (arith, committed.some, length-map areas f);
       take = All-map CanTake f areas
-          (λ k d within. ((committed.take k d within).0, (entry_inside text (get_or areas k d) (is_placed text (get_or areas k d) (committed.take k d within) (rooms text areas room_is k d within))).0));
+          (λ k d within. ((committed.take k d within).0,
+              (entry_inside text (get_or areas k d) (is_placed text (get_or areas k d) (committed.take k d within)
+              (rooms text areas room_is k d within))).0));
       apart = λ i j d below within.
           let in_j : j < length areas = omega (arith, within, length-map areas f) in
-          subst₂ LieApart (sym (get_or-map f areas i d d (omega (arith, in_j, below)))) (sym (get_or-map f areas j d d in_j)) (committed.apart i j d below in_j);
+          subst₂ LieApart (sym (get_or-map f areas i d d (omega (arith, in_j, below)))) (sym (get_or-map f areas j d d in_j))
+              (committed.apart i j d below in_j);
       on_disks = All-map (IsOnDiskOf flush) f areas committed.on_disks;
     }
 
-within_again : (sizes text : List ℕ) (areas : List (Area × Option Locn)) (flush : FinSet nat_cmp) → AreWithin sizes areas flush → AreWithin sizes (with_entries text areas) flush
+within_again : (sizes text : List ℕ) (areas : List (Area × Option Locn)) (flush : FinSet nat_cmp) → AreWithin sizes areas flush
+    → AreWithin sizes (with_entries text areas) flush
 within_again sizes text areas flush inside = record {
-  areas_lie = All-map (λ (a : Area × Option Locn). IsWithin sizes (area_span a.0)) (λ (a : Area × Option Locn). (a.0, Some (new_entry text a))) areas inside.areas_lie;
+  areas_lie =
+      All-map (λ (a : Area × Option Locn). IsWithin sizes (area_span a.0)) (λ (a : Area × Option Locn). (a.0, Some (new_entry text a)))
+          areas inside.areas_lie;
   disks_are = inside.disks_are;
 }
 
-module _ (text : List ℕ) (areas : List (Area × Option Locn)) (flush disks : FinSet nat_cmp) (plan : Plan) (is_plan : IsPlan text areas plan) (are : disks ≡ area_disks areas) (committed : AreCommitted areas flush) where
+module _ (text : List ℕ) (areas : List (Area × Option Locn)) (flush disks : FinSet nat_cmp) (plan : Plan) (is_plan : IsPlan text areas plan)
+    (are : disks ≡ area_disks areas) (committed : AreCommitted areas flush) where
   -- what is prepared
   is_prepared : (prepared : Prepared) → HasBatches plan flush disks prepared → IsPrepared prepared areas flush text
   is_prepared prepared has = record {
@@ -180,11 +246,15 @@ module _ (text : List ℕ) (areas : List (Area × Option Locn)) (flush disks : F
     header_disks = has.header_disks ∙ ap disks_in are;
     publish_disks = has.publish_disks ∙ ap disks_in are;
     entries = has.entries ∙ is_plan.entries;
-    again = subst (λ (l : List (Area × Option Locn)). AreCommitted l flush) (sym (has.entries ∙ is_plan.entries)) (again text areas flush committed is_plan.room);
+    again =
+        subst (λ (l : List (Area × Option Locn)). AreCommitted l flush) (sym (has.entries ∙ is_plan.entries))
+            (again text areas flush committed is_plan.room);
     read = is_plan.read;
   }
 
-  pub prepared_result : (result : Result Prepared CommitRefusal) → IfOk result (HasBatches plan flush disks) → IfErr result (λ (refusal : CommitRefusal). refusal ≡ NoMemory) → MatchResult result (λ (prepared : Prepared). IsPrepared prepared areas flush text) (IsCause text areas)
+  pub prepared_result : (result : Result Prepared CommitRefusal) → IfOk result (HasBatches plan flush disks)
+      → IfErr result (λ (refusal : CommitRefusal). refusal ≡ NoMemory)
+      → MatchResult result (λ (prepared : Prepared). IsPrepared prepared areas flush text) (IsCause text areas)
   prepared_result (Ok prepared) has none = is_prepared prepared has
   prepared_result (Err refusal) has none = subst (IsCause text areas) (sym none) tt
 
@@ -192,15 +262,19 @@ module _ (text : List ℕ) (areas : List (Area × Option Locn)) (flush disks : F
   placed : All (IsPlaced text) areas
   placed k d within = is_placed text (get_or areas k d) (committed.take k d within) (rooms text areas is_plan.room k d within)
 
-  starts : (prepared : Prepared) → HasBatches plan flush disks prepared → (sizes : List ℕ) → AreWithin sizes areas flush → CanStart sizes prepared
+  starts : (prepared : Prepared) → HasBatches plan flush disks prepared → (sizes : List ℕ) → AreWithin sizes areas flush
+      → CanStart sizes prepared
   starts prepared has sizes inside =
       let few : (disks' : List ℕ) → Type 0 = λ disks'. All (λ (pv : ℕ). pv < length sizes) disks' in
       let p = is_prepared prepared has in
-      let all_disks : few (disks_in (area_disks areas)) = area_disks_too (λ (pv : ℕ). pv < length sizes) areas flush committed.on_disks inside.disks_are in
+      let all_disks : few (disks_in (area_disks areas)) =
+          area_disks_too (λ (pv : ℕ). pv < length sizes) areas flush committed.on_disks inside.disks_are in
       let writes : List (Span × List (List ℕ)) → Type 0 = λ l. (0 < length l) × LieIn sizes l in
       let w1 = subst writes (sym p.texts) (texts_some text areas committed.some, texts_lie sizes text areas placed inside.areas_lie) in
-      let w2 = subst writes (sym p.headers) (headers_some text areas committed.some, headers_lie sizes text areas placed inside.areas_lie) in
-      let w3 = subst writes (sym p.publish) (publish_some text areas committed.some, publish_lie sizes text areas placed inside.areas_lie) in
+      let w2 =
+          subst writes (sym p.headers) (headers_some text areas committed.some, headers_lie sizes text areas placed inside.areas_lie) in
+      let w3 =
+          subst writes (sym p.publish) (publish_some text areas committed.some, publish_lie sizes text areas placed inside.areas_lie) in
       let d1 = subst few (sym p.text_disks) inside.disks_are in
       let d2 = subst few (sym p.header_disks) all_disks in
       let d3 = subst few (sym p.publish_disks) all_disks in
@@ -210,14 +284,20 @@ module _ (text : List ℕ) (areas : List (Area × Option Locn)) (flush disks : F
         publish = record { writes = w3.0; lie = w3.1; within = d3 };
       }
 
-  pub start_result : (result : Result Prepared CommitRefusal) → IfOk result (HasBatches plan flush disks) → (sizes : List ℕ) → AreWithin sizes areas flush → IfOk result (λ (prepared : Prepared). CanStart sizes prepared × AreWithin sizes prepared.areas flush)
+  pub start_result : (result : Result Prepared CommitRefusal) → IfOk result (HasBatches plan flush disks) → (sizes : List ℕ)
+      → AreWithin sizes areas flush → IfOk result (λ (prepared : Prepared). CanStart sizes prepared × AreWithin sizes prepared.areas flush)
   start_result (Ok prepared) has sizes inside =
-      (starts prepared has sizes inside, subst (λ (l : List (Area × Option Locn)). AreWithin sizes l flush) (sym (has.entries ∙ is_plan.entries)) (within_again sizes text areas flush inside))
+      (starts prepared has sizes inside, subst (λ (l : List (Area × Option Locn)). AreWithin sizes l flush)
+          (sym (has.entries ∙ is_plan.entries)) (within_again sizes text areas flush inside))
   start_result (Err refusal) has sizes inside = tt
 
 -- the same for the area at its place in the list
-pub plan_at : (text : List ℕ) (areas : List (Area × Option Locn)) (i : ℕ) (d : Area × Option Locn) (old new : Plan) → i < length areas → IsPlan text (take i areas) old → Adds text (get_or areas i d) old new → IsPlan text (take (i + 1) areas) new
-plan_at text areas i d old new within plan adds = plan_on text areas i (get_or areas i d) old new within (get_or_default areas i d (get_or areas i d) within) plan adds
+pub plan_at : (text : List ℕ) (areas : List (Area × Option Locn)) (i : ℕ) (d : Area × Option Locn) (old new : Plan) → i < length areas
+    → IsPlan text (take i areas) old → Adds text (get_or areas i d) old new → IsPlan text (take (i + 1) areas) new
+plan_at text areas i d old new within plan adds =
+    plan_on text areas i (get_or areas i d) old new within (get_or_default areas i d (get_or areas i d) within) plan adds
 
-pub cause_at : (text : List ℕ) (areas : List (Area × Option Locn)) (i : ℕ) (d : Area × Option Locn) (plan : Plan) (refusal : CommitRefusal) → i < length areas → IsPlan text (take i areas) plan → IsCause text (get_or areas i d ∷ []) refusal → IsCause text areas refusal
-cause_at text areas i d plan refusal within done cause = cause_on text areas i (get_or areas i d) plan refusal within (get_or_default areas i d (get_or areas i d) within) done cause
+pub cause_at : (text : List ℕ) (areas : List (Area × Option Locn)) (i : ℕ) (d : Area × Option Locn) (plan : Plan) (refusal : CommitRefusal)
+    → i < length areas → IsPlan text (take i areas) plan → IsCause text (get_or areas i d ∷ []) refusal → IsCause text areas refusal
+cause_at text areas i d plan refusal within done cause =
+    cause_on text areas i (get_or areas i d) plan refusal within (get_or_default areas i d (get_or areas i d) within) done cause

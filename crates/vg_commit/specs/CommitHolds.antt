@@ -96,11 +96,13 @@ IsAhead commit puts batch = (writes_of batch ≡ puts) × (disks_of batch ≡ di
 abbrev pub HoldsBefore : Commit → Option Batch → View → Record → Type 0
 HoldsBefore commit (Some headers) batch told = BatchHolds (is_own commit) (is_text commit) (IsOld commit) (IsNew commit) batch told
     × All (λ (pv : ℕ). FlushesSince batch told commit.from pv) (disks_in commit.flush)
-HoldsBefore commit None batch told = BatchHolds (is_own commit) (is_header commit) (IsOldWithTexts commit) (IsOld commit) batch told × HaveFlushed commit told.steps
+HoldsBefore commit None batch told =
+    BatchHolds (is_own commit) (is_header commit) (IsOldWithTexts commit) (IsOld commit) batch told × HaveFlushed commit told.steps
 
 -- and while the headers are that publish it
 abbrev pub HoldsSince : Commit → View → Record → Type 0
-HoldsSince commit batch told = BatchHolds (is_own commit) (is_header commit) (IsEither commit) (IsNew commit) batch told × HaveFlushed commit told.steps
+HoldsSince commit batch told =
+    BatchHolds (is_own commit) (is_header commit) (IsEither commit) (IsNew commit) batch told × HaveFlushed commit told.steps
 
 -- the disks that the batch on its way flushes
 abbrev pub FlushesOf : Commit → Option Batch → List ℕ → Type 0

@@ -26,9 +26,11 @@ use Rattle.vg_commit.specs.declared.precommitting.PreStep.{PreStep}
 use Rattle.vg_commit.specs.declared.precommitting.PreStep.TheVariants as pre
 use Rattle.vg_commit.specs.declared.precommitting.Precommitting.{Precommitting}
 use Rattle.vg_commit.specs.declared.prepared.Prepared.{Prepared}
-use Rattle.vg_commit.specs.CommitHolds.{ComCame, ComHolds, Commit, FailedHolds, HaveFlushed, IsEither, IsOld, IsSound, PreCame, PreHolds, ReadyHolds, WholeHolds, is_header, is_own, is_text, publish_in}
+use Rattle.vg_commit.specs.CommitHolds.{ComCame, ComHolds, Commit, FailedHolds, HaveFlushed, IsEither, IsOld, IsSound, PreCame, PreHolds,
+    ReadyHolds, WholeHolds, is_header, is_own, is_text, publish_in}
 use Rattle.vg_commit.specs.Commits.{written_at}
-use Rattle.vg_commit.specs.Phases.{ComGoes, ComView, FitsAhead, PreGoes, PreView, Publishes, ReadyView, StartsCommit, com_view, flushes_left, ops_ahead, ops_left, pre_view, sectors_ahead, sectors_left}
+use Rattle.vg_commit.specs.Phases.{ComGoes, ComView, FitsAhead, PreGoes, PreView, Publishes, ReadyView, StartsCommit, com_view,
+    flushes_left, ops_ahead, ops_left, pre_view, sectors_ahead, sectors_left}
 use Rattle.vg_commit.specs.Preparing.{CanRun, CanStart, IsPrepared, ops_of, sectors_in}
 use Rattle.vg_commit.specs.SectorReading.{AllShow, EachShows, new_reading, old_reading}
 use Rattle.vg_commit.specs.Written.{in_areas}
@@ -47,7 +49,8 @@ ShowsNew commit = EachImage (AllShow (new_reading commit.text) commit.areas)
 
 -- the commit that begins in this state
 abbrev pub begun_in : State → List ℕ → List (Area × Option Locn) → (Area × Option Locn → List ℕ) → set.FinSet nat_cmp → Commit
-begun_in state text areas bytes flush = record { text = text; areas = areas; bytes = bytes; flush = flush; from = state.next_tag; faults = state.faults }
+begun_in state text areas bytes flush =
+    record { text = text; areas = areas; bytes = bytes; flush = flush; from = state.next_tag; faults = state.faults }
 
 -- what it goes on to lies in disks of these sizes
 abbrev pub StaysWithin : List ℕ → PreStep → Type 0
@@ -64,14 +67,18 @@ FlushesWithin sizes step = Unit {0}
 -- It begins where no write to an area is in flight and in every image each area shows its entry, and all images have the
 -- same bytes there.
 abbrev pub BeginsHolding : Type 0
-BeginsHolding = (prepared : Prepared) (text : List ℕ) (areas : List (Area × Option Locn)) (bytes : Area × Option Locn → List ℕ) (flush : set.FinSet nat_cmp) (old new : State) (view : PreView)
+BeginsHolding =
+    (prepared : Prepared) (text : List ℕ) (areas : List (Area × Option Locn)) (bytes : Area × Option Locn → List ℕ)
+        (flush : set.FinSet nat_cmp) (old new : State) (view : PreView)
     → IsLawful old → IsPrepared prepared areas flush text → StartsCommit old prepared view new
     → IfSome old.told (λ told. EachImage (AllShow (old_reading bytes) areas) told × AreStill (in_areas areas) told)
     → PreHolds (begun_in old text areas bytes flush) view new × AllAlong (ShowsOld (begun_in old text areas bytes flush)) old new
 
 -- at a completion of its own, well or not, it goes on so, and each area shows the old entry at each moment
 abbrev pub GoesHolding : Type 0
-GoesHolding = (commit : Commit) (before old new : State) (view : PreView) (done : Done) (step : PreStep) → IsLawful old → Completes before done old → PreGoes old view done step new
+GoesHolding =
+    (commit : Commit) (before old new : State) (view : PreView) (done : Done) (step : PreStep) → IsLawful old → Completes before done old
+        → PreGoes old view done step new
     → PreHolds commit view before → PreCame commit step new × AllAlong (ShowsOld commit) before new
 
 -- it is published: from here on each area shows the old entry or the new one
@@ -81,7 +88,9 @@ PublishesHolding = (commit : Commit) (old new : State) (ready : ReadyView) (view
 
 -- and at a completion of its own it goes on so
 abbrev pub CommitsHolding : Type 0
-CommitsHolding = (commit : Commit) (before old new : State) (view : ComView) (done : Done) (step : ComStep) → IsLawful old → Completes before done old → ComGoes old view done step new
+CommitsHolding =
+    (commit : Commit) (before old new : State) (view : ComView) (done : Done) (step : ComStep) → IsLawful old → Completes before done old
+        → ComGoes old view done step new
     → ComHolds commit view before → ComCame commit step new × AllAlong (ShowsEither commit) before new
 
 -- ---- beside it
@@ -108,16 +117,22 @@ WholeElsewhere = (commit : Commit) (committed : Committed) (tags : List ℕ) (ol
 
 -- the completion of another operation goes on elsewhere
 abbrev pub OthersComplete : Type 0
-OthersComplete = (commit : Commit) (tags : List ℕ) (old new : State) (done : Done) → (IsAmong tags done.tag → ⊥) → Completes old done new → GoesElsewhere (is_own commit) tags old new
+OthersComplete =
+    (commit : Commit) (tags : List ℕ) (old new : State) (done : Done) → (IsAmong tags done.tag → ⊥) → Completes old done new
+        → GoesElsewhere (is_own commit) tags old new
 
 -- and the submission of one that writes none of the areas
 abbrev pub OthersSubmit : Type 0
-OthersSubmit = (commit : Commit) (tags : List ℕ) (old new : State) (op : Op) (tag : ℕ) → ((pv sector : ℕ) → IsTrue (is_own commit pv sector) → writes (work_of op) pv sector ≡ false)
+OthersSubmit =
+    (commit : Commit) (tags : List ℕ) (old new : State) (op : Op) (tag : ℕ)
+        → ((pv sector : ℕ) → IsTrue (is_own commit pv sector) → writes (work_of op) pv sector ≡ false)
     → Submits old op tag new → GoesElsewhere (is_own commit) tags old new
 
 -- and that of many
 abbrev pub OthersSubmitAll : Type 0
-OthersSubmitAll = (commit : Commit) (tags : List ℕ) (old new : State) (works : List Work) (theirs : List ℕ) → ((pv sector : ℕ) → IsTrue (is_own commit pv sector) → writes_at works pv sector ≡ false)
+OthersSubmitAll =
+    (commit : Commit) (tags : List ℕ) (old new : State) (works : List Work) (theirs : List ℕ)
+        → ((pv sector : ℕ) → IsTrue (is_own commit pv sector) → writes_at works pv sector ≡ false)
     → SubmitsWorks old works theirs new → GoesElsewhere (is_own commit) tags old new
 
 -- it writes sectors of its areas alone
@@ -135,23 +150,34 @@ pub record SpendsAhead (old : State) (ops sectors ops' sectors' : ℕ) (new : St
 
 -- so where all of it is spare at the beginning, each call finds spare what it asks for
 abbrev pub BeginsSpending : Type 0
-BeginsSpending = (prepared : Prepared) (old new : State) (next : Precommitting) → CanStart old.sizes prepared → StartsCommit old prepared (pre_view next) new
-    → SpendsAhead old (ops_of prepared.texts + ops_of prepared.headers) (sectors_in prepared.texts + sectors_in prepared.headers) (ops_ahead (pre_view next)) (sectors_ahead (pre_view next)) new
+BeginsSpending =
+    (prepared : Prepared) (old new : State) (next : Precommitting) → CanStart old.sizes prepared
+        → StartsCommit old prepared (pre_view next) new
+    → SpendsAhead old (ops_of prepared.texts + ops_of prepared.headers) (sectors_in prepared.texts + sectors_in prepared.headers)
+    (ops_ahead (pre_view next)) (sectors_ahead (pre_view next)) new
     × FitsAhead new.sizes (pre_view next)
 
 -- at a completion of its own
 abbrev pub GoesSpending : Type 0
-GoesSpending = (before old new : State) (now : Precommitting) (done : Done) (step : PreStep) → FitsAhead before.sizes (pre_view now) → Completes before done old → PreGoes old (pre_view now) done step new
-    → SpendsAhead before (ops_ahead (pre_view now)) (sectors_ahead (pre_view now)) (ops_left step) (sectors_left step) new × StaysWithin new.sizes step
+GoesSpending =
+    (before old new : State) (now : Precommitting) (done : Done) (step : PreStep) → FitsAhead before.sizes (pre_view now)
+        → Completes before done old → PreGoes old (pre_view now) done step new
+    → SpendsAhead before (ops_ahead (pre_view now)) (sectors_ahead (pre_view now)) (ops_left step) (sectors_left step) new
+    × StaysWithin new.sizes step
 
 -- where it is published
 abbrev pub PublishesSpending : Type 0
-PublishesSpending = (old new : State) (ready : ReadyView) (next : Committing) → CanRun old.sizes ready.publish → Publishes old ready (com_view next) new
-    → SpendsAhead old (ops_of ready.publish) (sectors_in ready.publish) (to_come (com_view next).batch) 0 new × All (λ (pv : ℕ). pv < length new.sizes) (com_view next).batch.flush
+PublishesSpending =
+    (old new : State) (ready : ReadyView) (next : Committing) → CanRun old.sizes ready.publish → Publishes old ready (com_view next) new
+    → SpendsAhead old (ops_of ready.publish) (sectors_in ready.publish) (to_come (com_view next).batch) 0 new
+    × All (λ (pv : ℕ). pv < length new.sizes) (com_view next).batch.flush
 
 -- and at a completion of its own since
 abbrev pub CommitsSpending : Type 0
-CommitsSpending = (before old new : State) (now : Committing) (done : Done) (step : ComStep) → All (λ (pv : ℕ). pv < length before.sizes) (com_view now).batch.flush → Completes before done old → ComGoes old (com_view now) done step new
+CommitsSpending =
+    (before old new : State) (now : Committing) (done : Done) (step : ComStep)
+        → All (λ (pv : ℕ). pv < length before.sizes) (com_view now).batch.flush → Completes before done old
+        → ComGoes old (com_view now) done step new
     → SpendsAhead before (to_come (com_view now).batch) 0 (flushes_left step) 0 new × FlushesWithin new.sizes step
 
 -- ---- what each image shows
@@ -162,15 +188,21 @@ PreShows = (commit : Commit) (view : PreView) (state : State) → PreHolds commi
 
 -- once it is ready each disk has been flushed since it began, too
 abbrev pub ReadyShows : Type 0
-ReadyShows = (commit : Commit) (view : ReadyView) (state : State) → ReadyHolds commit view state → IfSome state.told (λ told. ShowsOld commit told × HaveFlushed commit told.steps)
+ReadyShows =
+    (commit : Commit) (view : ReadyView) (state : State) → ReadyHolds commit view state
+        → IfSome state.told (λ told. ShowsOld commit told × HaveFlushed commit told.steps)
 
 -- since it is published: the old entry or the new one in each area
 abbrev pub ComShows : Type 0
-ComShows = (commit : Commit) (view : ComView) (state : State) → ComHolds commit view state → IfSome state.told (λ told. ShowsEither commit told × HaveFlushed commit told.steps)
+ComShows =
+    (commit : Commit) (view : ComView) (state : State) → ComHolds commit view state
+        → IfSome state.told (λ told. ShowsEither commit told × HaveFlushed commit told.steps)
 
 -- once it is whole: the new one in all
 abbrev pub WholeShows : Type 0
-WholeShows = (commit : Commit) (committed : Committed) (state : State) → WholeHolds commit committed state → IfSome state.told (λ told. ShowsNew commit told × HaveFlushed commit told.steps)
+WholeShows =
+    (commit : Commit) (committed : Committed) (state : State) → WholeHolds commit committed state
+        → IfSome state.told (λ told. ShowsNew commit told × HaveFlushed commit told.steps)
 
 -- where it was lost nothing was published
 abbrev pub LostShows : Type 0
@@ -178,4 +210,5 @@ LostShows = (commit : Commit) (pv : ℕ) (state : State) → FailedHolds commit 
 
 -- where it failed since it was published each area shows the old entry or the new one
 abbrev pub FencedShows : Type 0
-FencedShows = (commit : Commit) (pv : ℕ) (state : State) → FailedHolds commit (IsEither commit) pv state → IfSome state.told (ShowsEither commit)
+FencedShows =
+    (commit : Commit) (pv : ℕ) (state : State) → FailedHolds commit (IsEither commit) pv state → IfSome state.told (ShowsEither commit)

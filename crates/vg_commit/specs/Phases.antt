@@ -94,7 +94,9 @@ StartsCommit old prepared view new = Starts old (writes_of prepared.texts) (disk
 
 -- once its batch is through it submits the headers, or it is ready
 abbrev pub GoesOn : State → PreView → Option Batch → PreStep → State → Type 0
-GoesOn old view (Some headers) (pre.Going next) new = Starts old (writes_of headers) (disks_of headers) (pre_view next).batch new × (pre_view next ≡ record view { batch = (pre_view next).batch; headers = None })
+GoesOn old view (Some headers) (pre.Going next) new =
+    Starts old (writes_of headers) (disks_of headers) (pre_view next).batch new
+        × (pre_view next ≡ record view { batch = (pre_view next).batch; headers = None })
 GoesOn old view None (pre.Ready ready) new = (new ≡ old) × (ready_view ready ≡ record { publish = view.publish; areas = view.areas })
 GoesOn old view headers step new = ⊥
 
@@ -114,7 +116,9 @@ pub record PreGoes (old : State) (view : PreView) (done : Done) (step : PreStep)
 
 -- the headers with the new entries in force were submitted
 abbrev pub Publishes : State → ReadyView → ComView → State → Type 0
-Publishes old ready view new = Starts old (writes_of ready.publish) (disks_of ready.publish) view.batch new × (view ≡ record { batch = view.batch; areas = ready.areas })
+Publishes old ready view new =
+    Starts old (writes_of ready.publish) (disks_of ready.publish) view.batch new
+        × (view ≡ record { batch = view.batch; areas = ready.areas })
 
 -- what it does at what its batch came to, since it is published
 abbrev pub ComFollows : State → ComView → BatchStep → ComStep → State → Type 0

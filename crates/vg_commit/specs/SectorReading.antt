@@ -12,7 +12,9 @@ use Rattle.vg_commit.specs.Showing.{Names, Shows}
 -- the value has each byte of the text that stands in this sector of an area of this size
 abbrev pub HasPart : ℕ → Option Locn → List ℕ → ℕ → List ℕ → Type 0
 HasPart size None bytes sector value = Unit {0}
-HasPart size (Some locn) bytes sector value = (j : ℕ) → j < locn.size → byte_place size locn.offset j / 512 ≡ sector → slice_index value (byte_place size locn.offset j % 512) ≡ slice_index bytes j
+HasPart size (Some locn) bytes sector value =
+    (j : ℕ) → j < locn.size → byte_place size locn.offset j / 512 ≡ sector
+        → slice_index value (byte_place size locn.offset j % 512) ≡ slice_index bytes j
 
 -- what is asked of the value of this sector of the area
 pub record Reads (area : Area) (entry : Option Locn) (bytes : List ℕ) (sector : ℕ) (value : List ℕ) : Type 0 where
@@ -33,7 +35,8 @@ new_reading text area = (Some (new_entry text area), stored text)
 
 -- the value of this sector of a disk is as the reading asks, if it is one of this area
 abbrev pub ReadsAt : Reading → ℕ → ℕ → List ℕ → Area × Option Locn → Type 0
-ReadsAt reading pv sector value area = IsTrue (covers (area_span area.0) pv sector) → Reads area.0 (reading area).0 (reading area).1 (sector - area.0.start / 512) value
+ReadsAt reading pv sector value area =
+    IsTrue (covers (area_span area.0) pv sector) → Reads area.0 (reading area).0 (reading area).1 (sector - area.0.start / 512) value
 
 -- and of each area
 abbrev pub AllRead : Reading → List (Area × Option Locn) → ℕ → ℕ → List ℕ → Type 0

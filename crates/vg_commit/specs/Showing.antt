@@ -15,7 +15,8 @@ sectors_of area image sector = image area.pv (area.start / 512 + sector)
 -- the header says that this text is committed, or that none is; one that is refused says none
 abbrev pub Names : Area → Option Locn → List ℕ → Type 0
 Names area (Some locn) header = IsEntry header area.start area.size (Text locn)
-Names area None header = IsEntry header area.start area.size Nothing ⊎ ((refusal : MdaRefusal) × IsEntry header area.start area.size (Refused refusal))
+Names area None header =
+    IsEntry header area.start area.size Nothing ⊎ ((refusal : MdaRefusal) × IsEntry header area.start area.size (Refused refusal))
 
 -- the ring has these bytes at the entry
 abbrev pub HasBytes : Area → Option Locn → List ℕ → (ℕ → List ℕ) → Type 0

@@ -26,7 +26,8 @@ with_entries text areas = map (λ (area : Area × Option Locn). (area.0, Some (n
 
 -- a header of the area with these two entries
 abbrev pub header_of : Area → Option Locn → Option Locn → MdaHeader
-header_of area committed precommitted = record { start = area.start; size = area.size; committed = committed; precommitted = precommitted; ignored = false }
+header_of area committed precommitted =
+    record { start = area.start; size = area.size; committed = committed; precommitted = precommitted; ignored = false }
 
 -- the header before the text is published: the old entry is in force, and the new one stands as entry 1
 abbrev pub header_before : List ℕ → Area × Option Locn → MdaHeader
@@ -60,7 +61,8 @@ puts_on spans sectors = (spans.0, take spans.0.count sectors) ∷ rest_put spans
 
 -- the writes of the text in an area
 abbrev pub text_puts : List ℕ → Area × Option Locn → List (Span × List (List ℕ))
-text_puts text area = puts_on (ring_spans area.0 (next_offset area.0.size area.1) (length text + 1)) (text_sectors text (need (length text + 1)))
+text_puts text area =
+    puts_on (ring_spans area.0 (next_offset area.0.size area.1) (length text + 1)) (text_sectors text (need (length text + 1)))
 
 -- what a commit writes to an area: the text's sectors, and the header before and after it is published
 pub record AreaWrites : Type 0 where

@@ -24,10 +24,12 @@ none_below pvs none pv small =
     let count : length (range_with_len 0 64) ≡ 64 = length-range_with_len 0 64 in
     ap (λ (n : ℕ). set.contains pvs n) (at) ∙ all pv 0 (omega (arith, count, small))
 
-pub all_read : (found : Found) (first : Option ℕ) → HasShape found → first ≡ first_of found.unread → ((pv : ℕ) → ¬ (first ≡ Some pv)) → found.unread ≡ set.empty
+pub all_read : (found : Found) (first : Option ℕ) → HasShape found → first ≡ first_of found.unread → ((pv : ℕ) → ¬ (first ≡ Some pv))
+    → found.unread ≡ set.empty
 all_read found first shape is other =
     let none : first_of found.unread ≡ None = sym is ∙ no_number first other in
-    set.same_set nat_cmp_total set.nat_cmp-IsAntisymmetric found.unread set.empty (λ pv. absent pv (set.contains found.unread pv) refl ∙ sym (set.contains-empty nat_cmp pv))
+    set.same_set nat_cmp_total set.nat_cmp-IsAntisymmetric found.unread set.empty
+        (λ pv. absent pv (set.contains found.unread pv) refl ∙ sym (set.contains-empty nat_cmp pv))
   where
     absent : (pv : ℕ) (b : Bool) → set.contains found.unread pv ≡ b → b ≡ false
     absent pv true there =

@@ -15,16 +15,20 @@ use Rattle.vg_found.specs.Disks.{disk_with, header_on, headers_by_id, put_header
 
 -- one disk more in front of the others
 one_more : (first end n : ℕ) (id : List ℕ) (o : Option PvHeader) (numbers : IdNumbers) → unwrap_or (map.get numbers id) end ≡ first + 1 + n
-    → unwrap_or (map.get (put_header first o numbers) id) end ≡ first + cond (unwrap_or (option_map (λ (h : PvHeader). same_bytes h.id id) o) false) 0 (n + 1)
+    → unwrap_or (map.get (put_header first o numbers) id) end
+    ≡ first + cond (unwrap_or (option_map (λ (h : PvHeader). same_bytes h.id id) o) false) 0 (n + 1)
 one_more first end n id None numbers later = let e : first + 1 + n ≡ first + (n + 1) = omega arith in later ∙ e
 one_more first end n id (Some header) numbers later =
-    ap (λ (at : Option ℕ). unwrap_or at end) (get_put numbers header.id first id ∙ ap (λ (b : Bool). cond b (Some first) (map.get numbers id)) (pointwise-same_bytes header.id id))
+    ap (λ (at : Option ℕ). unwrap_or at end)
+        (get_put numbers header.id first id ∙ ap (λ (b : Bool). cond b (Some first) (map.get numbers id))
+        (pointwise-same_bytes header.id id))
     ∙ by_test (same_bytes header.id id) where
       by_test : (b : Bool) → unwrap_or (cond b (Some first) (map.get numbers id)) end ≡ first + cond b 0 (n + 1)
       by_test true = let e : first ≡ first + 0 = omega arith in e
       by_test false = let e : first + 1 + n ≡ first + (n + 1) = omega arith in later ∙ e
 
-found_from : (first : ℕ) (disks : List Disk) (id : List ℕ) → unwrap_or (map.get (headers_by_id first disks) id) (first + length disks) ≡ first + disk_with disks id
+found_from : (first : ℕ) (disks : List Disk) (id : List ℕ)
+    → unwrap_or (map.get (headers_by_id first disks) id) (first + length disks) ≡ first + disk_with disks id
 found_from first [] id = ap (λ (at : Option ℕ). unwrap_or at (first + 0)) (get-empty (slice_cmp nat_cmp) id)
 found_from first (disk ∷ disks) id =
     let end : first + length (disk ∷ disks) ≡ first + 1 + length disks = omega arith in

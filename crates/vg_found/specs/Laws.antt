@@ -13,7 +13,8 @@ use Rattle.mda_ring.specs.Areas.{CanTake, LieApart}
 -- on disks that can stand, the next text can be placed in each area that isn't ignored, and no two of these share a sector
 abbrev pub AreasAreShaped : Type 0
 AreasAreShaped =
-    (disks : List Disk) → ((pv : ℕ) (disk : Disk) → slice_get disks pv ≡ Some disk → IsDisk pv disk) → All CanTake (held_areas 0 disks) × AllPairs LieApart (held_areas 0 disks)
+    (disks : List Disk) → ((pv : ℕ) (disk : Disk) → slice_get disks pv ≡ Some disk → IsDisk pv disk)
+        → All CanTake (held_areas 0 disks) × AllPairs LieApart (held_areas 0 disks)
 
 -- a disk whose header has this id
 abbrev pub HasHeader : Disk → List ℕ → Type 0
@@ -24,4 +25,5 @@ abbrev pub WholeHasItsDisks : Type 0
 WholeHasItsDisks =
     (found : Found) (group : Group) → HasShape found → IsWhole found → found.group ≡ Some group
     → (i : ℕ) (pv : List ℕ × Pv) → slice_get group.pvs i ≡ Some pv
-    → (number : ℕ) × (disk : Disk) × (slice_get found.disk_of i ≡ Some number) × (number < length found.disks) × (slice_get found.disks number ≡ Some disk) × HasHeader disk pv.1.id
+    → (number : ℕ) × (disk : Disk) × (slice_get found.disk_of i ≡ Some number) × (number < length found.disks)
+    × (slice_get found.disks number ≡ Some disk) × HasHeader disk pv.1.id

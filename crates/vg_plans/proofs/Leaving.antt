@@ -36,7 +36,8 @@ pub record MayLeave (group : Group) (number : ℕ) : Type 0 where
   pub others : length group.pvs ≢ 1
   pub seqno : group.seqno ≢ 4294967295
 
-pub may_leave : (state : GroupState) (group : Group) (name : List ℕ) (number : ℕ) → first_refusal (leaving_tests state group name number) ≡ None → MayLeave group number
+pub may_leave : (state : GroupState) (group : Group) (name : List ℕ) (number : ℕ)
+    → first_refusal (leaving_tests state group name number) ≡ None → MayLeave group number
 may_leave state group name number none =
     let rows = none_holds (leaving_tests state group name number) none in
     record {
@@ -46,8 +47,10 @@ may_leave state group name number none =
     }
 
 -- the disks of the others
-pub rest_below : (state : GroupState) (group : Group) (number : ℕ) (rest : List ℕ) → IsState state → state.group ≡ Some group → rest ≡ remove state.disk_of number → All IsBelow rest
-rest_below state group number rest is found same = subst (All IsBelow) (sym same) (all_without IsBelow state.disk_of number (listed_below state group is found))
+pub rest_below : (state : GroupState) (group : Group) (number : ℕ) (rest : List ℕ) → IsState state → state.group ≡ Some group
+    → rest ≡ remove state.disk_of number → All IsBelow rest
+rest_below state group number rest is found same =
+    subst (All IsBelow) (sym same) (all_without IsBelow state.disk_of number (listed_below state group is found))
 
 -- ---- the next version
 
@@ -65,13 +68,16 @@ pub record LeavesNext (state : GroupState) (change : Change) (now : ℕ) : Type 
   pub whole : IsState state → IsAccepted old → HasTree old → IsWhole (reduced_group old number)
 
 -- the disk of each is listed
-within_group : (state : GroupState) (group : Group) (number : ℕ) → IsState state → state.group ≡ Some group → number < length state.disk_of → number < length group.pvs
+within_group : (state : GroupState) (group : Group) (number : ℕ) → IsState state → state.group ≡ Some group → number < length state.disk_of
+    → number < length group.pvs
 within_group state group number is found below =
-    let same : length state.disk_of ≡ length group.pvs = ap length (listed_are state group is found) ∙ length-map group.pvs (λ (pv : List ℕ × Pv). disk_with state.disks pv.1.id) in
+    let same : length state.disk_of ≡ length group.pvs =
+        ap length (listed_are state group is found) ∙ length-map group.pvs (λ (pv : List ℕ × Pv). disk_with state.disks pv.1.id) in
     omega (arith, same, below)
 
 -- the number under which the group lists the disk with this number
-listed_at : (state : GroupState) (disk : Option ℕ) (number : ℕ) → option_and_then (number_on state.disk_of) disk ≡ Some number → number < length state.disk_of
+listed_at : (state : GroupState) (disk : Option ℕ) (number : ℕ) → option_and_then (number_on state.disk_of) disk ≡ Some number
+    → number < length state.disk_of
 listed_at state None number is = absurd cc
 listed_at state (Some disk) number is = (position-Some (λ (listed : ℕ). listed == disk) state.disk_of number 0 is).0
 
@@ -81,18 +87,27 @@ named_at state name number is = listed_at state (number_named state.names name) 
 
 module _ (state : GroupState) (vg name : List ℕ) (now : ℕ) where
   -- the group lists it, and its rows pass
-  listed_on : (group : Group) (o : Option ℕ) → pv_named state name ≡ o → first_refusal (option_map_or (leaving_rows state group name now) o (Some (NotInGroup name) ∷ [])) ≡ None
+  listed_on : (group : Group) (o : Option ℕ) → pv_named state name ≡ o
+      → first_refusal (option_map_or (leaving_rows state group name now) o (Some (NotInGroup name) ∷ [])) ≡ None
       → (number : ℕ) × (pv_named state name ≡ Some number) × (first_refusal (leaving_rows state group name now number) ≡ None)
   listed_on group None is none = absurd cc
   listed_on group (Some number) is none = (number, is, none)
 
-  next_by : (o : Option Group) → state.group ≡ o → first_refusal (option_map_or (reduce_rows state vg name now) o (Some (UnknownGroup vg) ∷ [])) ≡ None → LeavesNext state (option_map_or (reduce_change state name) o (no_change state)) now
+  next_by : (o : Option Group) → state.group ≡ o
+      → first_refusal (option_map_or (reduce_rows state vg name now) o (Some (UnknownGroup vg) ∷ [])) ≡ None
+      → LeavesNext state (option_map_or (reduce_change state name) o (no_change state)) now
   next_by None there none = absurd cc
   next_by (Some group) there none =
-      let back : List (Option OpRefusal) = option_map_or (leaving_rows state group name now) (pv_named state name) (Some (NotInGroup name) ∷ []) in
-      let at = listed_on group (pv_named state name) refl (front_passes (unknown_row state (name ∷ []) ∷ []) back (front_passes (group_rows group vg) (unknown_row state (name ∷ []) ∷ back) none)) in
+      let back : List (Option OpRefusal) =
+          option_map_or (leaving_rows state group name now) (pv_named state name) (Some (NotInGroup name) ∷ []) in
+      let at =
+          listed_on group (pv_named state name) refl
+              (front_passes (unknown_row state (name ∷ []) ∷ []) back
+              (front_passes (group_rows group vg) (unknown_row state (name ∷ []) ∷ back) none)) in
       let rows = none_holds (leaving_rows state group name now at.0) at.2 in
-      let may : MayLeave group at.0 = may_leave state group name at.0 (back_passes (leaving_tests state group name at.0) (length_row_on state (remove state.disk_of at.0) (reduced_group group at.0) now ∷ []) at.2) in
+      let may : MayLeave group at.0 =
+          may_leave state group name at.0 (back_passes (leaving_tests state group name at.0)
+              (length_row_on state (remove state.disk_of at.0) (reduced_group group at.0) now ∷ []) at.2) in
       record {
         old = group;
         there = there;
@@ -102,7 +117,10 @@ module _ (state : GroupState) (vg name : List ℕ) (now : ℕ) where
         may = may;
         has_area = rows.1.1.0;
         fits = rows.1.1.1.1.0;
-        whole = λ state_is accepted tree. reduced_whole group at.0 (within_group state group at.0 state_is there (named_at state name at.0 at.1)) may.unused may.others may.seqno accepted tree;
+        whole =
+            λ state_is accepted tree. reduced_whole group at.0
+                (within_group state group at.0 state_is there (named_at state name at.0 at.1)) may.unused may.others may.seqno accepted
+                tree;
       }
 
   -- so does a vgreduce that no row refuses

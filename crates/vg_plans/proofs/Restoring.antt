@@ -24,7 +24,8 @@ use Rattle.group_plan.specs.declared.state.Change.{Change}
 use Rattle.group_plan.specs.declared.state.GroupState.{GroupState}
 use Rattle.vg_plans.proofs.PlacedAgain.{restored_placed}
 use Rattle.vg_plans.proofs.SoundBackup.{disks_all_held, sound_listed, sound_seqnos}
-use Rattle.vg_plans.specs.Vgcfgrestore.{backup_change, backup_rows, broken_rows, restore_rows, sound_rows, sound_tests, unread_rows, vgcfgrestore_change, vgcfgrestore_rows}
+use Rattle.vg_plans.specs.Vgcfgrestore.{backup_change, backup_rows, broken_rows, restore_rows, sound_rows, sound_tests, unread_rows,
+    vgcfgrestore_change, vgcfgrestore_rows}
 
 -- the change commits the group of a sound backup in place of the one in force, to the disks of its physical volumes
 pub record Restores (state : GroupState) (change : Change) (now : ℕ) : Type 0 where
@@ -46,12 +47,16 @@ pub sound_tree : (text : List ℕ) (said : Group) → IsBackup text (Sound said)
 sound_tree text said (inl none) = absurd none
 sound_tree text said (inr gives) = (gives.2.1, record { text = text; tree = gives.0; is_text = gives.1; stands = gives.2.0 })
 
-backup_restores : (state : GroupState) (now : ℕ) (old : Group) (backup : Backup) → state.backup ≡ Some backup → state.group ≡ Some old → first_refusal (backup_rows state old backup now) ≡ None → Restores state (backup_change state backup old) now
-backup_restores state now old (Unread kind) gives there none = absurd (let rows = none_holds (unread_rows old kind) none in let third = rows.1.1.0 in cc)
-backup_restores state now old (Broken said rule) gives there none = absurd (let rows = none_holds (broken_rows state old said rule) none in let last = rows.1.1.1.1.1.0 in cc)
+backup_restores : (state : GroupState) (now : ℕ) (old : Group) (backup : Backup) → state.backup ≡ Some backup → state.group ≡ Some old
+    → first_refusal (backup_rows state old backup now) ≡ None → Restores state (backup_change state backup old) now
+backup_restores state now old (Unread kind) gives there none =
+    absurd (let rows = none_holds (unread_rows old kind) none in let third = rows.1.1.0 in cc)
+backup_restores state now old (Broken said rule) gives there none =
+    absurd (let rows = none_holds (broken_rows state old said rule) none in let last = rows.1.1.1.1.1.0 in cc)
 backup_restores state now old (Sound said) gives there none =
     let next : Group = restored_group old said in
-    let tests : first_refusal (sound_tests state old said) ≡ None = back_passes (sound_tests state old said) (length_row_on state (disks_of said state.disks) next now ∷ []) none in
+    let tests : first_refusal (sound_tests state old said) ≡ None =
+        back_passes (sound_tests state old said) (length_row_on state (disks_of said state.disks) next now ∷ []) none in
     let rows = none_holds (sound_rows state old said now) none in
     let seqnos = sound_seqnos state old said tests in
     record {
@@ -63,31 +68,40 @@ backup_restores state now old (Sound said) gives there none =
       same_id = same_bytes_tells said.id old.id (test_holds (same_bytes said.id old.id) _ rows.1.1.1.1.1.1.0);
       same_name = same_bytes_tells said.name old.name (test_holds (same_bytes said.name old.name) _ rows.1.1.1.1.1.1.1.0);
       listed = λ is. sound_listed state is old said there tests;
-      has_area = λ is. subst (λ (disks : List ℕ). area_row state.areas disks ≡ None) (disks_all_held state said (sound_listed state is old said there tests)) rows.1.0;
+      has_area =
+          λ is. subst (λ (disks : List ℕ). area_row state.areas disks ≡ None)
+              (disks_all_held state said (sound_listed state is old said there tests)) rows.1.0;
       fits = rows.1.1.1.1.1.1.1.1.1.0;
       placed = restored_placed old said state.disks rows.1.1.1.1.1.0;
       whole = λ old_is said_is tree. restored_whole old said seqnos.0 seqnos.1 old_is said_is tree;
     }
 
-restore_found : (state : GroupState) (vg : List ℕ) (now : ℕ) (backup : Backup) (o : Option Group) → state.backup ≡ Some backup → state.group ≡ o
-    → first_refusal (option_map_or (restore_rows state vg backup now) o (Some (UnknownGroup vg) ∷ [])) ≡ None → Restores state (option_map_or (backup_change state backup) o (no_change state)) now
+restore_found : (state : GroupState) (vg : List ℕ) (now : ℕ) (backup : Backup) (o : Option Group) → state.backup ≡ Some backup
+    → state.group ≡ o
+    → first_refusal (option_map_or (restore_rows state vg backup now) o (Some (UnknownGroup vg) ∷ [])) ≡ None
+    → Restores state (option_map_or (backup_change state backup) o (no_change state)) now
 restore_found state vg now backup None gives there none = absurd cc
-restore_found state vg now backup (Some old) gives there none = backup_restores state now old backup gives there (front_passes (named_rows old vg) (backup_rows state old backup now) none)
+restore_found state vg now backup (Some old) gives there none =
+    backup_restores state now old backup gives there (front_passes (named_rows old vg) (backup_rows state old backup now) none)
 
 restore_by : (state : GroupState) (vg : List ℕ) (now : ℕ) (o : Option Backup) → state.backup ≡ o → is_some o ≡ true
     → first_refusal (option_map_or (λ (backup : Backup). rows_where_found state.group vg (restore_rows state vg backup now)) o []) ≡ None
-    → Restores state (option_map_or (λ (backup : Backup). option_map_or (backup_change state backup) state.group (no_change state)) o (no_change state)) now
+    → Restores state (option_map_or (λ (backup : Backup). option_map_or (backup_change state backup) state.group (no_change state)) o
+    (no_change state)) now
 restore_by state vg now None gives some none = absurd cc
 restore_by state vg now (Some backup) gives some none = restore_found state vg now backup state.group gives refl none
 
 -- a vgcfgrestore that no row refuses does
-pub restores : (state : GroupState) (vg : List ℕ) (now : ℕ) → is_some state.backup ≡ true → first_refusal (vgcfgrestore_rows state vg now) ≡ None → Restores state (vgcfgrestore_change state) now
+pub restores : (state : GroupState) (vg : List ℕ) (now : ℕ) → is_some state.backup ≡ true
+    → first_refusal (vgcfgrestore_rows state vg now) ≡ None → Restores state (vgcfgrestore_change state) now
 restores state vg now some none = restore_by state vg now state.backup refl some none
 
 -- what holds where nothing changes, and of each version that is committed to any disks, holds of its change
-pub restore_holds : (state : GroupState) (Holds : Change → Type 0) → Holds (no_change state) → ((disks : List ℕ) (next : Group) → Holds (version_change_on disks next)) → Holds (vgcfgrestore_change state)
+pub restore_holds : (state : GroupState) (Holds : Change → Type 0) → Holds (no_change state)
+    → ((disks : List ℕ) (next : Group) → Holds (version_change_on disks next)) → Holds (vgcfgrestore_change state)
 restore_holds state Holds none made = by state.backup state.group where
-  by : (backup : Option Backup) (o : Option Group) → Holds (option_map_or (λ (b : Backup). option_map_or (backup_change state b) o (no_change state)) backup (no_change state))
+  by : (backup : Option Backup) (o : Option Group)
+      → Holds (option_map_or (λ (b : Backup). option_map_or (backup_change state b) o (no_change state)) backup (no_change state))
   by None o = none
   by (Some backup) None = none
   by (Some (Unread kind)) (Some found) = none

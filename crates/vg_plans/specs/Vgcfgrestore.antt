@@ -1,5 +1,6 @@
 -- vgcfgrestore(8): the rows of its refusals, and its change, by what the text gives.
-use Rattle.std.specs.Prelude.{ℕ, Bool, not, ◌||◌, ◌==◌, nat_lt, if◌then◌else◌, List, [], ◌∷◌, ◌++◌, length, map, filter, codes, is_some, unwrap_or, Option, None, Some, option_map}
+use Rattle.std.specs.Prelude.{ℕ, Bool, not, ◌||◌, ◌==◌, nat_lt, if◌then◌else◌, List, [], ◌∷◌, ◌++◌, length, map, filter, codes, is_some,
+    unwrap_or, Option, None, Some, option_map}
 use Rattle.std.specs.List.{list_any}
 use Rattle.std.specs.Option.{option_map_or}
 use Rattle.std.specs.Ordering.{is_le, nat_cmp}
@@ -16,7 +17,8 @@ use Rattle.scan_rules.specs.Decision.{has_misplaced, same_bytes}
 use Rattle.vg_found.specs.Disks.{disk_shape, disks_of}
 use Rattle.vg_found.specs.declared.disk.Disk.{Disk}
 use Rattle.group_edits.specs.RestoredGroup.{restored_group}
-use Rattle.group_plan.specs.Committing.{change_where_found, length_row_on, named_rows, no_change, rows_where_found, seqno_row, version_change_on}
+use Rattle.group_plan.specs.Committing.{change_where_found, length_row_on, named_rows, no_change, rows_where_found, seqno_row,
+    version_change_on}
 use Rattle.group_plan.specs.Ids.{has_pv_id}
 use Rattle.group_plan.specs.Judging.{area_row, refused_if}
 use Rattle.group_plan.specs.Stripes.{stripes_row}
@@ -97,7 +99,8 @@ sound_tests state found said = both_rows state found said ++ shape_row said stat
 
 -- these, and the restored text is too long
 abbrev pub sound_rows : GroupState → Group → Group → ℕ → List (Option OpRefusal)
-sound_rows state found said now = sound_tests state found said ++ length_row_on state (disks_of said state.disks) (restored_group found said) now ∷ []
+sound_rows state found said now =
+    sound_tests state found said ++ length_row_on state (disks_of said state.disks) (restored_group found said) now ∷ []
 
 -- those where the text gives none
 abbrev pub unread_rows : Group → List ℕ → List (Option OpRefusal)
@@ -119,7 +122,8 @@ restore_rows state vg backup now found = named_rows found vg ++ backup_rows stat
 
 -- all rows, by what the text of the line gives
 abbrev pub vgcfgrestore_rows : GroupState → List ℕ → ℕ → List (Option OpRefusal)
-vgcfgrestore_rows state vg now = option_map_or (λ (backup : Backup). rows_where_found state.group vg (restore_rows state vg backup now)) state.backup []
+vgcfgrestore_rows state vg now =
+    option_map_or (λ (backup : Backup). rows_where_found state.group vg (restore_rows state vg backup now)) state.backup []
 
 -- ---- the change
 
@@ -131,4 +135,5 @@ backup_change state (Sound said) found = version_change_on (disks_of said state.
 
 -- the text's group takes the place of the one that was found
 abbrev pub vgcfgrestore_change : GroupState → Change
-vgcfgrestore_change state = option_map_or (λ (backup : Backup). change_where_found state (backup_change state backup)) state.backup (no_change state)
+vgcfgrestore_change state =
+    option_map_or (λ (backup : Backup). change_where_found state (backup_change state backup)) state.backup (no_change state)

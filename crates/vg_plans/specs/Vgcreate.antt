@@ -57,7 +57,8 @@ new_rows state base names now =
 
 -- a group was found, or the rows where none was
 abbrev pub vgcreate_rows : GroupState → Group → List (List ℕ) → ℕ → List (Option OpRefusal)
-vgcreate_rows state base names now = option_map_or (λ (group : Group). Some (GroupStands group.name) ∷ []) state.group (new_rows state base names now)
+vgcreate_rows state base names now =
+    option_map_or (λ (group : Group). Some (GroupStands group.name) ∷ []) state.group (new_rows state base names now)
 
 -- the new group has these physical volumes, and is committed
 abbrev pub vgcreate_change : GroupState → Group → List (List ℕ) → Change

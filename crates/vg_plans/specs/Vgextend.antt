@@ -15,7 +15,8 @@ use Rattle.group_plan.specs.declared.state.GroupState.{GroupState}
 
 -- the first physical volume whose id is that of the group or of a logical volume
 unfoldable pub other_id_row : Group → List AddedPv → Option OpRefusal
-other_id_row group all = option_map (λ (added : AddedPv). IdTaken added.header.id) (find (λ (added : AddedPv). has_other_id group added.header.id) all)
+other_id_row group all =
+    option_map (λ (added : AddedPv). IdTaken added.header.id) (find (λ (added : AddedPv). has_other_id group added.header.id) all)
 
 -- the group has another name, may not be changed, or takes no further physical volume
 abbrev pub group_rows : Group → List ℕ → List (Option OpRefusal)

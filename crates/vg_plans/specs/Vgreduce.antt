@@ -25,7 +25,8 @@ leaving_tests state group name number =
 
 -- these, and the text without it is too long
 abbrev pub leaving_rows : GroupState → Group → List ℕ → ℕ → ℕ → List (Option OpRefusal)
-leaving_rows state group name now number = leaving_tests state group name number ++ length_row_on state (remove state.disk_of number) (reduced_group group number) now ∷ []
+leaving_rows state group name now number =
+    leaving_tests state group name number ++ length_row_on state (remove state.disk_of number) (reduced_group group number) now ∷ []
 
 -- the rows where this group was found: those on the group; no physical volume is on the disk; the group doesn't list it; and those
 -- where it does
@@ -41,7 +42,9 @@ vgreduce_rows state vg name now = rows_where_found state.group vg (reduce_rows s
 
 -- the group without the physical volume with this number is committed to the other disks, and its own is cleared
 abbrev pub leaving_change : GroupState → Group → ℕ → Change
-leaving_change state group number = record (version_change_on (remove state.disk_of number) (reduced_group group number)) { cleared = set_of (slice_index state.disk_of number ∷ []) }
+leaving_change state group number =
+    record (version_change_on (remove state.disk_of number) (reduced_group group number))
+        { cleared = set_of (slice_index state.disk_of number ∷ []) }
 
 -- the physical volume on the disk with this name leaves this group
 abbrev pub reduce_change : GroupState → List ℕ → Group → Change

@@ -17,12 +17,15 @@ use Rattle.change_batches.specs.Building.{LiesIn}
 pub disks_hold : (areas : List (Area × Option Locn)) → All (λ (a : Area × Option Locn). contains (area_disks areas) a.0.pv ≡ true) areas
 disks_hold areas = each_in areas empty
 
-as_numbers : (areas : List (Area × Option Locn)) (disks : FinSet nat_cmp) → with_disks disks areas ≡ with_all disks (map (λ (a : Area × Option Locn). a.0.pv) areas)
+as_numbers : (areas : List (Area × Option Locn)) (disks : FinSet nat_cmp)
+    → with_disks disks areas ≡ with_all disks (map (λ (a : Area × Option Locn). a.0.pv) areas)
 as_numbers [] disks = refl
 as_numbers (a ∷ areas) disks = as_numbers areas (insert disks a.0.pv)
 
 -- and each is a disk of the shelf
-pub disks_within : (sizes : List ℕ) (areas : List (Area × Option Locn)) → All (LiesIn sizes) areas → All (λ (pv : ℕ). pv < length sizes) (disks_in (area_disks areas))
+pub disks_within : (sizes : List ℕ) (areas : List (Area × Option Locn)) → All (LiesIn sizes) areas
+    → All (λ (pv : ℕ). pv < length sizes) (disks_in (area_disks areas))
 disks_within sizes areas lie =
     subst (λ (s : FinSet nat_cmp). All (λ (pv : ℕ). pv < length sizes) (disks_in s)) (sym (as_numbers areas empty))
-    (of_disks (λ (pv : ℕ). pv < length sizes) (map (λ (a : Area × Option Locn). a.0.pv) areas) (All-map (λ (pv : ℕ). pv < length sizes) (λ (a : Area × Option Locn). a.0.pv) areas (λ k d within. (lie k d within).disk)))
+    (of_disks (λ (pv : ℕ). pv < length sizes) (map (λ (a : Area × Option Locn). a.0.pv) areas)
+        (All-map (λ (pv : ℕ). pv < length sizes) (λ (a : Area × Option Locn). a.0.pv) areas (λ k d within. (lie k d within).disk)))

@@ -22,7 +22,8 @@ module _ {X : Type 0} (P : X → Type 0) where
   -- what holds of all holds of each
   pub each_of_all : (es : List (Bool × X)) → All P (unmarked es) → All (λ (e : Bool × X). P e.1) es
   each_of_all [] all = All-nil (λ (e : Bool × X). P e.1)
-  each_of_all (e ∷ es) all = All-cons (λ (d : Bool × X). P d.1) e es (All-head P e.1 (unmarked es) all) (each_of_all es (All-tail P e.1 (unmarked es) all))
+  each_of_all (e ∷ es) all =
+      All-cons (λ (d : Bool × X). P d.1) e es (All-head P e.1 (unmarked es) all) (each_of_all es (All-tail P e.1 (unmarked es) all))
 
   marked_head : (b : Bool) (x : X) (xs : List X) → All P (if_marked b x xs) → b ≡ true → P x
   marked_head true x xs all is = All-head P x xs all
@@ -35,7 +36,9 @@ module _ {X : Type 0} (P : X → Type 0) where
   -- and of the marked ones, of each that is
   pub each_of_marked : (es : List (Bool × X)) → All P (marked es) → All (λ (e : Bool × X). e.0 ≡ true → P e.1) es
   each_of_marked [] all = All-nil (λ (e : Bool × X). e.0 ≡ true → P e.1)
-  each_of_marked (e ∷ es) all = All-cons (λ (d : Bool × X). d.0 ≡ true → P d.1) e es (marked_head e.0 e.1 (marked es) all) (each_of_marked es (marked_tail e.0 e.1 (marked es) all))
+  each_of_marked (e ∷ es) all =
+      All-cons (λ (d : Bool × X). d.0 ≡ true → P d.1) e es (marked_head e.0 e.1 (marked es) all)
+          (each_of_marked es (marked_tail e.0 e.1 (marked es) all))
 
   -- what holds of all holds of the marked ones
   marked_cons : (b : Bool) (x : X) (xs : List X) → P x → All P xs → All P (if_marked b x xs)
@@ -44,7 +47,8 @@ module _ {X : Type 0} (P : X → Type 0) where
 
   pub all_marked : (es : List (Bool × X)) → All P (unmarked es) → All P (marked es)
   all_marked [] all = All-nil P
-  all_marked (e ∷ es) all = marked_cons e.0 e.1 (marked es) (All-head P e.1 (unmarked es) all) (all_marked es (All-tail P e.1 (unmarked es) all))
+  all_marked (e ∷ es) all =
+      marked_cons e.0 e.1 (marked es) (All-head P e.1 (unmarked es) all) (all_marked es (All-tail P e.1 (unmarked es) all))
 
 module _ {X : Type 0} (R : X → X → Type 0) where
   abbrev pub Either : X → X → Type 0
@@ -64,4 +68,5 @@ module _ {X : Type 0} (R : X → X → Type 0) where
       let later : All (R e.1) (unmarked es) = pairs_first R e.1 (unmarked es) pairs in
       All-cons (WithMarked (e ∷ es)) e es (first_with e.0 e.1 (marked es) (all_marked (R e.1) es later))
       (λ k d within is.
-      marked_cons (Either _) e.0 e.1 (marked es) (inl (each_of_all (R e.1) es later k d within)) (unmarked_with es (pairs_later R e.1 (unmarked es) pairs) k d within is))
+      marked_cons (Either _) e.0 e.1 (marked es) (inl (each_of_all (R e.1) es later k d within))
+          (unmarked_with es (pairs_later R e.1 (unmarked es) pairs) k d within is))

@@ -29,7 +29,9 @@ module _ (found : Found) (shape : HasShape found) where
   stale_held = record {
     take = some_all CanTake (stale_areas found) found.areas some shape.take;
     apart = some_pairs LieApart (stale_areas found) found.areas some shape.apart;
-    few = some_all (λ (area : Area × Option Locn). area.0.pv < 64) (stale_areas found) found.areas some (each_few found.disks found.areas are_scanned);
+    few =
+        some_all (λ (area : Area × Option Locn). area.0.pv < 64) (stale_areas found) found.areas some
+            (each_few found.disks found.areas are_scanned);
   }
 
   pub stale_lie : All (LiesIn (sizes_of found.disks)) (stale_areas found)

@@ -1,5 +1,6 @@
 -- What every image on the way of a repair keeps, and what is found once it is done.
-use Rattle.std.proofs.Common.{◌≡◌, ◌≤◌, ◌<◌, ◌⊎◌, ℕ, ◌+◌, ◌/◌, true, false, List, length, get_or, Option, inl, inr, ⊎_elim, sym, ap, subst, ◌∙◌, arith}
+use Rattle.std.proofs.Common.{◌≡◌, ◌≤◌, ◌<◌, ◌⊎◌, ℕ, ◌+◌, ◌/◌, true, false, List, length, get_or, Option, inl, inr, ⊎_elim, sym, ap, subst,
+    ◌∙◌, arith}
 use Rattle.std.specs.Prelude.{All}
 use Rattle.std.specs.FinSet.{contains}
 use Rattle.std.proofs.lemmas.Bool.{cases_Bool, true≢false}
@@ -22,7 +23,8 @@ use Rattle.group_plan.specs.Judging.{lies_on}
 use Rattle.group_plan.specs.declared.state.NewLabel.{NewLabel}
 use Rattle.change_batches.specs.Batches.{clear_batches}
 use Rattle.change_batches.specs.Sound.{FitsFields}
-use Rattle.change_batches.specs.Laws.{AreCleared, ClearsKeep, HasLabel, IsEmpty, IsKeptOrEmpty, IsKeptOrNew, IsUncleared, LabelsKept, ShowsEntries}
+use Rattle.change_batches.specs.Laws.{AreCleared, ClearsKeep, HasLabel, IsEmpty, IsKeptOrEmpty, IsKeptOrNew, IsUncleared, LabelsKept,
+    ShowsEntries}
 use Rattle.change_batches.proofs.FarAreas.{IsFar}
 use Rattle.change_batches.proofs.ClearedImages.{all_keep, are_cleared, is_kept as clears_kept}
 use Rattle.vg_repair.specs.Batches.{repair_batches, stray_areas, stray_labels, text_batches}
@@ -70,9 +72,12 @@ module _ (found : Found) (shape : HasShape found) (others : StraysAreOthers foun
   texts_keep_near pv sector near = texts_keep (text_of found) stale fit pv sector (near_outside pv sector near)
 
   -- behind the first four sectors other disks than strays aren't cleared
-  far_uncleared : (pv sector : ℕ) → contains found.strays pv ≡ false → 4 ≤ sector → IsUncleared found.strays found.disks found.areas pv sector
+  far_uncleared : (pv sector : ℕ) → contains found.strays pv ≡ false → 4 ≤ sector
+      → IsUncleared found.strays found.disks found.areas pv sector
   far_uncleared pv sector other far = record {
-    labels = λ k d within. inr (λ same. let low : (get_or labels k d).sector < 4 = (labels_can found shape k d within).sector_below in omega (arith, low, same, far));
+    labels =
+        λ k d within. inr (λ same. let low : (get_or labels k d).sector
+            < 4 = (labels_can found shape k d within).sector_below in omega (arith, low, same, far));
     headers = λ k d within.
         let a : Area × Option Locn = get_or cleared k d in
         ⊎_elim
@@ -95,7 +100,8 @@ module _ (found : Found) (shape : HasShape found) (others : StraysAreOthers foun
     stale_names : ShowsEntries stale base
     stale_names = stale_all found shape (λ (area : Area × Option Locn). Names area.0 area.1 (sectors_of area.0 base 0)) names
 
-    stale_uncleared : (k : ℕ) (d : Area × Option Locn) → k < length stale → (sector : ℕ) → (get_or stale k d).0.start / 512 ≤ sector → IsUncleared found.strays found.disks found.areas (get_or stale k d).0.pv sector
+    stale_uncleared : (k : ℕ) (d : Area × Option Locn) → k < length stale → (sector : ℕ) → (get_or stale k d).0.start / 512 ≤ sector
+        → IsUncleared found.strays found.disks found.areas (get_or stale k d).0.pv sector
     stale_uncleared k d within sector from =
         let begins : 2048 ≤ (get_or stale k d).0.start = stale_all found shape IsFar (each_far found shape) k d within in
         far_uncleared (get_or stale k d).0.pv sector (stale_elsewhere found others k d within) (omega (arith, begins, from))
@@ -114,17 +120,21 @@ module _ (found : Found) (shape : HasShape found) (others : StraysAreOthers foun
 
     -- ---- the labels
 
-    label_first : (k : ℕ) (d : NewLabel) → k < length labels → first (get_or labels k d).disk (get_or labels k d).sector ≡ base (get_or labels k d).disk (get_or labels k d).sector
+    label_first : (k : ℕ) (d : NewLabel) → k < length labels
+        → first (get_or labels k d).disk (get_or labels k d).sector ≡ base (get_or labels k d).disk (get_or labels k d).sector
     label_first k d within =
         let label : NewLabel = get_or labels k d in
-        batches_kept texts base label.disk label.sector (texts_keep_near label.disk label.sector (inr (labels_can found shape k d within).sector_below))
+        batches_kept texts base label.disk label.sector
+            (texts_keep_near label.disk label.sector (inr (labels_can found shape k d within).sector_below))
 
     labels_kept : (image : Image) → HasFirstBatches (repair_batches found) base image → LabelsKept labels base image
     labels_kept image h k d within =
         let label : NewLabel = get_or labels k d in
         ⊎_elim
-        (λ in_texts. inl (front_kept texts base image label.disk label.sector (texts_keep_near label.disk label.sector (inr (labels_can found shape k d within).sector_below)) in_texts))
-        (λ in_clears. ⊎_elim (λ old. inl (old ∙ label_first k d within)) (λ new. inr new) ((while_cleared image in_clears).labels k d within))
+        (λ in_texts. inl (front_kept texts base image label.disk label.sector
+            (texts_keep_near label.disk label.sector (inr (labels_can found shape k d within).sector_below)) in_texts))
+        (λ in_clears. ⊎_elim (λ old. inl (old ∙ label_first k d within)) (λ new. inr new)
+            ((while_cleared image in_clears).labels k d within))
         (first_or_more texts clears base image h)
 
     -- ---- the headers of strays
@@ -135,24 +145,29 @@ module _ (found : Found) (shape : HasShape found) (others : StraysAreOthers foun
     headers_kept : (image : Image) → HasFirstBatches (repair_batches found) base image → All (IsKeptOrEmpty base image) cleared
     headers_kept image h k d within =
         let a : Area × Option Locn = get_or cleared k d in
-        let keep : All (KeepsSector a.0.pv (a.0.start / 512 + 0)) texts = texts_keep_near a.0.pv (a.0.start / 512 + 0) (inl (stray_there k d within)) in
+        let keep : All (KeepsSector a.0.pv (a.0.start / 512 + 0)) texts =
+            texts_keep_near a.0.pv (a.0.start / 512 + 0) (inl (stray_there k d within)) in
         ⊎_elim
         (λ in_texts. inl (front_kept texts base image a.0.pv (a.0.start / 512 + 0) keep in_texts))
-        (λ in_clears. ⊎_elim (λ old. inl (old ∙ batches_kept texts base a.0.pv (a.0.start / 512 + 0) keep)) (λ new. inr new) ((while_cleared image in_clears).headers k d within))
+        (λ in_clears. ⊎_elim (λ old. inl (old ∙ batches_kept texts base a.0.pv (a.0.start / 512 + 0) keep)) (λ new. inr new)
+            ((while_cleared image in_clears).headers k d within))
         (first_or_more texts clears base image h)
 
     -- ---- and other sectors
 
-    others_kept : (image : Image) → HasFirstBatches (repair_batches found) base image → (pv sector : ℕ) → IsOther found pv sector → image pv sector ≡ base pv sector
+    others_kept : (image : Image) → HasFirstBatches (repair_batches found) base image → (pv sector : ℕ) → IsOther found pv sector
+        → image pv sector ≡ base pv sector
     others_kept image h pv sector other =
         let keep : All (KeepsSector pv sector) texts = texts_keep (text_of found) stale fit pv sector other.stale in
         ⊎_elim
         (λ in_texts. front_kept texts base image pv sector keep in_texts)
-        (λ in_clears. (while_cleared image in_clears).others pv sector (record { labels = other.labels; headers = other.headers }) ∙ batches_kept texts base pv sector keep)
+        (λ in_clears. (while_cleared image in_clears).others pv sector (record { labels = other.labels; headers = other.headers })
+            ∙ batches_kept texts base pv sector keep)
         (first_or_more texts clears base image h)
 
     pub is_kept : (image : Image) → HasFirstBatches (repair_batches found) base image → IsKept found base image
-    is_kept image h = record { stale = stale_kept image h; labels = labels_kept image h; headers = headers_kept image h; others = others_kept image h }
+    is_kept image h =
+        record { stale = stale_kept image h; labels = labels_kept image h; headers = headers_kept image h; others = others_kept image h }
 
     -- ---- once all is written
 
@@ -167,11 +182,13 @@ module _ (found : Found) (shape : HasShape found) (others : StraysAreOthers foun
         texts_there (text_of found) base stale fit stale_names last
         (λ k d within sector from.
         let pv : ℕ = (get_or stale k d).0.pv in
-        ap (λ (i : Image). i pv sector) last_is ∙ batches_kept clears first pv sector (all_keep found.disks found.areas (are_scanned found shape) found.strays pv sector (stale_uncleared k d within sector from)))
+        ap (λ (i : Image). i pv sector) last_is ∙ batches_kept clears first pv sector
+            (all_keep found.disks found.areas (are_scanned found shape) found.strays pv sector (stale_uncleared k d within sector from)))
 
     pub is_right : All FitsFields labels → IsRight found last
     is_right fields =
-        let done : AreCleared found.strays found.disks found.areas (with_batches clears first) = are_cleared found.disks found.areas (are_scanned found shape) found.strays first fields in
+        let done : AreCleared found.strays found.disks found.areas (with_batches clears first) =
+            are_cleared found.disks found.areas (are_scanned found shape) found.strays first fields in
         record {
           stale = stale_right;
           labels = subst (λ (i : Image). All (HasLabel i) labels) (sym last_is) done.labels;
@@ -179,7 +196,8 @@ module _ (found : Found) (shape : HasShape found) (others : StraysAreOthers foun
         }
 
 -- both, where the batches were made
-pub keeps_images : (found : Found) (batches : List Batch) → HasShape found → StraysAreOthers found → IsMade found batches → KeepsImages found
+pub keeps_images : (found : Found) (batches : List Batch) → HasShape found → StraysAreOthers found → IsMade found batches
+    → KeepsImages found
 keeps_images found batches shape others made =
     let fit : Fit (text_of found) (stale_areas found) = record { held = stale_held found shape; room = made.room; read = made.read } in
     record {

@@ -34,10 +34,13 @@ module _ (text : List ℕ) where
     pub read : All (HeadersRead text) areas
 
   new_sized : (areas : List (Area × Option Locn)) → Fit areas → AreSized (new_reading text) areas
-  new_sized areas fit k d within = entry_inside text (get_or areas k d) (is_placed text (get_or areas k d) (fit.held.take k d within) (rooms text areas fit.room k d within))
+  new_sized areas fit k d within =
+      entry_inside text (get_or areas k d) (is_placed text (get_or areas k d) (fit.held.take k d within)
+          (rooms text areas fit.room k d within))
 
   -- sectors of other places stay
-  pub texts_keep : (areas : List (Area × Option Locn)) → Fit areas → (pv sector : ℕ) → AreOutside pv sector areas → All (KeepsSector pv sector) (text_batches text areas)
+  pub texts_keep : (areas : List (Area × Option Locn)) → Fit areas → (pv sector : ℕ) → AreOutside pv sector areas
+      → All (KeepsSector pv sector) (text_batches text areas)
   texts_keep [] fit pv sector out = All-nil (KeepsSector pv sector)
   texts_keep (area ∷ areas) fit pv sector out =
       let all : List (Area × Option Locn) = area ∷ areas in
@@ -45,24 +48,30 @@ module _ (text : List ℕ) where
 
   module _ (base : Image) where
     -- on the way each shows what it shows in the base, or the text
-    pub texts_shows : (areas : List (Area × Option Locn)) → Fit areas → ShowsEntries areas base → (image : Image) → HasFirstBatches (text_batches text areas) base image → EachShows (old_reading (text_in base)) (new_reading text) areas image
+    pub texts_shows : (areas : List (Area × Option Locn)) → Fit areas → ShowsEntries areas base → (image : Image)
+        → HasFirstBatches (text_batches text areas) base image → EachShows (old_reading (text_in base)) (new_reading text) areas image
     texts_shows [] fit names image h k d within = absurd (omega (arith, within))
     texts_shows (area ∷ areas) fit names image h k d within =
         let all : List (Area × Option Locn) = area ∷ areas in
-        commit_shows text all (area_disks all) (held_committed all (omega arith) fit.held) (all_fit text all fit.room) fit.read (text_in base) base (base_shows all base names) (base_sized all base fit.held.take) image h k d within
+        commit_shows text all (area_disks all) (held_committed all (omega arith) fit.held) (all_fit text all fit.room) fit.read
+            (text_in base) base (base_shows all base names) (base_sized all base fit.held.take) image h k d within
 
     -- and once they are written the text
-    texts_shown : (areas : List (Area × Option Locn)) → Fit areas → ShowsEntries areas base → AllShow (new_reading text) areas (with_batches (text_batches text areas) base)
+    texts_shown : (areas : List (Area × Option Locn)) → Fit areas → ShowsEntries areas base
+        → AllShow (new_reading text) areas (with_batches (text_batches text areas) base)
     texts_shown [] fit names k d within = absurd (omega (arith, within))
     texts_shown (area ∷ areas) fit names k d within =
         let all : List (Area × Option Locn) = area ∷ areas in
-        commit_shown text all (area_disks all) (held_committed all (omega arith) fit.held) (all_fit text all fit.room) fit.read (text_in base) base (base_shows all base names) (base_sized all base fit.held.take) k d within
+        commit_shown text all (area_disks all) (held_committed all (omega arith) fit.held) (all_fit text all fit.room) fit.read
+            (text_in base) base (base_shows all base names) (base_sized all base fit.held.take) k d within
 
     -- also in images whose sectors are the same there
     pub texts_there : (areas : List (Area × Option Locn)) → Fit areas → ShowsEntries areas base → (image : Image)
-        → ((k : ℕ) (d : Area × Option Locn) → k < length areas → (sector : ℕ) → (get_or areas k d).0.start / 512 ≤ sector → image (get_or areas k d).0.pv sector ≡ with_batches (text_batches text areas) base (get_or areas k d).0.pv sector)
+        → ((k : ℕ) (d : Area × Option Locn) → k < length areas → (sector : ℕ) → (get_or areas k d).0.start / 512 ≤ sector
+        → image (get_or areas k d).0.pv sector ≡ with_batches (text_batches text areas) base (get_or areas k d).0.pv sector)
         → AllShow (new_reading text) areas image
     texts_there areas fit names image same k d within =
         let a : Area × Option Locn = get_or areas k d in
-        shows_alike (new_reading text) a (with_batches (text_batches text areas) base) image (fit.held.take k d within).0 (new_sized areas fit k d within)
+        shows_alike (new_reading text) a (with_batches (text_batches text areas) base) image (fit.held.take k d within).0
+            (new_sized areas fit k d within)
         (λ sector inside. same k d within (a.0.start / 512 + sector) (omega arith)) (texts_shown areas fit names k d within)

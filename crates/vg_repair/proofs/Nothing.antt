@@ -22,7 +22,8 @@ use Rattle.group_plan.specs.Cleared.{unused, unused_label, unused_labels}
 use Rattle.change_batches.specs.Batches.{batch_if, clear_batches, clear_put, label_put}
 use Rattle.vg_repair.specs.Batches.{repair_batches, stray_areas, stray_labels, text_batches}
 use Rattle.vg_repair.specs.Laws.{LeavesAll}
-use Rattle.vg_repair.specs.Repaired.{repaired_area, repaired_areas, repaired_contents, repaired_disk, repaired_disks, repaired_held, repaired_of, with_entry}
+use Rattle.vg_repair.specs.Repaired.{repaired_area, repaired_areas, repaired_contents, repaired_disk, repaired_disks, repaired_held,
+    repaired_of, with_entry}
 use Rattle.vg_repair.specs.Stale.{stale_areas, stale_by, stale_in, stale_on, text_of}
 
 no_stray : (pv : ℕ) → set.contains (set.empty {R = nat_cmp}) pv ≡ false
@@ -43,22 +44,26 @@ no_stale_on pv first (found ∷ founds) = no_stale_on pv (first + 1) founds
 no_stale : (first : ℕ) (disks : List Disk) → flat_map (stale_on []) (enumerate_from first disks) ≡ []
 no_stale first [] = refl
 no_stale first (disk ∷ disks) =
-    ap (λ (l : List (Area × Option Locn)). l ++ flat_map (stale_on []) (enumerate_from (first + 1) disks)) (no_stale_on first 0 (areas_on disk.contents)) ∙ no_stale (first + 1) disks
+    ap (λ (l : List (Area × Option Locn)). l ++ flat_map (stale_on []) (enumerate_from (first + 1) disks))
+        (no_stale_on first 0 (areas_on disk.contents)) ∙ no_stale (first + 1) disks
 
 no_labels : (first : ℕ) (disks : List Disk) → filter_map (unused_label none) (enumerate_from first disks) ≡ []
 no_labels first [] = refl
 no_labels first (disk ∷ disks) =
-    ap (λ (b : Bool). cons_option (cond b (option_map (λ (pv : ℕ × PvHeader). record { disk = first; sector = pv.0; header = unused pv.1 }) (option_and_then pv_in disk.contents)) None) (filter_map (unused_label none) (enumerate_from (first + 1) disks))) (no_stray first)
+    ap (λ (b : Bool). cons_option (cond b (option_map (λ (pv : ℕ × PvHeader). record { disk = first; sector = pv.0; header = unused pv.1 })
+        (option_and_then pv_in disk.contents)) None) (filter_map (unused_label none) (enumerate_from (first + 1) disks))) (no_stray first)
     ∙ no_labels (first + 1) disks
 
 no_areas : (areas : List (Area × Option Locn)) → filter (lies_on none) areas ≡ []
 no_areas [] = refl
-no_areas (area ∷ areas) = ap (λ (b : Bool). cond b (area ∷ filter (lies_on none) areas) (filter (lies_on none) areas)) (no_stray area.0.pv) ∙ no_areas areas
+no_areas (area ∷ areas) =
+    ap (λ (b : Bool). cond b (area ∷ filter (lies_on none) areas) (filter (lies_on none) areas)) (no_stray area.0.pv) ∙ no_areas areas
 
 -- ---- all stays as it is
 
 module _ (text : List ℕ) where
-  area_by : (pv number : ℕ) (found : AreaFound) (o : Option (Area × Option Locn)) → option_map_or (repaired_held [] none text pv (number, found)) o found ≡ found
+  area_by : (pv number : ℕ) (found : AreaFound) (o : Option (Area × Option Locn))
+      → option_map_or (repaired_held [] none text pv (number, found)) o found ≡ found
   area_by pv number found None = refl
   area_by pv number found (Some area) = ap (λ (b : Bool). cond b (with_entry found None) found) (no_stray pv)
 
@@ -76,7 +81,9 @@ module _ (text : List ℕ) where
 
   disks_same : (first : ℕ) (disks : List Disk) → map (repaired_disk [] none text) (enumerate_from first disks) ≡ disks
   disks_same first [] = refl
-  disks_same first (disk ∷ disks) = both (ap (λ (c : Option PvFound). record { sectors = disk.sectors; contents = c }) (contents_same first disk.contents)) (disks_same (first + 1) disks)
+  disks_same first (disk ∷ disks) =
+      both (ap (λ (c : Option PvFound). record { sectors = disk.sectors; contents = c }) (contents_same first disk.contents))
+          (disks_same (first + 1) disks)
 
 -- ---- both
 
@@ -92,7 +99,8 @@ module _ (found : Found) (shape : HasShape found) (stale : found.stale ≡ []) (
 
   nothing : repair_batches found ≡ []
   nothing =
-      ap (λ (l : List (Area × Option Locn)). text_batches (text_of found) l ++ clear_batches found.strays found.disks found.areas) stale_none
+      ap (λ (l : List (Area × Option Locn)). text_batches (text_of found) l ++ clear_batches found.strays found.disks found.areas)
+          stale_none
       ∙ ap (λ (l : List NewLabel). batch_if (map label_put l) ++ batch_if (map clear_put (stray_areas found))) labels_none
       ∙ ap (λ (l : List (Area × Option Locn)). batch_if (map clear_put l)) areas_none
 

@@ -1,5 +1,6 @@
 -- What is found once a repair is done has the shape of what a scan finds.
-use Rattle.std.proofs.Common.{◌≡◌, ◌≤◌, ◌<◌, ◌↔◌, ℕ, ◌+◌, ◌*◌, Bool, true, false, cond, ltb, List, [], ◌∷◌, length, map, Option, Some, None, IfSome, refl, sym, ap, subst, ◌∙◌}
+use Rattle.std.proofs.Common.{◌≡◌, ◌≤◌, ◌<◌, ◌↔◌, ℕ, ◌+◌, ◌*◌, Bool, true, false, cond, ltb, List, [], ◌∷◌, length, map, Option, Some, None,
+    IfSome, refl, sym, ap, subst, ◌∙◌}
 use Rattle.std.proofs.Math.Path.{fun_ext}
 use Rattle.std.specs.Prelude.{All, find, option_map, slice_get}
 use Rattle.std.specs.List.{enumerate_from, range_with_len}
@@ -44,7 +45,8 @@ use Rattle.change_batches.specs.Sound.{FitsFields}
 use Rattle.change_batches.proofs.LabelsRead.{header_found}
 use Rattle.change_batches.proofs.UnusedLabels.{IsLabelOf}
 use Rattle.vg_repair.specs.Batches.{stray_labels}
-use Rattle.vg_repair.specs.Repaired.{repaired_area, repaired_areas, repaired_contents, repaired_disk, repaired_disks, repaired_held, repaired_of, with_entry}
+use Rattle.vg_repair.specs.Repaired.{repaired_area, repaired_areas, repaired_contents, repaired_disk, repaired_disks, repaired_held,
+    repaired_of, with_entry}
 use Rattle.vg_repair.specs.Stale.{is_among, stale_areas, stale_in, stale_on, text_of, too_large, too_large_among}
 use Rattle.vg_repair.proofs.HeldAreas.{stale_held}
 use Rattle.vg_repair.proofs.Numbered.{all_at, all_in, mapped_all, mapped_at, mapped_length, mapped_same}
@@ -56,11 +58,15 @@ room_first : (b : Bool) (x : ℕ × ℕ × ℕ) (rest : Option (ℕ × ℕ × �
 room_first true x rest none = absurd cc
 room_first false x rest none = (refl, none)
 
-pub rooms : (text : List ℕ) (areas : List (Area × Option Locn)) → too_large_among text areas ≡ None → All (λ (a : Area × Option Locn). need (length text + 1) ≤ room a.0.size a.1) areas
+pub rooms : (text : List ℕ) (areas : List (Area × Option Locn)) → too_large_among text areas ≡ None
+    → All (λ (a : Area × Option Locn). need (length text + 1) ≤ room a.0.size a.1) areas
 rooms text [] none = All-nil (λ (a : Area × Option Locn). need (length text + 1) ≤ room a.0.size a.1)
 rooms text (a ∷ areas) none =
-    let parts = room_first (ltb (room a.0.size a.1) (need (length text + 1))) (a.0.pv, need (length text + 1), room a.0.size a.1) (too_large_among text areas) none in
-    All-cons (λ (b : Area × Option Locn). need (length text + 1) ≤ room b.0.size b.1) a areas (ltb-false (room a.0.size a.1) (need (length text + 1)) parts.0) (rooms text areas parts.1)
+    let parts =
+        room_first (ltb (room a.0.size a.1) (need (length text + 1))) (a.0.pv, need (length text + 1), room a.0.size a.1)
+            (too_large_among text areas) none in
+    All-cons (λ (b : Area × Option Locn). need (length text + 1) ≤ room b.0.size b.1) a areas
+        (ltb-false (room a.0.size a.1) (need (length text + 1)) parts.0) (rooms text areas parts.1)
 
 -- ---- an area
 
@@ -71,12 +77,14 @@ held_on area (Text locn) kept is = ap (λ (a : Area × Option Locn). a.0) (sym (
 held_on area (Refused refusal) kept is = ap (λ (a : Area × Option Locn). a.0) (sym (same_Some (area, None) kept is))
 
 module _ (stale : List (ℕ × ℕ)) (strays : set.FinSet nat_cmp) (text : List ℕ) (pv : ℕ) where
-  area_by : (found : AreaFound) (area : Area × Option Locn) (stray old : Bool) → (cond stray (with_entry found None) (cond old (with_entry found (Some (new_entry text area))) found)).area ≡ found.area
+  area_by : (found : AreaFound) (area : Area × Option Locn) (stray old : Bool)
+      → (cond stray (with_entry found None) (cond old (with_entry found (Some (new_entry text area))) found)).area ≡ found.area
   area_by found area true old = refl
   area_by found area false true = refl
   area_by found area false false = refl
 
-  area_kept_by : (number : ℕ) (found : AreaFound) (o : Option (Area × Option Locn)) → (option_map_or (repaired_held stale strays text pv (number, found)) o found).area ≡ found.area
+  area_kept_by : (number : ℕ) (found : AreaFound) (o : Option (Area × Option Locn))
+      → (option_map_or (repaired_held stale strays text pv (number, found)) o found).area ≡ found.area
   area_kept_by number found None = refl
   area_kept_by number found (Some area) = area_by found area (set.contains strays pv) (is_among stale pv number)
 
@@ -85,12 +93,17 @@ module _ (stale : List (ℕ × ℕ)) (strays : set.FinSet nat_cmp) (text : List 
   area_kept number found = area_kept_by number found (held_area pv found)
 
   -- it can be used as before
-  module _ (sectors number : ℕ) (found : AreaFound) (usable : IsUsable pv sectors found) (has_room : (area : Area × Option Locn) → stale_in stale pv (number, found) ≡ Some area → CanTake area × (need (length text + 1) ≤ room area.0.size area.1)) where
-    new_usable : (area : Area × Option Locn) → held_area pv found ≡ Some area → is_among stale pv number ≡ true → IsUsable pv sectors (with_entry found (Some (new_entry text area)))
+  module _ (sectors number : ℕ) (found : AreaFound) (usable : IsUsable pv sectors found)
+      (has_room : (area : Area × Option Locn) → stale_in stale pv (number, found) ≡ Some area
+      → CanTake area × (need (length text + 1) ≤ room area.0.size area.1)) where
+    new_usable : (area : Area × Option Locn) → held_area pv found ≡ Some area → is_among stale pv number ≡ true
+        → IsUsable pv sectors (with_entry found (Some (new_entry text area)))
     new_usable area is old =
         let has = has_room area (ap (λ (b : Bool). cond b (held_area pv found) None) old ∙ is) in
         let size : area.0.size ≡ found.area.size = ap (λ (a : Area). a.size) (held_on (area_on pv found.area) found.entry area is) in
-        record { area = usable.area; within = usable.within; text = subst (λ (n : ℕ). LiesInside n (Text (new_entry text area))) size (entry_inside text area (is_placed text area has.0 has.1)).0 }
+        record { area = usable.area; within = usable.within;
+            text = subst (λ (n : ℕ). LiesInside n (Text (new_entry text area))) size
+            (entry_inside text area (is_placed text area has.0 has.1)).0 }
 
     usable_by : (area : Area × Option Locn) → held_area pv found ≡ Some area → (stray old : Bool) → is_among stale pv number ≡ old
         → IsUsable pv sectors (cond stray (with_entry found None) (cond old (with_entry found (Some (new_entry text area))) found))
@@ -98,7 +111,8 @@ module _ (stale : List (ℕ × ℕ)) (strays : set.FinSet nat_cmp) (text : List 
     usable_by area is false true same = new_usable area is same
     usable_by area is false false same = usable
 
-    usable_for : (o : Option (Area × Option Locn)) → held_area pv found ≡ o → IsUsable pv sectors (option_map_or (repaired_held stale strays text pv (number, found)) o found)
+    usable_for : (o : Option (Area × Option Locn)) → held_area pv found ≡ o
+        → IsUsable pv sectors (option_map_or (repaired_held stale strays text pv (number, found)) o found)
     usable_for None is = usable
     usable_for (Some area) is = usable_by area is (set.contains strays pv) (is_among stale pv number) refl
 
@@ -113,11 +127,14 @@ module _ (stale : List (ℕ × ℕ)) (strays : set.FinSet nat_cmp) (text : List 
 
   -- a scan judges it as before
   shape_by : (sectors label : ℕ) (header : PvHeader) (areas : List AreaFound) (stray : Bool)
-      → disk_shape (record { sectors = sectors; contents = Some (Whole label (cond stray (unused header) header) areas) }) ≡ disk_shape (record { sectors = sectors; contents = Some (Whole label header areas) })
+      → disk_shape (record { sectors = sectors; contents = Some (Whole label (cond stray (unused header) header) areas) })
+      ≡ disk_shape (record { sectors = sectors; contents = Some (Whole label header areas) })
   shape_by sectors label header areas true = refl
   shape_by sectors label header areas false = refl
 
-  shape_kept : (pv sectors : ℕ) (contents : Option PvFound) → disk_shape (new_disk (pv, record { sectors = sectors; contents = contents })) ≡ disk_shape (record { sectors = sectors; contents = contents })
+  shape_kept : (pv sectors : ℕ) (contents : Option PvFound)
+      → disk_shape (new_disk (pv, record { sectors = sectors; contents = contents }))
+      ≡ disk_shape (record { sectors = sectors; contents = contents })
   shape_kept pv sectors None = refl
   shape_kept pv sectors (Some (NoLabel refusal)) = refl
   shape_kept pv sectors (Some (NoHeader label refusal)) = refl
@@ -128,27 +145,33 @@ module _ (stale : List (ℕ × ℕ)) (strays : set.FinSet nat_cmp) (text : List 
 
   -- its id stays
   id_by : (id : List ℕ) (sectors label : ℕ) (header : PvHeader) (areas more : List AreaFound) (stray : Bool)
-      → has_header_id id (record { sectors = sectors; contents = Some (Whole label (cond stray (unused header) header) more) }) ≡ has_header_id id (record { sectors = sectors; contents = Some (Whole label header areas) })
+      → has_header_id id (record { sectors = sectors; contents = Some (Whole label (cond stray (unused header) header) more) })
+      ≡ has_header_id id (record { sectors = sectors; contents = Some (Whole label header areas) })
   id_by id sectors label header areas more true = refl
   id_by id sectors label header areas more false = refl
 
-  id_kept : (id : List ℕ) (pv sectors : ℕ) (contents : Option PvFound) → has_header_id id (new_disk (pv, record { sectors = sectors; contents = contents })) ≡ has_header_id id (record { sectors = sectors; contents = contents })
+  id_kept : (id : List ℕ) (pv sectors : ℕ) (contents : Option PvFound)
+      → has_header_id id (new_disk (pv, record { sectors = sectors; contents = contents }))
+      ≡ has_header_id id (record { sectors = sectors; contents = contents })
   id_kept id pv sectors None = refl
   id_kept id pv sectors (Some (NoLabel refusal)) = refl
   id_kept id pv sectors (Some (NoHeader label refusal)) = refl
-  id_kept id pv sectors (Some (Whole label header areas)) = id_by id sectors label header areas (repaired_areas stale strays text pv areas) (set.contains strays pv)
+  id_kept id pv sectors (Some (Whole label header areas)) =
+      id_by id sectors label header areas (repaired_areas stale strays text pv areas) (set.contains strays pv)
 
   with_kept : (id : List ℕ) (first : ℕ) (disks : List Disk) → disk_with (map new_disk (enumerate_from first disks)) id ≡ disk_with disks id
   with_kept id first [] = refl
   with_kept id first (disk ∷ disks) =
-      ap (λ (b : Bool). cond b 0 (disk_with (map new_disk (enumerate_from (first + 1) disks)) id + 1)) (id_kept id first disk.sectors disk.contents)
+      ap (λ (b : Bool). cond b 0 (disk_with (map new_disk (enumerate_from (first + 1) disks)) id + 1))
+          (id_kept id first disk.sectors disk.contents)
       ∙ ap (λ (n : ℕ). cond (has_header_id id disk) 0 (n + 1)) (with_kept id (first + 1) disks)
 
   pub disks_kept : (group : Group) (disks : List Disk) → disks_of group (repaired_disks stale strays text disks) ≡ disks_of group disks
   disks_kept group disks = ap (λ (f : List ℕ → ℕ). map (λ (pv : List ℕ × Pv). f pv.1.id) group.pvs) (fun_ext (λ id. with_kept id 0 disks))
 
   -- and so are the numbers of the disks of a group that was found
-  pub numbers_kept : (o : Option Group) (disk_of : List ℕ) (disks : List Disk) → IfSome o (λ group. disk_of ≡ disks_of group disks) → IfSome o (λ group. disk_of ≡ disks_of group (repaired_disks stale strays text disks))
+  pub numbers_kept : (o : Option Group) (disk_of : List ℕ) (disks : List Disk) → IfSome o (λ group. disk_of ≡ disks_of group disks)
+      → IfSome o (λ group. disk_of ≡ disks_of group (repaired_disks stale strays text disks))
   numbers_kept None disk_of disks is = tt
   numbers_kept (Some group) disk_of disks is = is ∙ sym (disks_kept group disks)
 
@@ -169,37 +192,48 @@ module _ (found : Found) (shape : HasShape found) (fits : too_large found ≡ No
 
   module _ (pv : ℕ) (disk : Disk) (there : slice_get found.disks pv ≡ Some disk) where
     -- a stale area has room for the text
-    pub has_room : (number : ℕ) (area : AreaFound) → slice_get (areas_on disk.contents) number ≡ Some area → (held : Area × Option Locn) → stale_in stale pv (number, area) ≡ Some held
+    pub has_room : (number : ℕ) (area : AreaFound) → slice_get (areas_on disk.contents) number ≡ Some area → (held : Area × Option Locn)
+        → stale_in stale pv (number, area) ≡ Some held
         → CanTake held × (need (length text + 1) ≤ room held.0.size held.1)
     has_room number area at held is =
         let on : In (stale_on stale (pv, disk)) held = kept_has (stale_in stale pv) (areas_on disk.contents) held number area at is in
         let member : In (stale_areas found) held = flat_has (stale_on stale) found.disks held pv disk there on in
-        (all_in CanTake (stale_areas found) held member (stale_held found shape).take, all_in (λ (a : Area × Option Locn). need (length text + 1) ≤ room a.0.size a.1) (stale_areas found) held member (rooms text (stale_areas found) fits))
+        (all_in CanTake (stale_areas found) held member (stale_held found shape).take,
+            all_in (λ (a : Area × Option Locn). need (length text + 1) ≤ room a.0.size a.1) (stale_areas found) held member
+            (rooms text (stale_areas found) fits))
 
     -- a stray's header can be read where its label is written
-    stray_reads : (label : ℕ) (header : PvHeader) (areas : List AreaFound) → disk.contents ≡ Some (Whole label header areas) → (stray : Bool) → set.contains strays pv ≡ stray
-        → (sector : List ℕ) × Reads sector (disk.sectors * 512) header → (sector : List ℕ) × Reads sector (disk.sectors * 512) (cond stray (unused header) header)
+    stray_reads : (label : ℕ) (header : PvHeader) (areas : List AreaFound) → disk.contents ≡ Some (Whole label header areas)
+        → (stray : Bool) → set.contains strays pv ≡ stray
+        → (sector : List ℕ) × Reads sector (disk.sectors * 512) header
+        → (sector : List ℕ) × Reads sector (disk.sectors * 512) (cond stray (unused header) header)
     stray_reads label header areas is false none reads = reads
     stray_reads label header areas is true stray reads =
         let new : NewLabel = record { disk = pv; sector = label; header = unused header } in
         let labelled : unused_label strays (pv, disk) ≡ Some new =
-        ap (λ (b : Bool). cond b (option_map (λ (p : ℕ × PvHeader). record { disk = pv; sector = p.0; header = unused p.1 }) (option_and_then pv_in disk.contents)) None) stray
-        ∙ ap (λ (c : Option PvFound). option_map (λ (p : ℕ × PvHeader). record { disk = pv; sector = p.0; header = unused p.1 }) (option_and_then pv_in c)) is
+        ap (λ (b : Bool). cond b (option_map (λ (p : ℕ × PvHeader). record { disk = pv; sector = p.0; header = unused p.1 })
+            (option_and_then pv_in disk.contents)) None) stray
+        ∙ ap (λ (c : Option PvFound). option_map (λ (p : ℕ × PvHeader). record { disk = pv; sector = p.0; header = unused p.1 })
+        (option_and_then pv_in c)) is
         in
         let member : In (stray_labels found) new = kept_has (unused_label strays) found.disks new pv disk there labelled in
         let holds : IsLabelOf _ pv new = label_is found shape pv disk there new labelled in
-        (label_bytes new, record { fields = header_found new holds.can (all_in FitsFields (stray_labels found) new member fields) holds.found; areas = reads.1.areas })
+        (label_bytes new, record { fields = header_found new holds.can (all_in FitsFields (stray_labels found) new member fields)
+            holds.found; areas = reads.1.areas })
 
-    contents_stand : (contents : Option PvFound) → disk.contents ≡ contents → ContentsCanStand pv disk.sectors contents → ContentsCanStand pv disk.sectors (option_map (repaired_contents stale strays text pv) contents)
+    contents_stand : (contents : Option PvFound) → disk.contents ≡ contents → ContentsCanStand pv disk.sectors contents
+        → ContentsCanStand pv disk.sectors (option_map (repaired_contents stale strays text pv) contents)
     contents_stand None is stands = tt
     contents_stand (Some (NoLabel refusal)) is stands = tt
     contents_stand (Some (NoHeader label refusal)) is stands = stands
     contents_stand (Some (Whole label header areas)) is stands = (
       stands.0,
       stray_reads label header areas is (set.contains strays pv) refl stands.1,
-      mapped_same (repaired_area stale strays text pv) (λ (found : AreaFound). found.area) (λ (found : AreaFound). found.area) (λ number area. area_kept stale strays text pv number area) 0 areas ∙ stands.2 ∙ lists (set.contains strays pv),
+      mapped_same (repaired_area stale strays text pv) (λ (found : AreaFound). found.area) (λ (found : AreaFound). found.area)
+          (λ number area. area_kept stale strays text pv number area) 0 areas ∙ stands.2 ∙ lists (set.contains strays pv),
       mapped_all (repaired_area stale strays text pv) (IsUsable pv disk.sectors) areas
-          (λ number area at. area_usable stale strays text pv disk.sectors number area (all_at (IsUsable pv disk.sectors) areas number area at stands.3)
+          (λ number area at. area_usable stale strays text pv disk.sectors number area
+              (all_at (IsUsable pv disk.sectors) areas number area at stands.3)
           (λ held old. has_room number area (ap (λ (c : Option PvFound). slice_get (areas_on c) number) is ∙ at) held old)),
     )
       where
@@ -210,7 +244,8 @@ module _ (found : Found) (shape : HasShape found) (fits : too_large found ≡ No
     disk_stands : IsDisk pv disk → IsDisk pv (repaired_disk stale strays text (pv, disk))
     disk_stands is = record { least = is.least; most = is.most; contents = contents_stand disk.contents refl is.contents }
 
-    unread_by : (contents : Option PvFound) → (contents ≡ None) ↔ (set.contains found.unread pv ≡ true) → (option_map (repaired_contents stale strays text pv) contents ≡ None) ↔ (set.contains found.unread pv ≡ true)
+    unread_by : (contents : Option PvFound) → (contents ≡ None) ↔ (set.contains found.unread pv ≡ true)
+        → (option_map (repaired_contents stale strays text pv) contents ≡ None) ↔ (set.contains found.unread pv ≡ true)
     unread_by None is = is
     unread_by (Some contents) is = (λ none. absurd cc, λ unread. absurd (never (is.1 unread)))
       where
@@ -221,7 +256,8 @@ module _ (found : Found) (shape : HasShape found) (fits : too_large found ≡ No
   new_at pv disk is =
       let w = mapped_at (repaired_disk stale strays text) found.disks pv disk is in
       let old = shape.disks pv w.0 w.1 in
-      subst (λ (d : Disk). IsDisk pv d × IsUnread found.unread pv d) w.2 (disk_stands pv w.0 w.1 old.0, unread_by pv w.0 w.1 w.0.contents old.1)
+      subst (λ (d : Disk). IsDisk pv d × IsUnread found.unread pv d) w.2
+          (disk_stands pv w.0 w.1 old.0, unread_by pv w.0 w.1 w.0.contents old.1)
 
   same_length : length disks ≡ length found.disks
   same_length = mapped_length (repaired_disk stale strays text) found.disks
@@ -242,7 +278,8 @@ module _ (found : Found) (shape : HasShape found) (fits : too_large found ≡ No
         apart = shaped.1;
         placed = subst (λ (s : List Reading). IfSome found.group (λ group. first_misplaced group s ≡ None)) same_shapes shape.placed;
         disk_of = numbers_kept found.stale found.strays (text_of found) found.group found.disk_of found.disks shape.disk_of;
-        missing = subst (λ (s : List Reading). IfSome found.group (λ group. found.missing ≡ missing_of s group.pvs)) same_shapes shape.missing;
+        missing =
+            subst (λ (s : List Reading). IfSome found.group (λ group. found.missing ≡ missing_of s group.pvs)) same_shapes shape.missing;
         stale = All-nil (λ (area : ℕ × ℕ). area.0 < length disks);
         strays = λ pv is. absurd (true≢false (sym is ∙ set.contains-empty nat_cmp pv));
         unread = λ pv is. subst (λ (n : ℕ). pv < n) (sym same_length) (shape.unread pv is);
@@ -258,11 +295,15 @@ never_not_whole found (ReadFailed pv) is not = none_first (range_with_len 0 64) 
   where
     none_first : (numbers : List ℕ) → find (set.contains found.unread) numbers ≡ Some pv → ⊥
     none_first [] e = cc
-    none_first (n ∷ numbers) e = none_first numbers (sym (ap (λ (b : Bool). cond b (Some n) (find (set.contains found.unread) numbers)) (ap (λ (s : set.FinSet nat_cmp). set.contains s n) is.read ∙ set.contains-empty nat_cmp n)) ∙ e)
+    none_first (n ∷ numbers) e =
+        none_first numbers (sym (ap (λ (b : Bool). cond b (Some n) (find (set.contains found.unread) numbers))
+            (ap (λ (s : set.FinSet nat_cmp). set.contains s n) is.read ∙ set.contains-empty nat_cmp n)) ∙ e)
 never_not_whole found Partial is not = not.1 is.there
 
 -- what it is made of
-pub remade : (found : Found) (made : List Disk) (held : List (Area × Option Locn)) (old : List (ℕ × ℕ)) (left : set.FinSet nat_cmp) → made ≡ repaired_disks found.stale found.strays (text_of found) found.disks
+pub remade : (found : Found) (made : List Disk) (held : List (Area × Option Locn)) (old : List (ℕ × ℕ)) (left : set.FinSet nat_cmp)
+    → made ≡ repaired_disks found.stale found.strays (text_of found) found.disks
     → held ≡ held_areas 0 (repaired_disks found.stale found.strays (text_of found) found.disks) → old ≡ [] → left ≡ set.empty
     → record found { disks = made; areas = held; stale = old; strays = left } ≡ repaired_of found
-remade found made held old left same_made same_held none_old none_left = λ i. record found { disks = same_made i; areas = same_held i; stale = none_old i; strays = none_left i }
+remade found made held old left same_made same_held none_old none_left =
+    λ i. record found { disks = same_made i; areas = same_held i; stale = none_old i; strays = none_left i }

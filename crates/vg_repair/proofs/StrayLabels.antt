@@ -19,5 +19,6 @@ module _ (found : Found) (shape : HasShape found) where
   labels_differ = unused_differ found.disks found.areas (are_scanned found shape) found.strays
 
   -- that of one stray
-  pub label_is : (pv : ℕ) (disk : Disk) → slice_get found.disks pv ≡ Some disk → (label : NewLabel) → unused_label found.strays (pv, disk) ≡ Some label → IsLabelOf (sizes_of found.disks) pv label
+  pub label_is : (pv : ℕ) (disk : Disk) → slice_get found.disks pv ≡ Some disk → (label : NewLabel)
+      → unused_label found.strays (pv, disk) ≡ Some label → IsLabelOf (sizes_of found.disks) pv label
   label_is = unused_is found.disks found.areas (are_scanned found shape) found.strays

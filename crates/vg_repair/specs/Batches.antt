@@ -16,7 +16,8 @@ use Rattle.vg_repair.specs.Stale.{stale_areas, text_of}
 abbrev pub text_batches : List ℕ → List (Area × Option Locn) → List (List Put)
 text_batches text [] = []
 text_batches text (area ∷ areas) =
-    texts_of (map (area_writes text) (area ∷ areas)) ∷ headers_of (map (area_writes text) (area ∷ areas)) ∷ publish_of (map (area_writes text) (area ∷ areas)) ∷ []
+    texts_of (map (area_writes text) (area ∷ areas)) ∷ headers_of (map (area_writes text) (area ∷ areas))
+        ∷ publish_of (map (area_writes text) (area ∷ areas)) ∷ []
 
 -- ---- strays
 

@@ -45,9 +45,12 @@ pub record IsRight (found : Found) (image : Image) : Type 0 where
 -- over a base that shows the entries of the areas every image on the way keeps what the base holds, and once all is written
 -- the text stands in each stale area, and the strays are cleared
 pub record KeepsImages (found : Found) : Type 0 where
-  pub kept : (base image : Image) → ShowsEntries found.areas base → HasFirstBatches (repair_batches found) base image → IsKept found base image
+  pub kept : (base image : Image) → ShowsEntries found.areas base → HasFirstBatches (repair_batches found) base image
+      → IsKept found base image
   pub right : (base : Image) → ShowsEntries found.areas base → IsRight found (with_batches (repair_batches found) base)
 
 -- where nothing is stale and there is no stray, nothing is written, and all that is found stays as it is
 abbrev pub LeavesAll : Type 0
-LeavesAll = (found : Found) → HasShape found → found.stale ≡ [] → found.strays ≡ set.empty → (repair_batches found ≡ []) × (repaired_of found ≡ found)
+LeavesAll =
+    (found : Found) → HasShape found → found.stale ≡ [] → found.strays ≡ set.empty
+        → (repair_batches found ≡ []) × (repaired_of found ≡ found)

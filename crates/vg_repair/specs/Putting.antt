@@ -19,7 +19,8 @@ IsSummed repair = repair.sum ≡ checksum lvm_crc_start (stored (text_put repair
 
 -- the text has room in the area that was found on this disk, by its number there, if it is stale
 abbrev pub AreaHasRoom : Repair → ℕ → ℕ × AreaFound → Type 0
-AreaHasRoom repair pv found = (area : Area × Option Locn) → stale_in repair.stale pv found ≡ Some area → need (length (text_put repair) + 1) ≤ room area.0.size area.1
+AreaHasRoom repair pv found =
+    (area : Area × Option Locn) → stale_in repair.stale pv found ≡ Some area → need (length (text_put repair) + 1) ≤ room area.0.size area.1
 
 -- the text has room in each of these areas of a disk that is stale
 abbrev pub HasRoom : Repair → ℕ → List AreaFound → Type 0

@@ -35,7 +35,8 @@ with_entry found committed = record {
 -- stray's is empty, a stale one has the new entry of the text, and another is as it was
 abbrev pub repaired_held : List (ℕ × ℕ) → set.FinSet nat_cmp → List ℕ → ℕ → ℕ × AreaFound → Area × Option Locn → AreaFound
 repaired_held stale strays text disk found area =
-    if set.contains strays disk then with_entry found.1 None else if is_among stale disk found.0 then with_entry found.1 (Some (new_entry text area)) else found.1
+    if set.contains strays disk then with_entry found.1 None else if is_among stale disk found.0 then with_entry found.1
+        (Some (new_entry text area)) else found.1
 
 -- any area as it is found then
 abbrev pub repaired_area : List (ℕ × ℕ) → set.FinSet nat_cmp → List ℕ → ℕ → ℕ × AreaFound → AreaFound
@@ -54,7 +55,8 @@ repaired_contents stale strays text disk (Whole label header areas) =
 
 -- a disk as it is found then, by its number
 abbrev pub repaired_disk : List (ℕ × ℕ) → set.FinSet nat_cmp → List ℕ → ℕ × Disk → Disk
-repaired_disk stale strays text disk = record { sectors = disk.1.sectors; contents = option_map (repaired_contents stale strays text disk.0) disk.1.contents }
+repaired_disk stale strays text disk =
+    record { sectors = disk.1.sectors; contents = option_map (repaired_contents stale strays text disk.0) disk.1.contents }
 
 -- all disks as they are found then
 abbrev pub repaired_disks : List (ℕ × ℕ) → set.FinSet nat_cmp → List ℕ → List Disk → List Disk

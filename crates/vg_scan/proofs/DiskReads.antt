@@ -1,5 +1,6 @@
 -- The spans that are read on a disk: each is of the disk, and they are few.
-use Rattle.std.proofs.Common.{◌≡◌, ◌<◌, ◌≤◌, ℕ, ◌+◌, ◌*◌, ◌/◌, ◌++◌, List, [], ◌∷◌, All, get_or, length, map, Option, Some, None, IfSome, Bool, true, false, if◌then◌else◌, refl, sym, ap, subst, ◌∙◌, arith, length-append}
+use Rattle.std.proofs.Common.{◌≡◌, ◌<◌, ◌≤◌, ℕ, ◌+◌, ◌*◌, ◌/◌, ◌++◌, List, [], ◌∷◌, All, get_or, length, map, Option, Some, None, IfSome,
+    Bool, true, false, if◌then◌else◌, refl, sym, ap, subst, ◌∙◌, arith, length-append}
 use Rattle.std.specs.Option.{option_map_or}
 use Rattle.std.proofs.lemmas.List.{append-nil, get_or_append_left, length-map}
 use Rattle.std.proofs.lemmas.List.Elements.{All-append, All-cons, All-map, All-nil}
@@ -41,7 +42,8 @@ IsOn pv span = span.pv ≡ pv
 
 -- ---- the spans of a text
 
-pair_own : (pv : ℕ) (first : Span) (rest : Option Span) → IsOn pv first → IfSome rest (IsOn pv) → All (IsOn pv) (first ∷ option_map_or (λ span. span ∷ []) rest [])
+pair_own : (pv : ℕ) (first : Span) (rest : Option Span) → IsOn pv first → IfSome rest (IsOn pv)
+    → All (IsOn pv) (first ∷ option_map_or (λ span. span ∷ []) rest [])
 pair_own pv first None own others = All-cons (IsOn pv) first [] own (All-nil (IsOn pv))
 pair_own pv first (Some rest) own others = All-cons (IsOn pv) first (rest ∷ []) own (All-cons (IsOn pv) rest [] others (All-nil (IsOn pv)))
 
@@ -57,7 +59,8 @@ text_own : (area : Area) (locn : Locn) → All (IsOn area.pv) (text_spans area l
 text_own area locn =
     let all : ℕ = touched_count area.size locn.offset locn.size in
     let to_end : ℕ = sectors_to_end area.size locn.offset in
-    pair_own area.pv (ring_spans area locn.offset locn.size).0 (ring_spans area locn.offset locn.size).1 refl (if_own area.pv _ (span_of_area area 1 _) refl)
+    pair_own area.pv (ring_spans area locn.offset locn.size).0 (ring_spans area locn.offset locn.size).1 refl
+        (if_own area.pv _ (span_of_area area 1 _) refl)
 
 entry_own : (area : Area) (entry : HeaderEntry) → All (IsOn area.pv) (entry_spans area entry)
 entry_own area Ignored = All-nil (IsOn area.pv)
@@ -75,12 +78,14 @@ entry_few area (Refused refusal) = omega arith
 
 texts_own : (pv : ℕ) (areas : List AreaFound) → All (IsOn pv) (text_spans_in pv areas)
 texts_own pv [] = All-nil (IsOn pv)
-texts_own pv (found ∷ areas) = All-append (IsOn pv) (spans_in pv found) (text_spans_in pv areas) (entry_own (area_on pv found.area) found.entry) (texts_own pv areas)
+texts_own pv (found ∷ areas) =
+    All-append (IsOn pv) (spans_in pv found) (text_spans_in pv areas) (entry_own (area_on pv found.area) found.entry) (texts_own pv areas)
 
 texts_few : (pv : ℕ) (areas : List AreaFound) → length (text_spans_in pv areas) ≤ 2 * length areas
 texts_few pv [] = omega arith
 texts_few pv (found ∷ areas) =
-    let long : length (spans_in pv found ++ text_spans_in pv areas) ≡ length (spans_in pv found) + length (text_spans_in pv areas) = length-append (spans_in pv found) (text_spans_in pv areas) in
+    let long : length (spans_in pv found ++ text_spans_in pv areas) ≡ length (spans_in pv found) + length (text_spans_in pv areas) =
+        length-append (spans_in pv found) (text_spans_in pv areas) in
     let one : length (spans_in pv found) ≤ 2 = entry_few (area_on pv found.area) found.entry in
     let more : length (text_spans_in pv areas) ≤ 2 * length areas = texts_few pv areas in
     omega arith
@@ -109,8 +114,10 @@ front_few read rest spans front =
 
 -- ---- what is read of the disk
 
-told_reads : (pv sectors : ℕ) (areas : List Extent) (before after : Option Record) (spans : List Span) → HoldsOfDisk before pv (λ sector_at. AreAreasOf sector_at sectors areas)
-    → All (IsOn pv) spans → length spans ≤ 1 + 3 * length areas → ReadsTold before spans after → BetweenRecords (ReadsDisk pv sectors) before after
+told_reads : (pv sectors : ℕ) (areas : List Extent) (before after : Option Record) (spans : List Span)
+    → HoldsOfDisk before pv (λ sector_at. AreAreasOf sector_at sectors areas)
+    → All (IsOn pv) spans → length spans ≤ 1 + 3 * length areas → ReadsTold before spans after
+    → BetweenRecords (ReadsDisk pv sectors) before after
 told_reads pv sectors areas before after spans are own few reads old is =
     let f = reads old is in (
       f.0,
@@ -131,14 +138,17 @@ abbrev pub ReadsSo : ℕ → ℕ → State → State → Type 0 → Type 0
 ReadsSo pv sectors before after End = BetweenRecords (ReadsDisk pv sectors) before.told after.told × IsIdleAgain before after × End
 
 -- its headers, or the first so many of them
-pub headers_until : (pv sectors : ℕ) (before after : State) (refusal : ReadRefusal) → ReadsAreasUntil pv sectors before (λ areas. label_span pv ∷ area_spans pv areas) after refusal
+pub headers_until : (pv sectors : ℕ) (before after : State) (refusal : ReadRefusal)
+    → ReadsAreasUntil pv sectors before (λ areas. label_span pv ∷ area_spans pv areas) after refusal
     → ReadsSo pv sectors before after (IsReadCause pv before after refusal)
 headers_until pv sectors before after refusal until =
     let areas : List Extent = until.0 in
     let u : ReadsUntil pv before (label_span pv ∷ area_spans pv areas) after refusal = until.2 in
-    let few : length u.read ≤ length (label_span pv ∷ area_spans pv areas) = front_few u.read u.rest (label_span pv ∷ area_spans pv areas) u.front in
+    let few : length u.read ≤ length (label_span pv ∷ area_spans pv areas) =
+        front_few u.read u.rest (label_span pv ∷ area_spans pv areas) u.front in
     let long : length (label_span pv ∷ area_spans pv areas) ≡ 1 + length areas = headers_few pv areas in (
-      told_reads pv sectors areas before.told after.told u.read until.1 (front_own pv u.read u.rest (label_span pv ∷ area_spans pv areas) u.front (headers_own pv areas)) (omega arith) u.reads,
+      told_reads pv sectors areas before.told after.told u.read until.1
+          (front_own pv u.read u.rest (label_span pv ∷ area_spans pv areas) u.front (headers_own pv areas)) (omega arith) u.reads,
       u.again,
       u.cause,
     )
@@ -148,7 +158,8 @@ as_many pv sectors (NoLabel refusal) stands = refl
 as_many pv sectors (NoHeader label refusal) stands = refl
 as_many pv sectors (Whole label header areas) stands = sym (length-map areas (λ (found : AreaFound). found.area)) ∙ ap length stands.2
 
-module _ (pv sectors : ℕ) (found : PvFound) (before there after : State) (stands : CanStand pv sectors found) (went : ReadsWell before (label_span pv ∷ area_spans pv (areas_found found)) there)
+module _ (pv sectors : ℕ) (found : PvFound) (before there after : State) (stands : CanStand pv sectors found)
+    (went : ReadsWell before (label_span pv ∷ area_spans pv (areas_found found)) there)
     (is : HoldsOfDisk before.told pv (λ sector_at. IsFound sector_at sectors found)) where
   headers : List Span
   headers = label_span pv ∷ area_spans pv (areas_found found)
@@ -157,7 +168,8 @@ module _ (pv sectors : ℕ) (found : PvFound) (before there after : State) (stan
   texts = text_spans_in pv (areas_in found)
 
   -- the first so many of its headers and of its texts
-  front_read : (read rest : List Span) → read ++ rest ≡ headers ++ texts → ReadsTold before.told read after.told → BetweenRecords (ReadsDisk pv sectors) before.told after.told
+  front_read : (read rest : List Span) → read ++ rest ≡ headers ++ texts → ReadsTold before.told read after.told
+      → BetweenRecords (ReadsDisk pv sectors) before.told after.told
   unfolding headers texts
   front_read read rest front reads =
       let few : length read ≤ length (headers ++ texts) = front_few read rest (headers ++ texts) front in
@@ -166,8 +178,10 @@ module _ (pv sectors : ℕ) (found : PvFound) (before there after : State) (stan
       let least : length texts ≤ 2 * length (areas_in found) = texts_few pv (areas_in found) in
       let same : length (areas_in found) ≡ length (areas_found found) = as_many pv sectors found stands in
       told_reads pv sectors (areas_found found) before.told after.told read
-      (holds_weaker before.told pv (λ sector_at. IsFound sector_at sectors found) (λ sector_at. AreAreasOf sector_at sectors (areas_found found)) (λ sector_at here. are_areas sector_at sectors found here) is)
-      (front_own pv read rest (headers ++ texts) front (All-append (IsOn pv) headers texts (headers_own pv (areas_found found)) (texts_own pv (areas_in found))))
+      (holds_weaker before.told pv (λ sector_at. IsFound sector_at sectors found)
+          (λ sector_at. AreAreasOf sector_at sectors (areas_found found)) (λ sector_at here. are_areas sector_at sectors found here) is)
+      (front_own pv read rest (headers ++ texts) front
+          (All-append (IsOn pv) headers texts (headers_own pv (areas_found found)) (texts_own pv (areas_in found))))
       (omega arith) reads
 
   -- all of them were read
@@ -178,7 +192,8 @@ module _ (pv sectors : ℕ) (found : PvFound) (before there after : State) (stan
       (front_read (headers ++ texts) [] (append-nil (headers ++ texts)) all.reads, all.again, all.faults)
 
   -- there was no going on
-  pub disk_until : (refusal : ReadRefusal) → ReadsUntil pv there (text_spans_in pv (areas_in found)) after refusal → ReadsSo pv sectors before after (IsReadCause pv before after refusal)
+  pub disk_until : (refusal : ReadRefusal) → ReadsUntil pv there (text_spans_in pv (areas_in found)) after refusal
+      → ReadsSo pv sectors before after (IsReadCause pv before after refusal)
   unfolding headers texts
   disk_until refusal read =
       let all : ReadsUntil pv before (headers ++ texts) after refusal = until_after pv before there after headers texts refusal went read in
@@ -189,7 +204,8 @@ module _ (pv sectors : ℕ) (found : PvFound) (before there after : State) (stan
       → HoldsOfDisk before.told pv (λ sector_at. IsDiskRead pv sector_at sectors found reading)
   unfolding headers
   disk_reads reading reads =
-      holds_both before.told pv (λ sector_at. IsFound sector_at sectors found) (λ sector_at. IsPvReading pv sector_at (Some found) reading) (λ sector_at. IsDiskRead pv sector_at sectors found reading)
+      holds_both before.told pv (λ sector_at. IsFound sector_at sectors found) (λ sector_at. IsPvReading pv sector_at (Some found) reading)
+          (λ sector_at. IsDiskRead pv sector_at sectors found reading)
       (λ sector_at a b. record { contents_is = a; pv_is = b })
       is
       (holds_before before.told there.told headers pv (λ sector_at. IsPvReading pv sector_at (Some found) reading) went.reads reads)

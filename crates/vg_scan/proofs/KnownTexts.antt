@@ -1,5 +1,6 @@
 -- A text that was read before is known again by its bytes.
-use Rattle.std.proofs.Common.{◌≡◌, ℕ, ◌+◌, ◌-◌, ◌<◌, ◌++◌, List, [], ◌∷◌, length, take, slice_index_or, slice_get, Bool, true, false, ◌==◌, if◌then◌else◌, option_map, unwrap_or, Option, Some, refl, sym, ap, ◌∙◌, arith}
+use Rattle.std.proofs.Common.{◌≡◌, ℕ, ◌+◌, ◌-◌, ◌<◌, ◌++◌, List, [], ◌∷◌, length, take, slice_index_or, slice_get, Bool, true, false, ◌==◌,
+    if◌then◌else◌, option_map, unwrap_or, Option, Some, refl, sym, ap, ◌∙◌, arith}
 use Rattle.std.proofs.lemmas.Bool.Decides.{nat_tests}
 use Rattle.std.proofs.lemmas.List.{length_push, take_all, take_more}
 use Rattle.sector_base.specs.Checksum.{checksum, lvm_crc_start}
@@ -47,7 +48,8 @@ cut_length a e =
     let cut : length (without_zero a) ≡ length (take (length a - 1) a) = ap length (cut_true a e) in
     omega arith
 
-same_by_ends : (a b : List ℕ) (x y : Bool) → ends_zero a ≡ x → ends_zero b ≡ y → length a ≡ length b → without_zero a ≡ without_zero b → a ≡ b
+same_by_ends : (a b : List ℕ) (x y : Bool) → ends_zero a ≡ x → ends_zero b ≡ y → length a ≡ length b → without_zero a ≡ without_zero b
+    → a ≡ b
 same_by_ends a b true true ea eb long same =
     sym (whole_again a ea) ∙ ap (λ (l : List ℕ). l ++ 0 ∷ []) (sym (cut_true a ea) ∙ same ∙ cut_true b eb) ∙ whole_again b eb
 same_by_ends a b true false ea eb long same =
@@ -66,11 +68,13 @@ same_stored a b long same = same_by_ends a b (ends_zero a) (ends_zero b) refl re
 -- ---- the copies that are known
 
 -- a copy is that of other bytes of one size, where its text is stored as these
-pub known_again : (entry locn : Locn) (copy : GroupCopy) (bytes : List ℕ) → IsKnown entry copy → entry.size ≡ locn.size → entry.sum ≡ locn.sum → length bytes ≡ locn.size → copy.text ≡ without_zero bytes
+pub known_again : (entry locn : Locn) (copy : GroupCopy) (bytes : List ℕ) → IsKnown entry copy → entry.size ≡ locn.size
+    → entry.sum ≡ locn.sum → length bytes ≡ locn.size → copy.text ≡ without_zero bytes
     → IsStored locn bytes (copied copy)
 known_again entry locn copy bytes known size sum long text =
     let same : known.bytes ≡ bytes = same_stored known.bytes bytes (known.size_is ∙ size ∙ sym long) (sym known.stored.0.text_is ∙ text) in
     (record { agrees = ap (checksum lvm_crc_start) (sym same) ∙ known.stored.0.agrees ∙ sum; text_is = text }, known.stored.1)
 
-pub gives_number : (copies : List GroupCopy) (i : ℕ) (copy : GroupCopy) → slice_get copies i ≡ Some copy → gives_of copies (Numbered i) ≡ copied copy
+pub gives_number : (copies : List GroupCopy) (i : ℕ) (copy : GroupCopy) → slice_get copies i ≡ Some copy
+    → gives_of copies (Numbered i) ≡ copied copy
 gives_number copies i copy at = ap (λ (o : Option GroupCopy). unwrap_or (option_map copied o) HoldsNone) at

@@ -1,5 +1,6 @@
 -- What was found by an answer has its shape.
-use Rattle.std.proofs.Common.{◌≡◌, ◌<◌, ◌≤◌, ℕ, suc, Bool, true, false, not, ◌||◌, eqb, List, [], ◌∷◌, length, map, Option, Some, None, ◌⊎◌, inl, inr, refl, sym, ap, subst, ◌∙◌, arith}
+use Rattle.std.proofs.Common.{◌≡◌, ◌<◌, ◌≤◌, ℕ, suc, Bool, true, false, not, ◌||◌, eqb, List, [], ◌∷◌, length, map, Option, Some, None, ◌⊎◌,
+    inl, inr, refl, sym, ap, subst, ◌∙◌, arith}
 use Rattle.std.specs.Prelude.{option_map, unwrap_or, filter, slice_get, All, AllPairs, IfSome}
 use Rattle.std.specs.FinSet as set
 use Rattle.std.specs.List.{list_any}
@@ -12,7 +13,8 @@ use Rattle.meta_model.specs.declared.pv.Pv.{Pv}
 use Rattle.scan_rules.specs.declared.decision.Decided.{Decided}
 use Rattle.scan_rules.specs.declared.readings.GroupCopy.{GroupCopy}
 use Rattle.scan_rules.specs.Answers.{IsDecided}
-use Rattle.scan_rules.specs.Decision.{Conflict, DuplicatePv, Found as PvOf, FoundGroup, NoCopy, NoGroup, PvShape, Reading, SameHeaders, SamePv, ScanAnswer, TwoGroups, Unsupported, decide_scan, first_duplicate, first_misplaced, has_id, ids_from, same_bytes}
+use Rattle.scan_rules.specs.Decision.{Conflict, DuplicatePv, Found as PvOf, FoundGroup, NoCopy, NoGroup, PvShape, Reading, SameHeaders,
+    SamePv, ScanAnswer, TwoGroups, Unsupported, decide_scan, first_duplicate, first_misplaced, has_id, ids_from, same_bytes}
 use Rattle.scan_rules.specs.Found.{missing_of}
 use Rattle.scan_rules.proofs.SameShape.{find_same, ids_same}
 use Rattle.vg_found.specs.declared.disk.Disk.{Disk}
@@ -66,11 +68,13 @@ in_list : (P : ℕ → Type 0) (l : List ℕ) → All P l → (q : ℕ) → set.
 in_list P [] all q there = absurd (false≢true (sym (set.contains-empty nat_cmp q) ∙ there))
 in_list P (x ∷ l) all q there =
     let cases : (eqb q x || set.contains (set.from_list {R = nat_cmp} l) q) ≡ true =
-    ap (λ (t : Bool). t || set.contains (set.from_list {R = nat_cmp} l) q) (sym (unsigned_tied q x)) ∙ sym (set.contains-insert nat_cmp_total (set.from_list l) x q) ∙ there
+    ap (λ (t : Bool). t || set.contains (set.from_list {R = nat_cmp} l) q) (sym (unsigned_tied q x))
+        ∙ sym (set.contains-insert nat_cmp_total (set.from_list l) x q) ∙ there
     in
     here_or_later (or_cases (eqb q x) (set.contains (set.from_list {R = nat_cmp} l) q) cases) (in_list P l (All-tail P x l all) q)
   where
-    here_or_later : (eqb q x ≡ true) ⊎ (set.contains (set.from_list {R = nat_cmp} l) q ≡ true) → (set.contains (set.from_list {R = nat_cmp} l) q ≡ true → P q) → P q
+    here_or_later : (eqb q x ≡ true) ⊎ (set.contains (set.from_list {R = nat_cmp} l) q ≡ true)
+        → (set.contains (set.from_list {R = nat_cmp} l) q ≡ true → P q) → P q
     here_or_later (inl here) later = subst P (sym (eqb-true q x here)) (All-head P x l all)
     here_or_later (inr behind) later = later behind
 
@@ -82,7 +86,9 @@ headers_length [] (b ∷ bs) same = absurd same
 headers_length (a ∷ as') [] same = absurd same
 headers_length (a ∷ as') (b ∷ bs) same = ap suc (headers_length as' bs same.2)
 
-same_id_on : (id : List ℕ) (a b : Option PvOf) → SamePv a b → unwrap_or (option_map (λ (pv : PvOf). same_bytes pv.id id) a) false ≡ unwrap_or (option_map (λ (pv : PvOf). same_bytes pv.id id) b) false
+same_id_on : (id : List ℕ) (a b : Option PvOf) → SamePv a b
+    → unwrap_or (option_map (λ (pv : PvOf). same_bytes pv.id id) a) false
+    ≡ unwrap_or (option_map (λ (pv : PvOf). same_bytes pv.id id) b) false
 same_id_on id None None same = refl
 same_id_on id None (Some b) same = absurd same
 same_id_on id (Some a) None same = absurd same
@@ -93,10 +99,12 @@ any_same_id id [] [] same = refl
 any_same_id id [] (b ∷ bs) same = absurd same
 any_same_id id (a ∷ as') [] same = absurd same
 any_same_id id (a ∷ as') (b ∷ bs) same =
-    ap (λ (t : Bool). t || list_any (has_id id) as') (same_id_on id a.pv b.pv same.1) ∙ ap (λ (t : Bool). has_id id b || t) (any_same_id id as' bs same.2)
+    ap (λ (t : Bool). t || list_any (has_id id) as') (same_id_on id a.pv b.pv same.1)
+        ∙ ap (λ (t : Bool). has_id id b || t) (any_same_id id as' bs same.2)
 
 missing_same : (as' bs : List Reading) (pvs : List (List ℕ × Pv)) → SameHeaders as' bs → missing_of as' pvs ≡ missing_of bs pvs
-missing_same as' bs pvs same = λ i. map (λ (pv : List ℕ × Pv). pv.1.id) (filter (λ (pv : List ℕ × Pv). pv.1.missing || not (any_same_id pv.1.id as' bs same i)) pvs)
+missing_same as' bs pvs same =
+    λ i. map (λ (pv : List ℕ × Pv). pv.1.id) (filter (λ (pv : List ℕ × Pv). pv.1.missing || not (any_same_id pv.1.id as' bs same i)) pvs)
 
 -- ---- the shape
 
@@ -110,15 +118,23 @@ record HasPlacesOf (rs : List Reading) (decided : Decided) : Type 0 where
 places_of : (rs : List Reading) (a : ScanAnswer) (decided : Decided) → IsDecided a decided → HasPlaces rs a → HasPlacesOf rs decided
 places_of rs (FoundGroup held stale strays missing) decided is places = record {
   placed = subst (λ (o : Option GroupCopy). IfSome o (λ (copy : GroupCopy). first_misplaced copy.group rs ≡ None)) (sym is.0) places.0;
-  missing = subst (λ (o : Option GroupCopy). IfSome o (λ (copy : GroupCopy). decided.missing ≡ missing_of rs copy.group.pvs)) (sym is.0) (is.3 ∙ places.3);
+  missing =
+      subst (λ (o : Option GroupCopy). IfSome o (λ (copy : GroupCopy). decided.missing ≡ missing_of rs copy.group.pvs)) (sym is.0)
+          (is.3 ∙ places.3);
   stale = subst (λ (l : List (ℕ × ℕ)). All (λ (area : ℕ × ℕ). area.0 < length rs) l) (sym is.1) places.1;
-  strays = λ pv there. in_list (λ (n : ℕ). n < length rs) strays places.2 pv (ap (λ (s : set.FinSet nat_cmp). set.contains s pv) (sym is.2) ∙ there);
+  strays =
+      λ pv there. in_list (λ (n : ℕ). n < length rs) strays places.2 pv
+          (ap (λ (s : set.FinSet nat_cmp). set.contains s pv) (sym is.2) ∙ there);
 }
 places_of rs NoGroup decided is places = record {
   placed = subst (λ (o : Option GroupCopy). IfSome o (λ (copy : GroupCopy). first_misplaced copy.group rs ≡ None)) (sym is.0) tt;
   missing = subst (λ (o : Option GroupCopy). IfSome o (λ (copy : GroupCopy). decided.missing ≡ missing_of rs copy.group.pvs)) (sym is.0) tt;
-  stale = subst (λ (l : List (ℕ × ℕ)). All (λ (area : ℕ × ℕ). area.0 < length rs) l) (sym is.1) (All-nil (λ (area : ℕ × ℕ). area.0 < length rs));
-  strays = λ pv there. absurd (false≢true (sym (ap (λ (s : set.FinSet nat_cmp). set.contains s pv) is.2 ∙ set.contains-empty nat_cmp pv) ∙ there));
+  stale =
+      subst (λ (l : List (ℕ × ℕ)). All (λ (area : ℕ × ℕ). area.0 < length rs) l) (sym is.1)
+          (All-nil (λ (area : ℕ × ℕ). area.0 < length rs));
+  strays =
+      λ pv there. absurd (false≢true (sym (ap (λ (s : set.FinSet nat_cmp). set.contains s pv) is.2 ∙ set.contains-empty nat_cmp pv)
+          ∙ there));
 }
 places_of rs (DuplicatePv a b) decided is places = absurd is
 places_of rs (NoCopy refused) decided is places = absurd is
@@ -128,9 +144,11 @@ places_of rs (Conflict a b seqno) decided is places = absurd is
 places_of rs (PvShape pv) decided is places = absurd is
 
 -- what holds of the group of a copy holds of the group that is it
-of_copy : (P : Group → Type 0) (o : Option GroupCopy) (g : Option Group) → g ≡ option_map (λ (copy : GroupCopy). copy.group) o → IfSome o (λ (copy : GroupCopy). P copy.group) → IfSome g P
+of_copy : (P : Group → Type 0) (o : Option GroupCopy) (g : Option Group) → g ≡ option_map (λ (copy : GroupCopy). copy.group) o
+    → IfSome o (λ (copy : GroupCopy). P copy.group) → IfSome g P
 of_copy P o g is some = subst (λ (x : Option Group). IfSome x P) (sym is) (mapped o some) where
-  mapped : (o : Option GroupCopy) → IfSome o (λ (copy : GroupCopy). P copy.group) → IfSome (option_map (λ (copy : GroupCopy). copy.group) o) P
+  mapped : (o : Option GroupCopy) → IfSome o (λ (copy : GroupCopy). P copy.group)
+      → IfSome (option_map (λ (copy : GroupCopy). copy.group) o) P
   mapped None some = tt
   mapped (Some copy) some = some
 
@@ -139,11 +157,14 @@ weaker P Q each None some = tt
 weaker P Q each (Some copy) some = each copy some
 
 has_shape : (disks : List Disk) (unread : set.FinSet nat_cmp) (rs : List Reading) (a : ScanAnswer) (decided : Decided) (found : Found)
-    → 1 ≤ length disks → length disks ≤ 64 → HaveShapes disks unread rs → AreasAreShaped → first_duplicate (ids_from 0 rs) ≡ None → HasPlaces rs a → IsDecided a decided → HasParts found decided
-    → found.disks ≡ disks → found.unread ≡ unread → found.areas ≡ held_areas 0 disks → IfSome decided.copy (λ (copy : GroupCopy). found.disk_of ≡ disks_of copy.group disks) → HasShape found
+    → 1 ≤ length disks → length disks ≤ 64 → HaveShapes disks unread rs → AreasAreShaped → first_duplicate (ids_from 0 rs) ≡ None
+    → HasPlaces rs a → IsDecided a decided → HasParts found decided
+    → found.disks ≡ disks → found.unread ≡ unread → found.areas ≡ held_areas 0 disks
+    → IfSome decided.copy (λ (copy : GroupCopy). found.disk_of ≡ disks_of copy.group disks) → HasShape found
 has_shape disks unread rs a decided found some few have shaped single places is parts disks_are unread_are areas_are disk_of_is =
     let at : HasPlacesOf rs decided = places_of rs a decided is places in
-    let count : length rs ≡ length found.disks = sym (headers_length (shapes disks) rs have.headers) ∙ shapes_length disks ∙ ap length (sym disks_are) in
+    let count : length rs ≡ length found.disks =
+        sym (headers_length (shapes disks) rs have.headers) ∙ shapes_length disks ∙ ap length (sym disks_are) in
     let take_apart = shaped disks (λ pv disk there. (have.each pv disk there).0) in
     record {
       some = subst (λ (l : List Disk). 1 ≤ length l) (sym disks_are) some;
@@ -151,25 +172,36 @@ has_shape disks unread rs a decided found some few have shaped single places is 
       disks = λ pv disk there.
           let each = have.each pv disk (ap (λ (l : List Disk). slice_get l pv) (sym disks_are) ∙ there) in
           (each.0, subst (λ (s : set.FinSet nat_cmp). IsUnread s pv disk) (sym unread_are) each.1);
-      differ = ap (λ (l : List Disk). first_duplicate (ids_from 0 (shapes l))) disks_are ∙ ap first_duplicate (ids_same 0 (shapes disks) rs have.headers) ∙ single;
+      differ =
+          ap (λ (l : List Disk). first_duplicate (ids_from 0 (shapes l))) disks_are
+              ∙ ap first_duplicate (ids_same 0 (shapes disks) rs have.headers) ∙ single;
       areas = areas_are ∙ ap (held_areas 0) (sym disks_are);
       take = subst (All CanTake) (sym areas_are) take_apart.0;
       apart = subst (AllPairs LieApart) (sym areas_are) take_apart.1;
       placed = of_copy (λ group. first_misplaced group (shapes found.disks) ≡ None) decided.copy found.group parts.group
           (weaker (λ copy. first_misplaced copy.group rs ≡ None) (λ copy. first_misplaced copy.group (shapes found.disks) ≡ None)
-          (λ copy none. ap (λ (l : List Disk). first_misplaced copy.group (shapes l)) disks_are ∙ find_same copy.group 0 (shapes disks) rs have.headers ∙ none)
+          (λ copy none. ap (λ (l : List Disk). first_misplaced copy.group (shapes l)) disks_are
+              ∙ find_same copy.group 0 (shapes disks) rs have.headers ∙ none)
           decided.copy at.placed);
       disk_of = of_copy (λ group. found.disk_of ≡ disks_of group found.disks) decided.copy found.group parts.group
           (weaker (λ copy. found.disk_of ≡ disks_of copy.group disks) (λ copy. found.disk_of ≡ disks_of copy.group found.disks)
           (λ copy same. same ∙ ap (disks_of copy.group) (sym disks_are))
           decided.copy disk_of_is);
       missing = of_copy (λ group. found.missing ≡ missing_of (shapes found.disks) group.pvs) decided.copy found.group parts.group
-          (weaker (λ copy. decided.missing ≡ missing_of rs copy.group.pvs) (λ copy. found.missing ≡ missing_of (shapes found.disks) copy.group.pvs)
-          (λ copy same. parts.missing ∙ same ∙ sym (missing_same (shapes disks) rs copy.group.pvs have.headers) ∙ ap (λ (l : List Disk). missing_of (shapes l) copy.group.pvs) (sym disks_are))
+          (weaker (λ copy. decided.missing ≡ missing_of rs copy.group.pvs)
+              (λ copy. found.missing ≡ missing_of (shapes found.disks) copy.group.pvs)
+          (λ copy same. parts.missing ∙ same ∙ sym (missing_same (shapes disks) rs copy.group.pvs have.headers)
+              ∙ ap (λ (l : List Disk). missing_of (shapes l) copy.group.pvs) (sym disks_are))
           decided.copy at.missing);
-      stale = subst (λ (l : List (ℕ × ℕ)). All (λ (area : ℕ × ℕ). area.0 < length found.disks) l) (sym parts.stale) (subst (λ (n : ℕ). All (λ (area : ℕ × ℕ). area.0 < n) decided.stale) count at.stale);
-      strays = λ pv there. let below : pv < length rs = at.strays pv (ap (λ (s : set.FinSet nat_cmp). set.contains s pv) (sym parts.strays) ∙ there) in omega (arith, below, count);
-      unread = λ pv there. let below : pv < length disks = have.below pv (ap (λ (s : set.FinSet nat_cmp). set.contains s pv) (sym unread_are) ∙ there) in omega (arith, below, ap length disks_are);
+      stale =
+          subst (λ (l : List (ℕ × ℕ)). All (λ (area : ℕ × ℕ). area.0 < length found.disks) l) (sym parts.stale)
+              (subst (λ (n : ℕ). All (λ (area : ℕ × ℕ). area.0 < n) decided.stale) count at.stale);
+      strays =
+          λ pv there. let below : pv < length rs = at.strays pv
+              (ap (λ (s : set.FinSet nat_cmp). set.contains s pv) (sym parts.strays) ∙ there) in omega (arith, below, count);
+      unread =
+          λ pv there. let below : pv < length disks = have.below pv
+              (ap (λ (s : set.FinSet nat_cmp). set.contains s pv) (sym unread_are) ∙ there) in omega (arith, below, ap length disks_are);
     }
   where
     shapes_length : (l : List Disk) → length (shapes l) ≡ length l
@@ -178,12 +210,16 @@ has_shape disks unread rs a decided found some few have shaped single places is 
 
 -- what was decided, with what stands on the disks, is the outcome
 pub outcome_of : (disks : List Disk) (unread : set.FinSet nat_cmp) (rs : List Reading) (decided : Decided) (found : Found)
-    → 1 ≤ length disks → length disks ≤ 64 → HaveShapes disks unread rs → AreasAreShaped → IsDecided (decide_scan rs) decided → HasParts found decided
-    → found.disks ≡ disks → found.unread ≡ unread → found.areas ≡ held_areas 0 disks → IfSome decided.copy (λ (copy : GroupCopy). found.disk_of ≡ disks_of copy.group disks) → IsOutcome disks unread rs found
+    → 1 ≤ length disks → length disks ≤ 64 → HaveShapes disks unread rs → AreasAreShaped → IsDecided (decide_scan rs) decided
+    → HasParts found decided
+    → found.disks ≡ disks → found.unread ≡ unread → found.areas ≡ held_areas 0 disks
+    → IfSome decided.copy (λ (copy : GroupCopy). found.disk_of ≡ disks_of copy.group disks) → IsOutcome disks unread rs found
 outcome_of disks unread rs decided found some few have shaped is parts disks_are unread_are areas_are disk_of_is = record {
   disks_are = disks_are;
   unread_are = unread_are;
   answer = found_by (decide_scan rs) decided found parts is;
   areas = areas_are;
-  shape = has_shape disks unread rs (decide_scan rs) decided found some few have shaped (no_duplicate rs decided is) (answer_places rs) is parts disks_are unread_are areas_are disk_of_is;
+  shape =
+      has_shape disks unread rs (decide_scan rs) decided found some few have shaped (no_duplicate rs decided is) (answer_places rs) is parts
+          disks_are unread_are areas_are disk_of_is;
 }

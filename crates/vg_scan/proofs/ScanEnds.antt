@@ -1,5 +1,6 @@
 -- What one disk gives is taken in, and what all disks come to is the scan.
-use Rattle.std.proofs.Common.{◌≡◌, ◌≢◌, ◌<◌, ◌≤◌, ℕ, ◌+◌, List, [], ◌∷◌, ◌++◌, length, map, get_or, Option, Some, None, Result, Ok, Err, refl, sym, ap, subst, ◌∙◌, arith}
+use Rattle.std.proofs.Common.{◌≡◌, ◌≢◌, ◌<◌, ◌≤◌, ℕ, ◌+◌, List, [], ◌∷◌, ◌++◌, length, map, get_or, Option, Some, None, Result, Ok, Err,
+    refl, sym, ap, subst, ◌∙◌, arith}
 use Rattle.std.specs.Prelude.{option_map, IfOk, IsErrAnd, MatchResult}
 use Rattle.std.specs.FinSet as set
 use Rattle.std.specs.Ordering.{nat_cmp}
@@ -33,11 +34,15 @@ use Rattle.vg_scan.specs.Scans.{FailedOn, HoldsNow, IsRefusalOfScan, IsScan, IsS
 -- ---- one disk
 
 abbrev IsTaken : ℕ → Option PvFound → List Reading → List Reading → Option PvOf → Disk → Type 0
-IsTaken sectors contents before after read disk = (disk ≡ record { sectors = sectors; contents = contents }) × (after ≡ before ++ record { sectors = sectors; pv = read } ∷ [])
+IsTaken sectors contents before after read disk =
+    (disk ≡ record { sectors = sectors; contents = contents }) × (after ≡ before ++ record { sectors = sectors; pv = read } ∷ [])
 
-pub taken_in : {E : Type 0} (pv : ℕ) (old new : State) (before mid after : List Reading) (sectors : ℕ) (contents : Option PvFound) (read : Option PvOf) (r : Result Disk E) → mid ≡ before → sectors ≡ get_or old.sizes pv 0
-    → HoldsOfDisk old.told pv (λ sector_at. IsDiskReading pv sector_at (record { sectors = sectors; contents = contents }) (record { sectors = sectors; pv = read })) → ContentsCanStand pv sectors contents
-    → SamePv (option_map pv_shape (header_on contents)) read → HasFaultsOf pv contents old new → IfOk r (IsTaken sectors contents mid after read)
+pub taken_in : {E : Type 0} (pv : ℕ) (old new : State) (before mid after : List Reading) (sectors : ℕ) (contents : Option PvFound)
+    (read : Option PvOf) (r : Result Disk E) → mid ≡ before → sectors ≡ get_or old.sizes pv 0
+    → HoldsOfDisk old.told pv (λ sector_at. IsDiskReading pv sector_at (record { sectors = sectors; contents = contents })
+    (record { sectors = sectors; pv = read })) → ContentsCanStand pv sectors contents
+    → SamePv (option_map pv_shape (header_on contents)) read → HasFaultsOf pv contents old new
+    → IfOk r (IsTaken sectors contents mid after read)
     → IfOk r (λ disk. IsScannedDisk pv old before disk after new)
 taken_in pv old new before mid after sectors contents read (Ok disk) kept size now stands same faults taken =
     subst (λ (d : Disk). IsScannedDisk pv old before d after new) (sym taken.0) (record {
@@ -53,25 +58,31 @@ taken_in pv old new before mid after sectors contents read (Ok disk) kept size n
 taken_in pv old new before mid after sectors contents read (Err refusal) kept size now stands same faults taken = tt
 
 -- a disk that was read
-pub read_taken : {E : Type 0} (pv : ℕ) (old new : State) (before mid after : List Reading) (sectors : ℕ) (contents : PvFound) (read : Option PvOf) (r : Result Disk E) → mid ≡ before → sectors ≡ get_or old.sizes pv 0
-    → HoldsOfDisk old.told pv (λ sector_at. IsDiskRead pv sector_at (get_or old.sizes pv 0) contents read) → CanStand pv (get_or old.sizes pv 0) contents → HasItsShape contents read → HasSameFaults old new
+pub read_taken : {E : Type 0} (pv : ℕ) (old new : State) (before mid after : List Reading) (sectors : ℕ) (contents : PvFound)
+    (read : Option PvOf) (r : Result Disk E) → mid ≡ before → sectors ≡ get_or old.sizes pv 0
+    → HoldsOfDisk old.told pv (λ sector_at. IsDiskRead pv sector_at (get_or old.sizes pv 0) contents read)
+    → CanStand pv (get_or old.sizes pv 0) contents → HasItsShape contents read → HasSameFaults old new
     → IfOk r (IsTaken sectors (Some contents) mid after read) → IfOk r (λ disk. IsScannedDisk pv old before disk after new)
 read_taken pv old new before mid after sectors contents read r kept size holds stands same faults taken =
     taken_in pv old new before mid after sectors (Some contents) read r kept size
     (of_disk.holds_weaker old.told pv (λ sector_at. IsDiskRead pv sector_at (get_or old.sizes pv 0) contents read)
-    (λ sector_at. IsDiskReading pv sector_at (record { sectors = sectors; contents = Some contents }) (record { sectors = sectors; pv = read }))
-    (λ sector_at is. record { contents = subst (λ (n : ℕ). IsFound sector_at n contents) (sym size) is.contents_is; sectors_is = refl; pv_is = is.pv_is })
+    (λ sector_at. IsDiskReading pv sector_at (record { sectors = sectors; contents = Some contents })
+        (record { sectors = sectors; pv = read }))
+    (λ sector_at is. record { contents = subst (λ (n : ℕ). IsFound sector_at n contents) (sym size) is.contents_is; sectors_is = refl;
+        pv_is = is.pv_is })
     holds)
     (subst (λ (n : ℕ). CanStand pv n contents) (sym size) stands) same faults taken
 
 -- a disk on which a read failed
-pub unread_taken : {E : Type 0} (pv : ℕ) (old new : State) (before mid after : List Reading) (sectors : ℕ) (fault : DiskFault) (r : Result Disk E) → mid ≡ before → sectors ≡ get_or old.sizes pv 0
+pub unread_taken : {E : Type 0} (pv : ℕ) (old new : State) (before mid after : List Reading) (sectors : ℕ) (fault : DiskFault)
+    (r : Result Disk E) → mid ≡ before → sectors ≡ get_or old.sizes pv 0
     → IsReadCause pv old new (ReadFailed fault) → IfOk r (IsTaken sectors None mid after None)
     → IfOk r (λ disk. IsScannedDisk pv old before disk after new)
 unread_taken pv old new before mid after sectors fault r kept size cause taken =
     let last : IsLastFault old new pv (Reads cause.1.0) = cause.1.1 in
     taken_in pv old new before mid after sectors None None r kept size
-    (of_disk.holds_always old.told pv (λ sector_at. IsDiskReading pv sector_at (record { sectors = sectors; contents = None }) (record { sectors = sectors; pv = None })) (λ sector_at. record { contents = tt; sectors_is = refl; pv_is = refl }))
+    (of_disk.holds_always old.told pv (λ sector_at. IsDiskReading pv sector_at (record { sectors = sectors; contents = None })
+        (record { sectors = sectors; pv = None })) (λ sector_at. record { contents = tt; sectors_is = refl; pv_is = refl }))
     tt tt (omega (arith, last.one), last.others) taken
 
 -- ---- all disks
@@ -83,11 +94,14 @@ holds_weaker (Some t) P Q make holds = make (now_after t.opened t.steps) holds
 abbrev sectors_of : List Disk → List ℕ
 sectors_of disks = map (λ (disk : Disk). disk.sectors) disks
 
-all_read : (s0 s : State) (count : ℕ) (disks : List Disk) (unread : set.FinSet nat_cmp) (readings : List Reading) → AreScanned s0 count disks unread readings s → length s0.sizes ≤ count
+all_read : (s0 s : State) (count : ℕ) (disks : List Disk) (unread : set.FinSet nat_cmp) (readings : List Reading)
+    → AreScanned s0 count disks unread readings s → length s0.sizes ≤ count
     → (image : Image) → AreDiskReadings image unread 0 disks readings → AreReadings image s0.sizes unread disks readings
-all_read s0 s count disks unread readings scanned all image each = record { sizes_is = scanned.sizes ∙ take_all count s0.sizes all; each = each }
+all_read s0 s count disks unread readings scanned all image each =
+    record { sizes_is = scanned.sizes ∙ take_all count s0.sizes all; each = each }
 
-pub scan_found : (s0 s : State) (count : ℕ) (disks : List Disk) (unread : set.FinSet nat_cmp) (readings : List Reading) (found : Found) → AreScanned s0 count disks unread readings s → length s0.sizes ≤ count
+pub scan_found : (s0 s : State) (count : ℕ) (disks : List Disk) (unread : set.FinSet nat_cmp) (readings : List Reading) (found : Found)
+    → AreScanned s0 count disks unread readings s → length s0.sizes ≤ count
     → IsOutcome disks unread readings found → IsScan s0 found s
 scan_found s0 s count disks unread readings found scanned all is = record {
   sizes = ap (λ (l : List Disk). sectors_of l) is.disks_are ∙ scanned.sizes ∙ take_all count s0.sizes all;
@@ -95,7 +109,8 @@ scan_found s0 s count disks unread readings found scanned all is = record {
       (λ image each. record {
         readings = readings;
         are = subst (λ (l : List Disk). AreReadings image s0.sizes found.unread l readings) (sym is.disks_are)
-            (subst (λ (p : set.FinSet nat_cmp). AreReadings image s0.sizes p disks readings) (sym is.unread_are) (all_read s0 s count disks unread readings scanned all image each));
+            (subst (λ (p : set.FinSet nat_cmp). AreReadings image s0.sizes p disks readings) (sym is.unread_are)
+                (all_read s0 s count disks unread readings scanned all image each));
         answer = is.answer;
         areas = is.areas ∙ ap (held_areas 0) (sym is.disks_are);
         disk_of = is.shape.disk_of;
@@ -105,33 +120,46 @@ scan_found s0 s count disks unread readings found scanned all is = record {
   shape = is.shape;
 }
 
-refusal_of : (s0 s : State) (count : ℕ) (disks : List Disk) (unread : set.FinSet nat_cmp) (readings : List Reading) (refusal : ScanRefusal) → AreScanned s0 count disks unread readings s → length s0.sizes ≤ count
-    → IsRefusedBy (decide_scan readings) refusal → HoldsNow s0.told (λ image. IsRefusalOfScan image s0.sizes unread refusal) × FailedOn unread s0 s
+refusal_of : (s0 s : State) (count : ℕ) (disks : List Disk) (unread : set.FinSet nat_cmp) (readings : List Reading) (refusal : ScanRefusal)
+    → AreScanned s0 count disks unread readings s → length s0.sizes ≤ count
+    → IsRefusedBy (decide_scan readings) refusal
+    → HoldsNow s0.told (λ image. IsRefusalOfScan image s0.sizes unread refusal) × FailedOn unread s0 s
 refusal_of s0 s count disks unread readings refusal scanned all is = (
   holds_weaker s0.told (λ image. AreDiskReadings image unread 0 disks readings) (λ image. IsRefusalOfScan image s0.sizes unread refusal)
-      (λ image each. record { disks = disks; readings = readings; are = all_read s0 s count disks unread readings scanned all image each; answer = is })
+      (λ image each. record { disks = disks; readings = readings; are = all_read s0 s count disks unread readings scanned all image each;
+          answer = is })
       scanned.now,
   scanned.faults,
 )
 
-pub scan_refused : (s0 s : State) (count : ℕ) (disks : List Disk) (unread : set.FinSet nat_cmp) (readings : List Reading) (refusal : ScanRefusal) → AreScanned s0 count disks unread readings s → length s0.sizes ≤ count
+pub scan_refused : (s0 s : State) (count : ℕ) (disks : List Disk) (unread : set.FinSet nat_cmp) (readings : List Reading)
+    (refusal : ScanRefusal) → AreScanned s0 count disks unread readings s → length s0.sizes ≤ count
     → IsRefusedBy (decide_scan readings) refusal → IsScanRefused s0 refusal unread s
 scan_refused s0 s count disks unread readings refused.NoMemory scanned all is = tt
-scan_refused s0 s count disks unread readings (refused.DuplicatePv a b) scanned all is = refusal_of s0 s count disks unread readings (refused.DuplicatePv a b) scanned all is
-scan_refused s0 s count disks unread readings (refused.NoCopy list) scanned all is = refusal_of s0 s count disks unread readings (refused.NoCopy list) scanned all is
-scan_refused s0 s count disks unread readings (refused.Unsupported disk) scanned all is = refusal_of s0 s count disks unread readings (refused.Unsupported disk) scanned all is
-scan_refused s0 s count disks unread readings (refused.TwoGroups a b) scanned all is = refusal_of s0 s count disks unread readings (refused.TwoGroups a b) scanned all is
-scan_refused s0 s count disks unread readings (refused.Conflict a b seqno) scanned all is = refusal_of s0 s count disks unread readings (refused.Conflict a b seqno) scanned all is
-scan_refused s0 s count disks unread readings (refused.PvShape disk) scanned all is = refusal_of s0 s count disks unread readings (refused.PvShape disk) scanned all is
+scan_refused s0 s count disks unread readings (refused.DuplicatePv a b) scanned all is =
+    refusal_of s0 s count disks unread readings (refused.DuplicatePv a b) scanned all is
+scan_refused s0 s count disks unread readings (refused.NoCopy list) scanned all is =
+    refusal_of s0 s count disks unread readings (refused.NoCopy list) scanned all is
+scan_refused s0 s count disks unread readings (refused.Unsupported disk) scanned all is =
+    refusal_of s0 s count disks unread readings (refused.Unsupported disk) scanned all is
+scan_refused s0 s count disks unread readings (refused.TwoGroups a b) scanned all is =
+    refusal_of s0 s count disks unread readings (refused.TwoGroups a b) scanned all is
+scan_refused s0 s count disks unread readings (refused.Conflict a b seqno) scanned all is =
+    refusal_of s0 s count disks unread readings (refused.Conflict a b seqno) scanned all is
+scan_refused s0 s count disks unread readings (refused.PvShape disk) scanned all is =
+    refusal_of s0 s count disks unread readings (refused.PvShape disk) scanned all is
 
 -- as many were scanned as there are
-pub few_scanned : (s0 s : State) (count : ℕ) (disks : List Disk) (unread : set.FinSet nat_cmp) (readings : List Reading) → AreScanned s0 count disks unread readings s → count ≤ length s0.sizes → length s0.sizes ≤ 64 → length disks ≤ 64
+pub few_scanned : (s0 s : State) (count : ℕ) (disks : List Disk) (unread : set.FinSet nat_cmp) (readings : List Reading)
+    → AreScanned s0 count disks unread readings s → count ≤ length s0.sizes → length s0.sizes ≤ 64 → length disks ≤ 64
 few_scanned s0 s count disks unread readings scanned all few = omega (arith, scanned.disk_count)
 
-pub some_scanned : (s0 s : State) (count : ℕ) (disks : List Disk) (unread : set.FinSet nat_cmp) (readings : List Reading) → AreScanned s0 count disks unread readings s → length s0.sizes ≤ count → 1 ≤ length s0.sizes → 1 ≤ length disks
+pub some_scanned : (s0 s : State) (count : ℕ) (disks : List Disk) (unread : set.FinSet nat_cmp) (readings : List Reading)
+    → AreScanned s0 count disks unread readings s → length s0.sizes ≤ count → 1 ≤ length s0.sizes → 1 ≤ length disks
 some_scanned s0 s count disks unread readings scanned all some = omega (arith, scanned.disk_count)
 
 -- memory was wanting before they were all scanned
-pub wanting : (s0 s : State) (r : Result Found ScanStopped) → IsErrAnd r (λ stopped. stopped.why ≡ refused.NoMemory) → MatchResult r (λ found. IsScan s0 found s) (λ stopped. IsScanRefused s0 stopped.why stopped.unread s)
+pub wanting : (s0 s : State) (r : Result Found ScanStopped) → IsErrAnd r (λ stopped. stopped.why ≡ refused.NoMemory)
+    → MatchResult r (λ found. IsScan s0 found s) (λ stopped. IsScanRefused s0 stopped.why stopped.unread s)
 wanting s0 s (Ok found) is = absurd is
 wanting s0 s (Err stopped) is = subst (λ (why : ScanRefusal). IsScanRefused s0 why stopped.unread s) (sym is) tt

@@ -11,14 +11,16 @@ use Rattle.vg_scan.proofs.Continued.{last_copy}
 use Rattle.vg_scan.proofs.KnownTexts.{gives_number}
 
 -- it is known by the entry that it was read at
-pub copy_known : (locn : Locn) (bytes : List ℕ) (copy : GroupCopy) → length bytes ≡ locn.size → IsStored locn bytes (copied copy) → IsKnown locn copy
+pub copy_known : (locn : Locn) (bytes : List ℕ) (copy : GroupCopy) → length bytes ≡ locn.size → IsStored locn bytes (copied copy)
+    → IsKnown locn copy
 copy_known locn bytes copy size stored = record { bytes = bytes; size_is = size; stored = stored }
 
 module _ (old new : List GroupCopy) (copy : GroupCopy) (number : ℕ) (last : number ≡ length old) (grown : new ≡ old ++ copy ∷ []) where
   -- its number stands for it
   pub taken_copy : (locn : Locn) (bytes : List ℕ) → IsStored locn bytes (copied copy) → IsStored locn bytes (gives_of new (Numbered number))
   taken_copy locn bytes stored =
-      let at : slice_get new number ≡ Some copy = ap (slice_get new) last ∙ ap (λ (l : List GroupCopy). slice_get l (length old)) grown ∙ last_copy old copy in
+      let at : slice_get new number ≡ Some copy =
+          ap (slice_get new) last ∙ ap (λ (l : List GroupCopy). slice_get l (length old)) grown ∙ last_copy old copy in
       subst (IsStored locn bytes) (sym (gives_number new number copy at)) stored
 
   pub taken_number : number < length new

@@ -20,7 +20,8 @@ key_cmp a b = ordering_then (nat_cmp a.0 b.0) (nat_cmp a.1 b.1)
 
 -- the copy with this number was read at an entry of this size and sum
 abbrev pub WasReadAt : List GroupCopy → ℕ × ℕ → ℕ → Type 0
-WasReadAt copies key number = (locn : Locn) × (copy : GroupCopy) × ((locn.size, locn.sum) ≡ key) × (slice_get copies number ≡ Some copy) × IsKnown locn copy
+WasReadAt copies key number =
+    (locn : Locn) × (copy : GroupCopy) × ((locn.size, locn.sum) ≡ key) × (slice_get copies number ≡ Some copy) × IsKnown locn copy
 
 -- each number is that of a copy which was read at an entry of the size and sum at which it stands
 abbrev pub AreNumbered : BTreeMap (ℕ × ℕ) ℕ → List GroupCopy → Type 0

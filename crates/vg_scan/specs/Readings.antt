@@ -21,7 +21,8 @@ use Rattle.vg_scan.specs.Texts.{IsStored, stored_bytes}
 abbrev pub IsGiven : (ℕ → List ℕ) → Area → HeaderEntry → Option AreaReading → Type 0
 IsGiven sector_at area Ignored reading = reading ≡ None
 IsGiven sector_at area Nothing reading = reading ≡ Some HoldsNone
-IsGiven sector_at area (Text locn) reading = (given : AreaReading) × (reading ≡ Some given) × IsStored locn (stored_bytes sector_at area locn) given
+IsGiven sector_at area (Text locn) reading =
+    (given : AreaReading) × (reading ≡ Some given) × IsStored locn (stored_bytes sector_at area locn) given
 IsGiven sector_at area (RefusedFor refusal) reading = reading ≡ Some (Refused (HeaderRefused refusal))
 
 -- an area that was found, as it reads
@@ -43,7 +44,8 @@ IsPvReading pv sector_at None reading = reading ≡ None
 IsPvReading pv sector_at (Some (NoLabel refusal)) reading = reading ≡ None
 IsPvReading pv sector_at (Some (NoHeader label refusal)) reading = reading ≡ None
 IsPvReading pv sector_at (Some (Whole label header areas)) None = ⊥
-IsPvReading pv sector_at (Some (Whole label header areas)) (Some reading) = (reading.id ≡ header.id) × AreAreaReadings pv sector_at areas reading.areas
+IsPvReading pv sector_at (Some (Whole label header areas)) (Some reading) =
+    (reading.id ≡ header.id) × AreAreaReadings pv sector_at areas reading.areas
 
 -- what stands on a disk that was read
 abbrev pub IsContents : (ℕ → List ℕ) → ℕ → Option PvFound → Type 0
@@ -65,6 +67,7 @@ AreDiskReadings image unread pv (disk ∷ disks) (reading ∷ readings) =
     IsUnread unread pv disk × IsDiskReading pv (image pv) disk reading × AreDiskReadings image unread (pv + 1) disks readings
 
 -- the disks of these sizes in an image, but those that are unread: what stands on them, and how they read
-pub record AreReadings (image : Image) (sizes : List ℕ) (unread : set.FinSet nat_cmp) (disks : List Disk) (readings : List Reading) : Type 0 where
+pub record AreReadings (image : Image) (sizes : List ℕ) (unread : set.FinSet nat_cmp) (disks : List Disk) (readings : List Reading) : Type 0
+    where
   pub sizes_is : map (λ (disk : Disk). disk.sectors) disks ≡ sizes
   pub each : AreDiskReadings image unread 0 disks readings

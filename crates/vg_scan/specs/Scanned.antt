@@ -1,5 +1,6 @@
 -- What was scanned so far: the disks, which of them are unread, and how they read.
-use Rattle.std.specs.Prelude.{◌≡◌, ◌≢◌, ◌≤◌, ◌<◌, ℕ, ◌+◌, Bool, true, List, [], ◌∷◌, ◌++◌, length, map, slice_get, slice_index_or, take, Option, Some, None, option_map, is_none, if◌then◌else◌}
+use Rattle.std.specs.Prelude.{◌≡◌, ◌≢◌, ◌≤◌, ◌<◌, ℕ, ◌+◌, Bool, true, List, [], ◌∷◌, ◌++◌, length, map, slice_get, slice_index_or, take,
+    Option, Some, None, option_map, is_none, if◌then◌else◌}
 use Rattle.std.specs.FinSet as set
 use Rattle.std.specs.Ordering.{nat_cmp}
 use Rattle.disk_model.specs.Faults.{HasSameFaults}
@@ -50,7 +51,8 @@ pub record ReadsFewBelow (count : ℕ) (sizes : List ℕ) (old new : Record) : T
   pub none_above : (pv : ℕ) → count ≤ pv → spans_on pv (spans_read since) ≡ []
 
 -- the disks below this number were scanned
-pub record AreScanned (old : State) (count : ℕ) (disks : List Disk) (unread : set.FinSet nat_cmp) (readings : List Reading) (new : State) : Type 0 where
+pub record AreScanned (old : State) (count : ℕ) (disks : List Disk) (unread : set.FinSet nat_cmp) (readings : List Reading)
+    (new : State) : Type 0 where
   pub disk_count : length disks ≡ count
   pub reading_count : length readings ≡ count
   pub sizes : map (λ (disk : Disk). disk.sectors) disks ≡ take count old.sizes

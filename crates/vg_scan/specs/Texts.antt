@@ -21,7 +21,8 @@ use Rattle.scan_rules.specs.declared.copy_refusal.CopyRefusal.TheVariants.{Heade
 
 -- the spans of the sectors of a text, in the order of its bytes
 abbrev pub text_spans : Area → Locn → List Span
-text_spans area locn = (ring_spans area locn.offset locn.size).0 ∷ option_map_or (λ span. span ∷ []) (ring_spans area locn.offset locn.size).1 []
+text_spans area locn =
+    (ring_spans area locn.offset locn.size).0 ∷ option_map_or (λ span. span ∷ []) (ring_spans area locn.offset locn.size).1 []
 
 -- the sectors of the area that the entry's text touches, in the order of its bytes, where the area's disk has these sectors
 pub record AreTextSectors (sector_at : ℕ → List ℕ) (area : Area) (locn : Locn) (sectors : List (List ℕ)) : Type 0 where
@@ -45,7 +46,8 @@ IsTextRefusal text (HeaderRefused refusal) = ⊥
 IsTextRefusal text (SumDiffers said found) = ⊥
 IsTextRefusal text (TextRefused refusal) = IsCause text refusal × (refusal ≢ NoMemory)
 IsTextRefusal text (GroupRefused refusal) = (tree : Conf) × IsTextOf text tree × (group_of tree ≡ Err refusal)
-IsTextRefusal text (RuleBroken rule) = (tree : Conf) × (group : Group) × IsTextOf text tree × (group_of tree ≡ Ok group) × IsFirstBroken group rule
+IsTextRefusal text (RuleBroken rule) =
+    (tree : Conf) × (group : Group) × IsTextOf text tree × (group_of tree ≡ Ok group) × IsFirstBroken group rule
 
 -- the refusal of stored bytes: of their checksum, or of their text
 abbrev pub IsRefusalOf : Locn → List ℕ → CopyRefusal → Type 0

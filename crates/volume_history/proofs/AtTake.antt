@@ -17,11 +17,13 @@ abbrev pub IsBearlessLine : Option (Line × Option ℕ) → Type 0
 IsBearlessLine None = Unit {0}
 IsBearlessLine (Some l) = bears l.0.command ≡ false
 
-step_needs_none : (b : Option (Line × Option ℕ)) → IsBearlessLine b → (before after : Option Version) (state : PlainState) (i j : Image) → line_step b before after state i ≡ line_step b before after state j
+step_needs_none : (b : Option (Line × Option ℕ)) → IsBearlessLine b → (before after : Option Version) (state : PlainState) (i j : Image)
+    → line_step b before after state i ≡ line_step b before after state j
 step_needs_none None none before after state i j = refl
 step_needs_none (Some l) none before after state i j = (bearless l.0.command none).step before after state i j
 
-no_births : (b : Option (Line × Option ℕ)) → IsBearlessLine b → (before after : Option Version) (state : PlainState) (i : Image) (key x : ℕ) → is_born (line_step b before after state i) state key x ≡ false
+no_births : (b : Option (Line × Option ℕ)) → IsBearlessLine b → (before after : Option Version) (state : PlainState) (i : Image) (key x : ℕ)
+    → is_born (line_step b before after state i) state key x ≡ false
 no_births None none before after state i key x = refl
 no_births (Some l) none before after state i key x = (bearless l.0.command none).births before after state i key x
 
@@ -36,9 +38,11 @@ module _ (o : Origin) (es : List ChronicleEntry) (m n : ℕ) (version : Option V
   taken_place key x place (inl b) = absurd (let c : true ≡ false = sym b.0 ∙ born_never key x in cc)
   taken_place key x place (inr h) = place_by_entry o es key x place (Changed m n version) (born_never key x) tt h.1
 
-  taken_places : (vs : List PlacedVolume) (ps : List PlainVolume) → NextPlaces o es step vs ps → Primaries o (Changed m n version ∷ es) vs ps
+  taken_places : (vs : List PlacedVolume) (ps : List PlainVolume) → NextPlaces o es step vs ps
+      → Primaries o (Changed m n version ∷ es) vs ps
   taken_places [] [] next = tt
-  taken_places (v ∷ vs) (p ∷ ps) next = (next.0, next.1, λ x lt. taken_place p.key x (place_at v.places x) (next.2 x lt), taken_places vs ps next.3)
+  taken_places (v ∷ vs) (p ∷ ps) next =
+      (next.0, next.1, λ x lt. taken_place p.key x (place_at v.places x) (next.2 x lt), taken_places vs ps next.3)
   taken_places [] (p ∷ ps) next = absurd next
   taken_places (v ∷ vs) [] next = absurd next
 

@@ -15,28 +15,45 @@ use Rattle.volume_history.specs.Replay.{command_step}
 
 -- what is known of a command that leaves the volumes as they are
 pub record IsQuietCommand (c : Command) : Type 0 where
-  pub step : (before after : Option Version) (state : PlainState) (image : Image) → (plain_after state (command_step c before after state image)).volumes ≡ state.volumes
-  pub births : (before after : Option Version) (state : PlainState) (image : Image) (key x : ℕ) → is_born (command_step c before after state image) state key x ≡ false
+  pub step : (before after : Option Version) (state : PlainState) (image : Image)
+      → (plain_after state (command_step c before after state image)).volumes ≡ state.volumes
+  pub births : (before after : Option Version) (state : PlainState) (image : Image) (key x : ℕ)
+      → is_born (command_step c before after state image) state key x ≡ false
   pub writes_is : writes c ≡ false
   pub data_is : is_data c ≡ false
   pub unnamed : volume_named c ≡ None
 
 pub quiet_command : (c : Command) → is_quiet c ≡ true → IsQuietCommand c
-quiet_command (command.Pvcreate pv copies) q = record { step = λ b a s i. refl; births = λ b a s i k x. refl; writes_is = refl; data_is = refl; unnamed = refl }
-quiet_command (command.Pvmove moving) q = record { step = λ b a s i. refl; births = λ b a s i k x. refl; writes_is = refl; data_is = refl; unnamed = refl }
-quiet_command (command.Pvck pv) q = record { step = λ b a s i. refl; births = λ b a s i k x. refl; writes_is = refl; data_is = refl; unnamed = refl }
-quiet_command command.Pvs q = record { step = λ b a s i. refl; births = λ b a s i k x. refl; writes_is = refl; data_is = refl; unnamed = refl }
-quiet_command (command.Vgcreate vg extent_size pvs) q = record { step = λ b a s i. refl; births = λ b a s i k x. refl; writes_is = refl; data_is = refl; unnamed = refl }
-quiet_command (command.Vgextend vg pvs) q = record { step = λ b a s i. refl; births = λ b a s i k x. refl; writes_is = refl; data_is = refl; unnamed = refl }
-quiet_command (command.Vgreduce vg pv) q = record { step = λ b a s i. refl; births = λ b a s i k x. refl; writes_is = refl; data_is = refl; unnamed = refl }
-quiet_command (command.Vgrename vg new) q = record { step = λ b a s i. refl; births = λ b a s i k x. refl; writes_is = refl; data_is = refl; unnamed = refl }
-quiet_command (command.Vgcfgbackup vg) q = record { step = λ b a s i. refl; births = λ b a s i k x. refl; writes_is = refl; data_is = refl; unnamed = refl }
-quiet_command command.Vgck q = record { step = λ b a s i. refl; births = λ b a s i k x. refl; writes_is = refl; data_is = refl; unnamed = refl }
-quiet_command command.Vgs q = record { step = λ b a s i. refl; births = λ b a s i k x. refl; writes_is = refl; data_is = refl; unnamed = refl }
-quiet_command command.Lvs q = record { step = λ b a s i. refl; births = λ b a s i k x. refl; writes_is = refl; data_is = refl; unnamed = refl }
-quiet_command command.List q = record { step = λ b a s i. refl; births = λ b a s i k x. refl; writes_is = refl; data_is = refl; unnamed = refl }
-quiet_command command.Wait q = record { step = λ b a s i. refl; births = λ b a s i k x. refl; writes_is = refl; data_is = refl; unnamed = refl }
-quiet_command (command.Resync path) q = record { step = λ b a s i. refl; births = λ b a s i k x. refl; writes_is = refl; data_is = refl; unnamed = refl }
+quiet_command (command.Pvcreate pv copies) q =
+    record { step = λ b a s i. refl; births = λ b a s i k x. refl; writes_is = refl; data_is = refl; unnamed = refl }
+quiet_command (command.Pvmove moving) q =
+    record { step = λ b a s i. refl; births = λ b a s i k x. refl; writes_is = refl; data_is = refl; unnamed = refl }
+quiet_command (command.Pvck pv) q =
+    record { step = λ b a s i. refl; births = λ b a s i k x. refl; writes_is = refl; data_is = refl; unnamed = refl }
+quiet_command command.Pvs q =
+    record { step = λ b a s i. refl; births = λ b a s i k x. refl; writes_is = refl; data_is = refl; unnamed = refl }
+quiet_command (command.Vgcreate vg extent_size pvs) q =
+    record { step = λ b a s i. refl; births = λ b a s i k x. refl; writes_is = refl; data_is = refl; unnamed = refl }
+quiet_command (command.Vgextend vg pvs) q =
+    record { step = λ b a s i. refl; births = λ b a s i k x. refl; writes_is = refl; data_is = refl; unnamed = refl }
+quiet_command (command.Vgreduce vg pv) q =
+    record { step = λ b a s i. refl; births = λ b a s i k x. refl; writes_is = refl; data_is = refl; unnamed = refl }
+quiet_command (command.Vgrename vg new) q =
+    record { step = λ b a s i. refl; births = λ b a s i k x. refl; writes_is = refl; data_is = refl; unnamed = refl }
+quiet_command (command.Vgcfgbackup vg) q =
+    record { step = λ b a s i. refl; births = λ b a s i k x. refl; writes_is = refl; data_is = refl; unnamed = refl }
+quiet_command command.Vgck q =
+    record { step = λ b a s i. refl; births = λ b a s i k x. refl; writes_is = refl; data_is = refl; unnamed = refl }
+quiet_command command.Vgs q =
+    record { step = λ b a s i. refl; births = λ b a s i k x. refl; writes_is = refl; data_is = refl; unnamed = refl }
+quiet_command command.Lvs q =
+    record { step = λ b a s i. refl; births = λ b a s i k x. refl; writes_is = refl; data_is = refl; unnamed = refl }
+quiet_command command.List q =
+    record { step = λ b a s i. refl; births = λ b a s i k x. refl; writes_is = refl; data_is = refl; unnamed = refl }
+quiet_command command.Wait q =
+    record { step = λ b a s i. refl; births = λ b a s i k x. refl; writes_is = refl; data_is = refl; unnamed = refl }
+quiet_command (command.Resync path) q =
+    record { step = λ b a s i. refl; births = λ b a s i k x. refl; writes_is = refl; data_is = refl; unnamed = refl }
 quiet_command (command.Vgremove vg) q = cc
 quiet_command (command.Vgcfgrestore vg text) q = cc
 quiet_command (command.Lvcreate new) q = cc
@@ -57,8 +74,10 @@ bears _ = false
 
 -- the step of another command needs no image, and no sector is born in it
 pub record IsBearless (c : Command) : Type 0 where
-  pub step : (before after : Option Version) (state : PlainState) (i j : Image) → command_step c before after state i ≡ command_step c before after state j
-  pub births : (before after : Option Version) (state : PlainState) (i : Image) (key x : ℕ) → is_born (command_step c before after state i) state key x ≡ false
+  pub step : (before after : Option Version) (state : PlainState) (i j : Image)
+      → command_step c before after state i ≡ command_step c before after state j
+  pub births : (before after : Option Version) (state : PlainState) (i : Image) (key x : ℕ)
+      → is_born (command_step c before after state i) state key x ≡ false
 
 pub bearless : (c : Command) → bears c ≡ false → IsBearless c
 bearless (command.Pvcreate pv copies) q = record { step = λ b a s i j. refl; births = λ b a s i k x. refl }
@@ -88,15 +107,18 @@ bearless (command.Fill path start count value) q = record { step = λ b a s i j.
 bearless (command.Write path start hex) q = record { step = λ b a s i j. refl; births = λ b a s i k x. refl }
 
 -- a command that creates a physical volume is a pvcreate
-pub created_is : (names : List Word) (disk : ℕ) (c : Command) → created_disk names c ≡ Some disk → (pv : Word) × (copies : ℕ) × (c ≡ command.Pvcreate pv copies)
+pub created_is : (names : List Word) (disk : ℕ) (c : Command) → created_disk names c ≡ Some disk
+    → (pv : Word) × (copies : ℕ) × (c ≡ command.Pvcreate pv copies)
 created_is names disk (command.Pvcreate pv copies) e = (pv, copies, refl)
 created_is names disk _ e = cc
 
-pub created_quiet : (names : List Word) (disk : ℕ) (c : Command) → created_disk names c ≡ Some disk → (is_quiet c ≡ true) × (commits c ≡ false)
+pub created_quiet : (names : List Word) (disk : ℕ) (c : Command) → created_disk names c ≡ Some disk
+    → (is_quiet c ≡ true) × (commits c ≡ false)
 created_quiet names disk c e = let is = created_is names disk c e in (ap is_quiet is.2, ap commits is.2)
 
 -- so it may be answered ok, or fail, and removes no group
-pub created_says : (names : List Word) (disk pv : ℕ) (c : Command) → created_disk names c ≡ Some disk → (may_say c answer.Fine ≡ true) × (may_say c (answer.PvFailed pv) ≡ true) × (removes c ≡ false)
+pub created_says : (names : List Word) (disk pv : ℕ) (c : Command) → created_disk names c ≡ Some disk
+    → (may_say c answer.Fine ≡ true) × (may_say c (answer.PvFailed pv) ≡ true) × (removes c ≡ false)
 created_says names disk pv c e =
     let is = created_is names disk c e in (
       ap (λ (k : Command). may_say k answer.Fine) is.2,
@@ -144,6 +166,7 @@ commit_says (command.Pvmove moving) pv q = (refl, refl)
 commit_says _ pv q = cc
 
 -- no sector is born as a zero but in lvcreate
-pub none_zeroed : (c : Command) → zeroes c ≡ false → (before after : Option Version) (state : PlainState) (image : Image) (x : ℕ) → is_zeroed (command_step c before after state image) x ≡ false
+pub none_zeroed : (c : Command) → zeroes c ≡ false → (before after : Option Version) (state : PlainState) (image : Image) (x : ℕ)
+    → is_zeroed (command_step c before after state image) x ≡ false
 none_zeroed (command.Lvcreate new) q before after state image x = cc
 none_zeroed _ q before after state image x = refl

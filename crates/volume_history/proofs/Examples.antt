@@ -10,9 +10,11 @@ use Rattle.volume_view.specs.InSegments.{leg_spot, met}
 use Rattle.volume_view.specs.Places.{primary}
 use Rattle.line_table.specs.Machine.{key_of, list_of, plain_after, sector_of}
 use Rattle.image_scans.specs.Versions.{Version}
-use Rattle.volume_history.proofs.SmallGroups.{creating, extending, filling, group_removing, listing, making, moving, pvcreating, reading, reducing, removing, renaming, restoring, version_1, version_2, version_3, version_4, version_5, version_6, version_7}
+use Rattle.volume_history.proofs.SmallGroups.{creating, extending, filling, group_removing, listing, making, moving, pvcreating, reading,
+    reducing, removing, renaming, restoring, version_1, version_2, version_3, version_4, version_5, version_6, version_7}
 use Rattle.volume_history.specs.Candidates.{Anything, OneOf, base, candidates, pending_candidates, pending_step}
-use Rattle.volume_history.specs.Chronicles.{Answered, Begun, Changed, ChronicleEntry, Failed, GivenUp, Opened, Origin, Took, fenced_by, in_force, is_failed_disk, left_out, may_begin, pending, upto}
+use Rattle.volume_history.specs.Chronicles.{Answered, Begun, Changed, ChronicleEntry, Failed, GivenUp, Opened, Origin, Took, fenced_by,
+    in_force, is_failed_disk, left_out, may_begin, pending, upto}
 use Rattle.volume_history.specs.Commands.{number_sector, zero_sector}
 use Rattle.volume_history.specs.Legal.{is_in_order, read_values}
 use Rattle.volume_history.specs.Placed.{place_of, volumes_of}
@@ -42,7 +44,9 @@ steps =
     ∷ flushed 2 ∷ flush 2 ∷ wrote 1 0 1 true ∷ write 1 0 1 ∷ []
 
 abbrev origin : Origin
-origin = record { told = record { opened = zeros; steps = steps }; first = 0; start = 0; sizes = 99 ∷ []; names = (0 ∷ []) ∷ []; clock = 0; version = None }
+origin =
+    record { told = record { opened = zeros; steps = steps }; first = 0; start = 0; sizes = 99 ∷ []; names = (0 ∷ []) ∷ []; clock = 0;
+        version = None }
 
 abbrev zero_piece : Piece
 zero_piece = record { volume = 0; first = 0; count = 0; write = false }
@@ -100,7 +104,8 @@ candidates_before : candidates origin (Begun 8 2 (filling 0 1 7) (Some 0) ∷ cr
 unfolding volumes_of place_of primary met leg_spot
 candidates_before = refl
 
-candidates_taken : candidates origin (Took 12 2 piece ∷ Begun 8 2 (filling 0 1 7) (Some 0) ∷ created) 0 0 ≡ OneOf (zero_sector ∷ number_sector 7 ∷ [])
+candidates_taken : candidates origin (Took 12 2 piece ∷ Begun 8 2 (filling 0 1 7) (Some 0) ∷ created) 0 0
+    ≡ OneOf (zero_sector ∷ number_sector 7 ∷ [])
 unfolding volumes_of place_of primary met leg_spot
 candidates_taken = refl
 
@@ -194,7 +199,8 @@ not_failed_before : is_failed_disk failed_origin 13 0 ≡ false
 not_failed_before = refl
 
 -- a line that is refused after a piece of it failed: what that wrote stays possible
-failed_then_refused : candidates failed_origin (Answered 14 3 (answer.Refused refusal.ReadOnly) ∷ Failed 14 3 piece ∷ flies) 0 0 ≡ OneOf (number_sector 7 ∷ number_sector 9 ∷ [])
+failed_then_refused : candidates failed_origin (Answered 14 3 (answer.Refused refusal.ReadOnly) ∷ Failed 14 3 piece ∷ flies) 0 0
+    ≡ OneOf (number_sector 7 ∷ number_sector 9 ∷ [])
 unfolding volumes_of place_of primary met leg_spot
 failed_then_refused = refl
 
@@ -208,7 +214,8 @@ extending_pending = refl
 extending_in_force : in_force origin extends_so ≡ Some version_2
 extending_in_force = refl
 
-extending_lengths : list_of (plain_after (plain_state origin extends_so) (pending_step origin extends_so 3 (Some version_4))) ≡ (5 ∷ [], 11) ∷ []
+extending_lengths : list_of (plain_after (plain_state origin extends_so) (pending_step origin extends_so 3 (Some version_4)))
+    ≡ (5 ∷ [], 11) ∷ []
 unfolding volumes_of place_of primary met leg_spot
 extending_lengths = refl
 
@@ -289,7 +296,8 @@ restores version = Opened 12 3 (Some version) ∷ Begun 12 3 restoring None ∷ 
 abbrev restored : Version → List ChronicleEntry
 restored version = Changed 12 3 (Some version) ∷ restores version
 
-restores_elsewhere : pending_candidates origin (restores version_3) (pending_step origin (restores version_3) 3 (Some version_3)) 0 0 ≡ Anything
+restores_elsewhere : pending_candidates origin (restores version_3) (pending_step origin (restores version_3) 3 (Some version_3)) 0 0
+    ≡ Anything
 unfolding volumes_of place_of primary met leg_spot
 restores_elsewhere = refl
 
@@ -297,7 +305,8 @@ restored_elsewhere : candidates origin (restored version_3) 0 0 ≡ OneOf ((99 �
 unfolding volumes_of place_of primary met leg_spot
 restored_elsewhere = refl
 
-restores_there : pending_candidates origin (restores version_4) (pending_step origin (restores version_4) 3 (Some version_4)) 0 0 ≡ OneOf (number_sector 7 ∷ [])
+restores_there : pending_candidates origin (restores version_4) (pending_step origin (restores version_4) 3 (Some version_4)) 0 0
+    ≡ OneOf (number_sector 7 ∷ [])
 unfolding volumes_of place_of primary met leg_spot
 restores_there = refl
 
@@ -335,7 +344,8 @@ unfolding volumes_of place_of primary met leg_spot
 pieces_acknowledged = refl
 
 -- and lvcreate's zeros are zeros before it has taken place
-creating_zeros : pending_candidates origin (upto 7 flies) (pending_step origin (upto 7 flies) 1 (Some version_2)) 0 3 ≡ OneOf (zero_sector ∷ [])
+creating_zeros : pending_candidates origin (upto 7 flies) (pending_step origin (upto 7 flies) 1 (Some version_2)) 0 3
+    ≡ OneOf (zero_sector ∷ [])
 unfolding volumes_of place_of primary met leg_spot
 creating_zeros = refl
 
@@ -384,7 +394,8 @@ unfolding number_named
 refused_out = refl
 
 -- a write to another of its sectors isn't the pvcreate's
-others_stay : left_out (record origin { told = record { opened = zeros; steps = write 1 10 9 ∷ [] } }) (Begun 0 0 pvcreating None ∷ []) 1 0 ≡ false
+others_stay : left_out (record origin { told = record { opened = zeros; steps = write 1 10 9 ∷ [] } }) (Begun 0 0 pvcreating None ∷ []) 1 0
+    ≡ false
 unfolding number_named
 others_stay = refl
 
@@ -398,10 +409,12 @@ read_writes : is_in_order (Begun 12 3 reading (Some 0) ∷ filled) (Took 12 3 pi
 read_writes = refl
 
 -- a line on such a volume is refused alone
-unknown_answers : (is_in_order (Begun 8 2 (filling 0 1 7) None ∷ created) (Answered 12 2 answer.Fine) || is_in_order (Begun 8 2 (filling 0 1 7) None ∷ created) (Answered 12 2 (answer.PvFailed 0))) ≡ false
+unknown_answers : (is_in_order (Begun 8 2 (filling 0 1 7) None ∷ created) (Answered 12 2 answer.Fine)
+    || is_in_order (Begun 8 2 (filling 0 1 7) None ∷ created) (Answered 12 2 (answer.PvFailed 0))) ≡ false
 unknown_answers = refl
 
-unknown_refused : is_in_order (Begun 8 2 (filling 0 1 7) None ∷ created) (Answered 12 2 (answer.Refused (refusal.UnknownVolume (5 ∷ [])))) ≡ true
+unknown_refused : is_in_order (Begun 8 2 (filling 0 1 7) None ∷ created) (Answered 12 2 (answer.Refused (refusal.UnknownVolume (5 ∷ []))))
+    ≡ true
 unknown_refused = refl
 
 -- a read that is answered ok, a fill that is answered by sectors, a list that is answered ok; and as they may be
@@ -411,10 +424,12 @@ was_read = Took 12 3 read_piece ∷ Begun 12 3 reading (Some 0) ∷ filled
 abbrev was_listed : List ChronicleEntry
 was_listed = Took 12 3 zero_piece ∷ Begun 12 3 listing None ∷ filled
 
-answers_fit : is_in_order was_read (Answered 12 3 answer.Fine) ∷ is_in_order in_pieces (Answered 12 2 (answer.Read [])) ∷ is_in_order was_listed (Answered 12 3 answer.Fine) ∷ [] ≡ false ∷ false ∷ false ∷ []
+answers_fit : is_in_order was_read (Answered 12 3 answer.Fine) ∷ is_in_order in_pieces (Answered 12 2 (answer.Read []))
+    ∷ is_in_order was_listed (Answered 12 3 answer.Fine) ∷ [] ≡ false ∷ false ∷ false ∷ []
 answers_fit = refl
 
-answers_are : is_in_order was_read (Answered 12 3 (answer.Read (number_sector 7 ∷ []))) ∷ is_in_order was_listed (Answered 12 3 (answer.Listed [])) ∷ [] ≡ true ∷ true ∷ []
+answers_are : is_in_order was_read (Answered 12 3 (answer.Read (number_sector 7 ∷ [])))
+    ∷ is_in_order was_listed (Answered 12 3 (answer.Listed [])) ∷ [] ≡ true ∷ true ∷ []
 answers_are = refl
 
 -- a second commit of an ordinary command; that of a move is

@@ -1,7 +1,8 @@
 -- One lawful entry more keeps a legal history.
 use Rattle.std.proofs.Common.{◌≡◌, ◌≤◌, ℕ, suc, ◌-◌, List, [], ◌∷◌, length, drop, sym, ap, subst, arith}
 use Rattle.disk_model.specs.Steps.{Step}
-use Rattle.volume_history.specs.Chronicles.{AreUpto, Chronicle, ChronicleEntry, Origin, moment_of, origin_at, origin_on, with_entry, with_step}
+use Rattle.volume_history.specs.Chronicles.{AreUpto, Chronicle, ChronicleEntry, Origin, moment_of, origin_at, origin_on, with_entry,
+    with_step}
 use Rattle.volume_history.specs.Legal.{AllFaithful, AllOrdered, FindsNow, IsFaithful, IsLegalHistory, IsOrdered, last_moment}
 
 pub legal_append : (e : ChronicleEntry) (c : Chronicle)
@@ -16,7 +17,8 @@ legal_append e c legal ordered faithful by = record {
 }
 
 -- so does a step more that is told
-pub origin_stays : (step : Step) (o : Origin) (moment : ℕ) → moment ≤ length o.told.steps → origin_at moment (origin_on step o) ≡ origin_at moment o
+pub origin_stays : (step : Step) (o : Origin) (moment : ℕ) → moment ≤ length o.told.steps
+    → origin_at moment (origin_on step o) ≡ origin_at moment o
 origin_stays step o moment le =
     let e : suc (length o.told.steps) - moment ≡ suc (length o.told.steps - moment) = omega arith in
     ap (λ (k : ℕ). record o { told = record { opened = o.told.opened; steps = drop k (step ∷ o.told.steps) } }) e
@@ -41,8 +43,12 @@ legal_step step c legal =
     let by : c.origin.start ≤ length c.origin.told.steps = omega (arith, starts_by c.origin.start c.entries legal.ordered, legal.told) in
     record {
       from = legal.from;
-      opening = subst (λ (p : Origin). FindsNow p [] c.origin.start c.origin.version) (sym (origin_stays step c.origin c.origin.start by)) legal.opening;
+      opening =
+          subst (λ (p : Origin). FindsNow p [] c.origin.start c.origin.version) (sym (origin_stays step c.origin c.origin.start by))
+              legal.opening;
       told = omega (arith, legal.told);
       ordered = legal.ordered;
-      faithful = faithful_stays step c.origin c.entries (ordered_upto c.origin.start (length c.origin.told.steps) c.entries legal.told legal.ordered) legal.faithful;
+      faithful =
+          faithful_stays step c.origin c.entries (ordered_upto c.origin.start (length c.origin.told.steps) c.entries legal.told
+              legal.ordered) legal.faithful;
     }

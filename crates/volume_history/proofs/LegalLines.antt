@@ -1,5 +1,6 @@
 -- The histories of one line are legal.
-use Rattle.std.proofs.Common.{◌≡◌, ◌≤◌, ℕ, ◌-◌, ◌&&◌, ◌||◌, Bool, true, false, not, if◌then◌else◌, List, [], ◌∷◌, length, take, drop, Option, Some, None, refl, sym, ap, subst, ◌∙◌, arith, is_some}
+use Rattle.std.proofs.Common.{◌≡◌, ◌≤◌, ℕ, ◌-◌, ◌&&◌, ◌||◌, Bool, true, false, not, if◌then◌else◌, List, [], ◌∷◌, length, take, drop,
+    Option, Some, None, refl, sym, ap, subst, ◌∙◌, arith, is_some}
 use Rattle.std.proofs.lemmas.Bool.{true≢false}
 use Rattle.command_table.specs.declared.command.Path.{Path}
 use Rattle.line_answers.specs.declared.answer.Answer.{Answer}
@@ -12,9 +13,11 @@ use Rattle.volume_history.proofs.CommandKinds.{commit_says, undata}
 use Rattle.volume_history.proofs.Written.{since_seen}
 use Rattle.volume_history.specs.Chronicles.{Begun, Changed, ChronicleEntry, GivenUp, Origin, Took, begun_in, origin_at, pending}
 use Rattle.volume_history.specs.Commands.{commits, failed_pv, is_data, is_good, is_move, is_refused, is_tended, is_wait, may_say, removes}
-use Rattle.volume_history.specs.Legal.{AllFaithful, AllOrdered, FindsNow, GivesMachine, IsFaithful, IsOrdered, LeavesGroup, Makes, is_new_piece, is_pending, keeps_group, key_named, may_answer, may_answer_command, may_answer_data}
+use Rattle.volume_history.specs.Legal.{AllFaithful, AllOrdered, FindsNow, GivesMachine, IsFaithful, IsOrdered, LeavesGroup, Makes,
+    is_new_piece, is_pending, keeps_group, key_named, may_answer, may_answer_command, may_answer_data}
 use Rattle.volume_history.specs.Runs.{zero_piece}
-use Rattle.volume_history.specs.Single.{LeavesAll, MayEnd, answered_entries, begun_entries, taken_entries, end_of, fenced_entries, given_up_entries, made_entries, open_entries}
+use Rattle.volume_history.specs.Single.{LeavesAll, MayEnd, answered_entries, begun_entries, taken_entries, end_of, fenced_entries,
+    given_up_entries, made_entries, open_entries}
 
 or_true : (b : Bool) → (b || true) ≡ true
 or_true true = refl
@@ -24,7 +27,8 @@ not_or_true : (b : Bool) → (not b || true) ≡ true
 not_or_true true = refl
 not_or_true false = refl
 
-undone_test : (good refused moves waits : Bool) → good ≡ false → ((not good || false) && (not refused || moves || true) && (not waits || true)) ≡ true
+undone_test : (good refused moves waits : Bool) → good ≡ false
+    → ((not good || false) && (not refused || moves || true) && (not waits || true)) ≡ true
 undone_test true r m w bad = cc
 undone_test false true true true bad = refl
 undone_test false true true false bad = refl
@@ -53,7 +57,8 @@ begun_first : (o : Origin) (line : Line) → is_data line.command ≡ false → 
 begun_first o line quiet = record { moments = omega arith; order = ap (λ (d : Bool). d || true) quiet; makes = tt }
 
 -- a command is answered so
-answer_of : (es : List ChronicleEntry) (line : Line) (a : Answer) → is_data line.command ≡ false → may_say line.command a ≡ true → may_answer_command es 0 line a ≡ true
+answer_of : (es : List ChronicleEntry) (line : Line) (a : Answer) → is_data line.command ≡ false → may_say line.command a ≡ true
+    → may_answer_command es 0 line a ≡ true
     → (not (is_pending (pending es) 0) || is_some (failed_pv a)) ≡ true → may_answer es 0 (Some (line, None)) a ≡ true
 answer_of es line a quiet says may free =
     let by_command : Bool = may_answer_command es 0 line a && (not (is_pending (pending es) 0) || is_some (failed_pv a)) in
@@ -62,8 +67,10 @@ answer_of es line a quiet says may free =
     ∙ and_both (may_answer_command es 0 line a) (not (is_pending (pending es) 0) || is_some (failed_pv a)) may free)
 
 -- a line that has done or begun to remove the group doesn't leave it as it is
-kept_not : (o : Origin) (es : List ChronicleEntry) (m : ℕ) (removing done : Bool) → (removing && not done) ≡ keeps_group es 0 (begun_in es 0) → done ≡ true → LeavesGroup o es 0 m
-kept_not o es m removing done is begun keeps = absurd (true≢false (sym (is ∙ keeps) ∙ ap (λ (b : Bool). removing && not b) begun ∙ and_false removing))
+kept_not : (o : Origin) (es : List ChronicleEntry) (m : ℕ) (removing done : Bool)
+    → (removing && not done) ≡ keeps_group es 0 (begun_in es 0) → done ≡ true → LeavesGroup o es 0 m
+kept_not o es m removing done is begun keeps =
+    absurd (true≢false (sym (is ∙ keeps) ∙ ap (λ (b : Bool). removing && not b) begun ∙ and_false removing))
   where
     and_false : (b : Bool) → (b && false) ≡ false
     and_false true = refl
@@ -82,7 +89,9 @@ module _ (o : Origin) (line : Line) (quiet_data : is_data line.command ≡ false
   undone_ordered a bad says = (
     record {
       moments = until;
-      order = answer_of (begun_entries o line) line a quiet_data says (undone_test (is_good a) (is_refused a) (is_move line.command) (is_wait line.command) bad) refl;
+      order =
+          answer_of (begun_entries o line) line a quiet_data says
+              (undone_test (is_good a) (is_refused a) (is_move line.command) (is_wait line.command) bad) refl;
       makes = tt;
     },
     begun_ordered,
@@ -99,7 +108,8 @@ module _ (o : Origin) (line : Line) (quiet_data : is_data line.command ≡ false
       and_true true = refl
       and_true false = refl
 
-  pub answered_faithful : (a : Answer) → LeavesAll o line → GivesMachine (origin_at (end_of o) o) (begun_entries o line) 0 a → AllFaithful o (answered_entries o line a)
+  pub answered_faithful : (a : Answer) → LeavesAll o line → GivesMachine (origin_at (end_of o) o) (begun_entries o line) 0 a
+      → AllFaithful o (answered_entries o line a)
   answered_faithful a leaves gives = ((gives, leaves_group leaves), (begun_faithful, tt))
 
   -- a command that commits nothing takes place
@@ -113,13 +123,17 @@ module _ (o : Origin) (line : Line) (quiet_data : is_data line.command ≡ false
   created_ordered none says = (
     record {
       moments = omega arith;
-      order = answer_of (Took (end_of o) 0 (zero_piece 0) ∷ begun_entries o line) line answer.Fine quiet_data says (not_or_true (is_wait line.command)) refl;
+      order =
+          answer_of (Took (end_of o) 0 (zero_piece 0) ∷ begun_entries o line) line answer.Fine quiet_data says
+              (not_or_true (is_wait line.command)) refl;
       makes = tt;
     },
     (
       record {
         moments = until;
-        order = take_test (is_data line.command) (commits line.command) (is_new_piece (begun_entries o line) 0 line None (zero_piece 0)) true quiet_data none refl;
+        order =
+            take_test (is_data line.command) (commits line.command) (is_new_piece (begun_entries o line) 0 line None (zero_piece 0)) true
+                quiet_data none refl;
         makes = tt;
       },
       begun_ordered,
@@ -128,14 +142,16 @@ module _ (o : Origin) (line : Line) (quiet_data : is_data line.command ≡ false
 
   pub created_faithful : AllFaithful o (taken_entries o line)
   created_faithful = (
-    (tt, kept_not (origin_at (end_of o) o) (Took (end_of o) 0 (zero_piece 0) ∷ begun_entries o line) (end_of o) (removes line.command) true refl refl),
+    (tt, kept_not (origin_at (end_of o) o) (Took (end_of o) 0 (zero_piece 0) ∷ begun_entries o line) (end_of o) (removes line.command) true
+        refl refl),
     (tt, (begun_faithful, tt)),
   )
 
   -- its commit starts at a moment
   module _ (opened : ℕ) (from : o.start ≤ opened) (to : opened ≤ end_of o) (version : Option Version) where
     opened_ordered : commits line.command ≡ true → AllOrdered o.start (open_entries o line opened version)
-    opened_ordered commit = (record { moments = from; order = opens (commits line.command) (is_tended line.command) commit; makes = tt }, begun_ordered)
+    opened_ordered commit =
+        (record { moments = from; order = opens (commits line.command) (is_tended line.command) commit; makes = tt }, begun_ordered)
       where
         opens : (c t : Bool) → c ≡ true → ((c && (t || true)) && true) ≡ true
         opens true true e = refl
@@ -143,7 +159,8 @@ module _ (o : Origin) (line : Line) (quiet_data : is_data line.command ≡ false
         opens false t e = cc
 
     -- and is made at another
-    pub made_ordered : (made : ℕ) → opened ≤ made → made ≤ end_of o → (said : Answer) → MayEnd said → commits line.command ≡ true → AllOrdered o.start (made_entries o line opened made version said)
+    pub made_ordered : (made : ℕ) → opened ≤ made → made ≤ end_of o → (said : Answer) → MayEnd said → commits line.command ≡ true
+        → AllOrdered o.start (made_entries o line opened made version said)
     made_ordered made on ends said may commit = (
       record { moments = ends; order = ended said may; makes = tt },
       (
@@ -152,18 +169,25 @@ module _ (o : Origin) (line : Line) (quiet_data : is_data line.command ≡ false
       ),
     )
       where
-        ended : (said : Answer) → MayEnd said → may_answer (Changed made 0 version ∷ open_entries o line opened version) 0 (Some (line, None)) said ≡ true
-        ended answer.Fine may = answer_of (Changed made 0 version ∷ open_entries o line opened version) line answer.Fine quiet_data (commit_says line.command 0 commit).0 (not_or_true (is_wait line.command)) refl
+        ended : (said : Answer) → MayEnd said → may_answer (Changed made 0 version ∷ open_entries o line opened version) 0
+            (Some (line, None)) said ≡ true
+        ended answer.Fine may =
+            answer_of (Changed made 0 version ∷ open_entries o line opened version) line answer.Fine quiet_data
+                (commit_says line.command 0 commit).0 (not_or_true (is_wait line.command)) refl
         ended (answer.PvFailed pv) may =
-            answer_of (Changed made 0 version ∷ open_entries o line opened version) line (answer.PvFailed pv) quiet_data (commit_says line.command pv commit).1 (not_or_true (is_wait line.command)) refl
+            answer_of (Changed made 0 version ∷ open_entries o line opened version) line (answer.PvFailed pv) quiet_data
+                (commit_says line.command pv commit).1 (not_or_true (is_wait line.command)) refl
         ended other may = absurd may
 
     -- or given up
-    pub given_up_ordered : (pv : ℕ) → commits line.command ≡ true → removes line.command ≡ false → AllOrdered o.start (given_up_entries o line opened version pv)
+    pub given_up_ordered : (pv : ℕ) → commits line.command ≡ true → removes line.command ≡ false
+        → AllOrdered o.start (given_up_entries o line opened version pv)
     given_up_ordered pv commit kept = (
       record {
         moments = omega arith;
-        order = answer_of (GivenUp (end_of o) 0 ∷ open_entries o line opened version) line (answer.PvFailed pv) quiet_data (commit_says line.command pv commit).1 (not_or_true (is_wait line.command)) refl;
+        order =
+            answer_of (GivenUp (end_of o) 0 ∷ open_entries o line opened version) line (answer.PvFailed pv) quiet_data
+                (commit_says line.command pv commit).1 (not_or_true (is_wait line.command)) refl;
         makes = tt;
       },
       (
@@ -177,7 +201,9 @@ module _ (o : Origin) (line : Line) (quiet_data : is_data line.command ≡ false
     fenced_ordered pv commit = (
       record {
         moments = to;
-        order = answer_of (open_entries o line opened version) line (answer.PvFailed pv) quiet_data (commit_says line.command pv commit).1 (not_or_true (is_wait line.command)) refl;
+        order =
+            answer_of (open_entries o line opened version) line (answer.PvFailed pv) quiet_data (commit_says line.command pv commit).1
+                (not_or_true (is_wait line.command)) refl;
         makes = tt;
       },
       opened_ordered commit,
@@ -187,16 +213,24 @@ module _ (o : Origin) (line : Line) (quiet_data : is_data line.command ≡ false
       opened_faithful : AllFaithful o (open_entries o line opened version)
       opened_faithful = (makes, (begun_faithful, tt))
 
-      made_leaves : (made : ℕ) → LeavesGroup (origin_at (end_of o) o) (Changed made 0 version ∷ open_entries o line opened version) 0 (end_of o)
-      made_leaves made = kept_not (origin_at (end_of o) o) (Changed made 0 version ∷ open_entries o line opened version) (end_of o) (removes line.command) true refl refl
+      made_leaves : (made : ℕ) → LeavesGroup (origin_at (end_of o) o) (Changed made 0 version ∷ open_entries o line opened version) 0
+          (end_of o)
+      made_leaves made =
+          kept_not (origin_at (end_of o) o) (Changed made 0 version ∷ open_entries o line opened version) (end_of o) (removes line.command)
+              true refl refl
 
-      pub made_faithful : (made : ℕ) (said : Answer) → MayEnd said → FindsNow (origin_at made o) (open_entries o line opened version) made version → AllFaithful o (made_entries o line opened made version said)
+      pub made_faithful : (made : ℕ) (said : Answer) → MayEnd said
+          → FindsNow (origin_at made o) (open_entries o line opened version) made version
+          → AllFaithful o (made_entries o line opened made version said)
       made_faithful made answer.Fine may finds = ((tt, made_leaves made), (finds, opened_faithful))
       made_faithful made (answer.PvFailed pv) may finds = ((tt, made_leaves made), (finds, opened_faithful))
       made_faithful made other may finds = absurd may
 
       pub given_up_faithful : (pv : ℕ) → removes line.command ≡ false → AllFaithful o (given_up_entries o line opened version pv)
-      given_up_faithful pv kept = ((tt, λ keeps. absurd (true≢false (sym keeps ∙ ap (λ (b : Bool). b && true) kept))), (tt, opened_faithful))
+      given_up_faithful pv kept =
+          ((tt, λ keeps. absurd (true≢false (sym keeps ∙ ap (λ (b : Bool). b && true) kept))), (tt, opened_faithful))
 
       pub fenced_faithful : (pv : ℕ) → AllFaithful o (fenced_entries o line opened version pv)
-      fenced_faithful pv = ((tt, kept_not (origin_at (end_of o) o) (open_entries o line opened version) (end_of o) (removes line.command) true refl refl), opened_faithful)
+      fenced_faithful pv =
+          ((tt, kept_not (origin_at (end_of o) o) (open_entries o line opened version) (end_of o) (removes line.command) true refl refl),
+              opened_faithful)

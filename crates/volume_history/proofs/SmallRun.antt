@@ -1,6 +1,7 @@
 -- A whole small run: a vgcreate on one disk, where scans find no group while the header's sector is as it was, and the group
 -- from when it is written. So the premises of the laws on commits can be met.
-use Rattle.std.proofs.Common.{◌≡◌, ◌≤◌, ◌⊎◌, ℕ, true, IsTrue, List, [], ◌∷◌, Option, Some, None, inl, inr, ⊎_elim, refl, sym, ap, subst, arith}
+use Rattle.std.proofs.Common.{◌≡◌, ◌≤◌, ◌⊎◌, ℕ, true, IsTrue, List, [], ◌∷◌, Option, Some, None, inl, inr, ⊎_elim, refl, sym, ap, subst,
+    arith}
 use Rattle.std.proofs.lemmas.Bool.Decides.{nat_tests}
 use Rattle.disk_model.proofs.Bringing.{every_moment}
 use Rattle.disk_model.specs.Brought.{BringOnly}
@@ -34,7 +35,9 @@ abbrev pub header : Span
 header = record { pv = 0; first = 0; count = 1 }
 
 abbrev pub steps : List Step
-steps = Completed 2 (Flushing 0) true [] ∷ Submitted 2 (Flushing 0) ∷ Completed 1 (Writing header (new_header ∷ [])) true [] ∷ Submitted 1 (Writing header (new_header ∷ [])) ∷ []
+steps =
+    Completed 2 (Flushing 0) true [] ∷ Submitted 2 (Flushing 0) ∷ Completed 1 (Writing header (new_header ∷ [])) true []
+        ∷ Submitted 1 (Writing header (new_header ∷ [])) ∷ []
 
 abbrev pub told : Record
 told = record { opened = opened; steps = steps }
@@ -50,7 +53,8 @@ start_so : EachOnlyLeaves IsOldOrNew (record { opened = opened; steps = [] })
 start_so pv sector = record { each = λ write value may. inl may.1 }
 
 brings_so : BringOnly IsOldOrNew steps
-brings_so = (λ pv sector inside. let z : sector ≡ 0 = first_of pv sector inside in inr (ap (λ (s : ℕ). value_at header (new_header ∷ []) s) z), tt)
+brings_so =
+    (λ pv sector inside. let z : sector ≡ 0 = first_of pv sector inside in inr (ap (λ (s : ℕ). value_at header (new_header ∷ []) s) z), tt)
   where
     first_of : (pv sector : ℕ) → IsTrue (covers header pv sector) → sector ≡ 0
     first_of pv sector inside = grind (arith, nat_tests)
@@ -63,7 +67,10 @@ flushed : (image : Image) → IsImage told image → image 0 0 ≡ new_header
 flushed image is = let m = is 0 0 in at m.0 (image 0 0) m.1
   where
     at : (write : Option ℕ) (value : List ℕ) → MayLeave opened steps 0 0 write value → value ≡ new_header
-    at write value may = ⊎_elim (λ old. absurd (may.1 refl (inr (refl, inr (refl, subst (λ (w : Option ℕ). HasCompleted (Submitted 1 (Writing header (new_header ∷ [])) ∷ []) w) (sym old.0) tt))))) (λ new. new.2) may.0
+    at write value may =
+        ⊎_elim (λ old. absurd (may.1 refl (inr (refl,
+            inr (refl, subst (λ (w : Option ℕ). HasCompleted (Submitted 1 (Writing header (new_header ∷ [])) ∷ []) w) (sym old.0) tt)))))
+            (λ new. new.2) may.0
 
 module _ (no_group : (image : Image) → image 0 0 ≡ old_header → FindsVersion (99 ∷ []) image none_out None)
     (one_group : (image : Image) → image 0 0 ≡ new_header → FindsVersion (99 ∷ []) image none_out (Some version_1))
@@ -98,7 +105,9 @@ module _ (no_group : (image : Image) → image 0 0 ≡ old_header → FindsVersi
   done = record {
     after = λ image is. one_group image (flushed image is);
     untouched = tt;
-    found = finds_with (99 ∷ []) (now_at (origin_of told) 4) none_out (left_out (origin_of told) [] 4) (Some version_1) (λ pv. refl) (one_group (now_at (origin_of told) 4) refl);
+    found =
+        finds_with (99 ∷ []) (now_at (origin_of told) 4) none_out (left_out (origin_of told) [] 4) (Some version_1) (λ pv. refl)
+            (one_group (now_at (origin_of told) 4) refl);
   }
 
   -- so the run has its history

@@ -1,5 +1,6 @@
 -- Two wrong runs are refused: a command that is answered before its header is flushed, and a fill that is.
-use Rattle.std.proofs.Common.{◌≡◌, ◌<◌, ℕ, zero, suc, true, slice_index_or, List, [], ◌∷◌, Contains, Option, Some, None, inl, ⊎_elim, refl, ap, subst, arith}
+use Rattle.std.proofs.Common.{◌≡◌, ◌<◌, ℕ, zero, suc, true, slice_index_or, List, [], ◌∷◌, Contains, Option, Some, None, inl, ⊎_elim, refl,
+    ap, subst, arith}
 use Rattle.std.specs.Hash.{le_bytes}
 use Rattle.line_answers.specs.declared.answer.Answer.TheVariants as answer
 use Rattle.disk_model.specs.Steps.{Submitted, Record, Writing}
@@ -23,7 +24,8 @@ abbrev early : Chronicle
 early = record { origin = origin_of early_told; entries = done_entries (origin_of early_told) making 0 (Some version_1) }
 
 -- where a scan of what was opened finds no group, and nothing else
-module _ (no_group : FindsVersion (99 ∷ []) opened none_out None) (one : (v : Option Version) → FindsVersion (99 ∷ []) opened none_out v → None ≡ v) where
+module _ (no_group : FindsVersion (99 ∷ []) opened none_out None)
+    (one : (v : Option Version) → FindsVersion (99 ∷ []) opened none_out v → None ≡ v) where
   differ : (v : Option Version) → None ≡ v → v ≡ Some version_1 → ⊥
   differ None e f = cc
   differ (Some w) e f = cc
@@ -31,7 +33,9 @@ module _ (no_group : FindsVersion (99 ∷ []) opened none_out None) (one : (v : 
   wrong : IsConsistent (origin_at 1 (origin_of early_told)) (done_entries (origin_of early_told) making 0 (Some version_1)) opened → ⊥
   wrong c =
       ⊎_elim
-      (λ force. differ c.version (one c.version (finds_with (99 ∷ []) opened (left_out (origin_at 1 (origin_of early_told)) (done_entries (origin_of early_told) making 0 (Some version_1)) 1) none_out c.version (λ pv. refl) c.scan)) force.0)
+      (λ force. differ c.version (one c.version
+          (finds_with (99 ∷ []) opened (left_out (origin_at 1 (origin_of early_told))
+          (done_entries (origin_of early_told) making 0 (Some version_1)) 1) none_out c.version (λ pv. refl) c.scan)) force.0)
       (λ none. none)
       c.shows
 
@@ -44,8 +48,13 @@ holding = version_of 1 (volume_5 0 1 ∷ [])
 
 abbrev unflushed : Chronicle
 unflushed = record {
-  origin = record (origin_of (record { opened = opened; steps = Submitted 1 (Writing (record { pv = 0; first = 10; count = 1 }) (number_sector 7 ∷ [])) ∷ [] })) { version = Some holding };
-  entries = Answered 1 0 answer.Fine ∷ Took 1 0 (record { volume = 0; first = 0; count = 1; write = true }) ∷ Begun 0 0 (filling 0 1 7) (Some 0) ∷ [];
+  origin =
+      record (origin_of (record { opened = opened;
+          steps = Submitted 1 (Writing (record { pv = 0; first = 10; count = 1 }) (number_sector 7 ∷ [])) ∷ [] }))
+          { version = Some holding };
+  entries =
+      Answered 1 0 answer.Fine ∷ Took 1 0 (record { volume = 0; first = 0; count = 1; write = true }) ∷ Begun 0 0 (filling 0 1 7) (Some 0)
+          ∷ [];
 }
 
 different : (n : ℕ) → n ≡ 7 → n ≡ 0 → ⊥
@@ -64,7 +73,8 @@ unfolding volumes_of place_of primary met leg_spot
 unflushed_wrong c =
     ⊎_elim
     (λ force.
-    let f : ShowsInForce unflushed.origin unflushed.entries opened (Some holding) = subst (λ (v : Option Version). ShowsInForce unflushed.origin unflushed.entries opened v) force.0 force in
+    let f : ShowsInForce unflushed.origin unflushed.entries opened (Some holding) =
+        subst (λ (v : Option Version). ShowsInForce unflushed.origin unflushed.entries opened v) force.0 force in
     only_seven (f.2.2 0 (omega arith)))
     (λ none. none)
     c.shows

@@ -18,7 +18,8 @@ use Rattle.volume_history.specs.Reshaping.{AllZeroed}
 use Rattle.volume_history.specs.Single.{ZeroesStand}
 
 -- where no sector of the volumes that stood is born, only those of the last one are asked
-zeroed_last : (o : Origin) (step : PlainStep) (state : PlainState) (opening : Image) (k : ℕ) (vs : List PlacedVolume) (v : PlacedVolume) (p : PlainVolume)
+zeroed_last : (o : Origin) (step : PlainStep) (state : PlainState) (opening : Image) (k : ℕ) (vs : List PlacedVolume) (v : PlacedVolume)
+    (p : PlainVolume)
     → ((key x : ℕ) → k ≤ key → key < k + length vs → is_born step state key x ≡ false)
     → ((x : ℕ) → x < length v.places → is_born step state p.key x ≡ true → is_zeroed step x ≡ true → IsZeroAt o (place_at v.places x))
     → AllZeroed o step state (vs ++ v ∷ []) (opening_volumes opening k vs ++ p ∷ [])

@@ -1,5 +1,6 @@
 -- Legal histories: what each entry needs of those before it.
-use Rattle.std.specs.Prelude.{◌≡◌, ◌≤◌, ◌<◌, ◌⊎◌, ℕ, ◌+◌, ◌-◌, nat_lt, Bool, true, false, not, ◌==◌, ◌&&◌, ◌||◌, IsTrue, if◌then◌else◌, List, [], ◌∷◌, length, map, take, Option, Some, None, slice_index_or, is_some}
+use Rattle.std.specs.Prelude.{◌≡◌, ◌≤◌, ◌<◌, ◌⊎◌, ℕ, ◌+◌, ◌-◌, nat_lt, Bool, true, false, not, ◌==◌, ◌&&◌, ◌||◌, IsTrue, if◌then◌else◌,
+    List, [], ◌∷◌, length, map, take, Option, Some, None, slice_index_or, is_some}
 use Rattle.std.specs.List.{range_with_len}
 use Rattle.std.specs.Option.{option_and_then, option_map_or}
 use Rattle.std.specs.Str.{bytes_eq}
@@ -19,8 +20,11 @@ use Rattle.lv_plans.specs.Allocating.{Takes}
 use Rattle.group_ops.specs.Laws.{state_in}
 use Rattle.group_ops.specs.Planning.{IsBackupOf, IsPlanned, asks_of, change_of, refusal_of}
 use Rattle.image_scans.specs.Versions.{FindsVersion, Version}
-use Rattle.volume_history.specs.Commands.{is_data, is_wait, is_move, is_tended, failed_pv, is_good, is_judged_again, is_refused, may_say, writes, commits, covers_sector, range_of, removes, value_for, volume_named}
-use Rattle.volume_history.specs.Chronicles.{ChronicleEntry, Begun, Opened, Took, Changed, GivenUp, Failed, Answered, Origin, Chronicle, origin_at, moment_of, now_at, begun_in, count_begun, is_number, is_open, open_among, every, pending, in_force, may_begin, piece_covers, steps_upto, took_at, settled_at, has_took, left_out}
+use Rattle.volume_history.specs.Commands.{is_data, is_wait, is_move, is_tended, failed_pv, is_good, is_judged_again, is_refused, may_say,
+    writes, commits, covers_sector, range_of, removes, value_for, volume_named}
+use Rattle.volume_history.specs.Chronicles.{ChronicleEntry, Begun, Opened, Took, Changed, GivenUp, Failed, Answered, Origin, Chronicle,
+    origin_at, moment_of, now_at, begun_in, count_begun, is_number, is_open, open_among, every, pending, in_force, may_begin, piece_covers,
+    steps_upto, took_at, settled_at, has_took, left_out}
 use Rattle.volume_history.specs.Replay.{plain_state, shown_at}
 
 -- ---- the order of entries, which needs no content
@@ -56,7 +60,8 @@ is_zero_piece piece = (piece.volume == 0) && (piece.first == 0) && (piece.count 
 abbrev pub may_take : List ChronicleEntry → ℕ → Option (Line × Option ℕ) → Piece → Bool
 may_take es number None piece = false
 may_take es number (Some l) piece =
-    if is_data l.0.command then is_new_piece es number l.0 l.1 piece else (not (commits l.0.command) && is_zero_piece piece && not (has_took es number))
+    if is_data l.0.command then is_new_piece es number l.0 l.1 piece
+        else (not (commits l.0.command) && is_zero_piece piece && not (has_took es number))
 
 -- whether a piece of a line may fail
 abbrev pub may_fail : List ChronicleEntry → ℕ → Option (Line × Option ℕ) → Piece → Bool
@@ -156,7 +161,8 @@ pub record IsOrdered (start : ℕ) (es : List ChronicleEntry) (e : ChronicleEntr
 -- what a read gave of a sector: what the machine had when the line's piece of it took place
 abbrev pub read_sector : Origin → List ChronicleEntry → ℕ → ℕ → ℕ → List ℕ
 read_sector o [] number key x = []
-read_sector o (Took moment n piece ∷ es) number key x = if (n == number) && piece_covers piece key x then sector_of (plain_state o es) key x else read_sector o es number key x
+read_sector o (Took moment n piece ∷ es) number key x =
+    if (n == number) && piece_covers piece key x then sector_of (plain_state o es) key x else read_sector o es number key x
 read_sector o (_ ∷ es) number key x = read_sector o es number key x
 
 -- the machine when the command took place
@@ -168,7 +174,8 @@ state_taken o (_ ∷ es) number = state_taken o es number
 -- what a read gave of all its sectors
 abbrev pub read_values : Origin → List ChronicleEntry → ℕ → Option (Line × Option ℕ) → List (List ℕ)
 read_values o es number None = []
-read_values o es number (Some l) = option_map_or (λ (key : ℕ). map (λ (x : ℕ). read_sector o es number key x) (sectors_in (range_of l.0.command))) l.1 []
+read_values o es number (Some l) =
+    option_map_or (λ (key : ℕ). map (λ (x : ℕ). read_sector o es number key x) (sectors_in (range_of l.0.command))) l.1 []
 
 -- an answer gives what the machine had
 abbrev pub GivesMachine : Origin → List ChronicleEntry → ℕ → Answer → Type 0
@@ -181,12 +188,14 @@ abbrev pub LeavesOldOrNew : Origin → List ChronicleEntry → Option (Line × O
 LeavesOldOrNew o es None moment piece = Unit {0}
 LeavesOldOrNew o es (Some l) moment piece =
     (i : ℕ) → i < piece.count → IsTrue (writes l.0.command)
-    → (slice_index_or (shown_at (in_force o es) (plain_state o es) (now_at o moment) piece) i [] ≡ sector_of (plain_state o es) piece.volume (piece.first + i))
+    → (slice_index_or (shown_at (in_force o es) (plain_state o es) (now_at o moment) piece) i []
+    ≡ sector_of (plain_state o es) piece.volume (piece.first + i))
     ⊎ (slice_index_or (shown_at (in_force o es) (plain_state o es) (now_at o moment) piece) i [] ≡ value_for l.0.command (piece.first + i))
 
 -- the key of the volume of this path, where the group has its name and such a volume
 abbrev pub key_in : PlainState → Path → Option ℕ
-key_in state path = if option_map_or (λ (name : List ℕ). bytes_eq name path.vg) state.group false then key_of state.volumes path.lv else None
+key_in state path =
+    if option_map_or (λ (name : List ℕ). bytes_eq name path.vg) state.group false then key_of state.volumes path.lv else None
 
 -- the same of what the machine has after the entries
 abbrev pub key_named : Origin → List ChronicleEntry → Option Path → Option ℕ

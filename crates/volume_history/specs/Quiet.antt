@@ -1,7 +1,8 @@
 -- Histories that leave the volumes as they are.
 use Rattle.std.specs.Prelude.{◌≡◌, ℕ, Bool, true, false, List, [], ◌∷◌, Option, Some, None}
 use Rattle.command_table.specs.declared.command.Command.{Command}
-use Rattle.command_table.specs.declared.command.Command.TheVariants.{Vgremove, Vgcfgrestore, Lvcreate, Lvextend, Lvreduce, Lvremove, Lvrename, Read, Fill, Write}
+use Rattle.command_table.specs.declared.command.Command.TheVariants.{Vgremove, Vgcfgrestore, Lvcreate, Lvextend, Lvreduce, Lvremove,
+    Lvrename, Read, Fill, Write}
 use Rattle.disk_model.specs.CrashValues.{MayLeave}
 use Rattle.disk_model.specs.Steps.{Image, Record}
 use Rattle.line_table.specs.Machine.{plain_after}
@@ -35,7 +36,8 @@ AreQuiet (_ ∷ es) = AreQuiet es
 -- the pending version has the same volumes, and the name that the machine has after it
 abbrev pub IsQuietNext : Origin → List ChronicleEntry → Option (ℕ × Option Version) → Type 0
 IsQuietNext o es None = Unit {0}
-IsQuietNext o es (Some p) = (volumes_of p.1 ≡ volumes_of o.version) × (group_name p.1 ≡ (plain_after (plain_state o es) (pending_step o es p.0 p.1)).group)
+IsQuietNext o es (Some p) =
+    (volumes_of p.1 ≡ volumes_of o.version) × (group_name p.1 ≡ (plain_after (plain_state o es) (pending_step o es p.0 p.1)).group)
 
 -- the history leaves the volumes as they were at the start
 pub record IsQuiet (o : Origin) (es : List ChronicleEntry) : Type 0 where
@@ -48,7 +50,8 @@ pub record IsQuiet (o : Origin) (es : List ChronicleEntry) : Type 0 where
 abbrev pub AreUntouched : Image → List Place → Record → Type 0
 AreUntouched image [] told = Unit {0}
 AreUntouched image (p ∷ ps) told =
-    ((write : Option ℕ) (value : List ℕ) → MayLeave told.opened told.steps p.disk p.sector write value → value ≡ image p.disk p.sector) × AreUntouched image ps told
+    ((write : Option ℕ) (value : List ℕ) → MayLeave told.opened told.steps p.disk p.sector write value → value ≡ image p.disk p.sector)
+        × AreUntouched image ps told
 
 -- the same of all places of the volumes
 abbrev pub AllUntouched : Image → List PlacedVolume → Record → Type 0

@@ -18,13 +18,16 @@ zero_piece key = record { volume = key; first = 0; count = 0; write = false }
 -- the journal of the entries, the oldest first: without the notes, and without lines, versions and answers
 abbrev pub journal_of : List ChronicleEntry → List JournalEntry
 journal_of [] = []
-journal_of (Begun moment n line key ∷ es) = journal_of es ++ record { kind = kind.Begun; line = n; piece = zero_piece (unwrap_or key 0); moment = moment } ∷ []
+journal_of (Begun moment n line key ∷ es) =
+    journal_of es ++ record { kind = kind.Begun; line = n; piece = zero_piece (unwrap_or key 0); moment = moment } ∷ []
 journal_of (Opened moment n version ∷ es) = journal_of es
 journal_of (Took moment n piece ∷ es) = journal_of es ++ record { kind = kind.Took; line = n; piece = piece; moment = moment } ∷ []
-journal_of (Changed moment n version ∷ es) = journal_of es ++ record { kind = kind.Took; line = n; piece = zero_piece 0; moment = moment } ∷ []
+journal_of (Changed moment n version ∷ es) =
+    journal_of es ++ record { kind = kind.Took; line = n; piece = zero_piece 0; moment = moment } ∷ []
 journal_of (GivenUp moment n ∷ es) = journal_of es
 journal_of (Failed moment n piece ∷ es) = journal_of es ++ record { kind = kind.Failed; line = n; piece = piece; moment = moment } ∷ []
-journal_of (Answered moment n answer ∷ es) = journal_of es ++ record { kind = kind.Answered; line = n; piece = zero_piece 0; moment = moment } ∷ []
+journal_of (Answered moment n answer ∷ es) =
+    journal_of es ++ record { kind = kind.Answered; line = n; piece = zero_piece 0; moment = moment } ∷ []
 
 -- the lines that were begun, in order, each with its answer if it has one
 abbrev pub lines_of : List ChronicleEntry → List ChronicleEntry → List (Line × Option Answer)

@@ -12,7 +12,8 @@ use Rattle.line_table.specs.Machine.{plain_after}
 use Rattle.image_scans.specs.Versions.{FindsVersion, Version}
 use Rattle.volume_history.specs.Placed.{volumes_of}
 use Rattle.volume_history.specs.Commands.{commits, created_disk, is_created_at, removes}
-use Rattle.volume_history.specs.Chronicles.{ChronicleEntry, Begun, Opened, Took, Changed, GivenUp, Answered, Origin, has_written, now_at, origin_at, steps_upto}
+use Rattle.volume_history.specs.Chronicles.{ChronicleEntry, Begun, Opened, Took, Changed, GivenUp, Answered, Origin, has_written, now_at,
+    origin_at, steps_upto}
 use Rattle.volume_history.specs.Legal.{FindsNow, Makes}
 use Rattle.volume_history.specs.Quiet.{AllUntouched}
 use Rattle.volume_history.specs.Replay.{command_step, opening_state}
@@ -47,7 +48,8 @@ done_entries o line opened version = made_entries o line opened (end_of o) versi
 
 -- it was given up, since an operation on this disk failed before it was published
 abbrev pub given_up_entries : Origin → Line → ℕ → Option Version → ℕ → List ChronicleEntry
-given_up_entries o line opened version pv = Answered (end_of o) 0 (answer.PvFailed pv) ∷ GivenUp (end_of o) 0 ∷ open_entries o line opened version
+given_up_entries o line opened version pv =
+    Answered (end_of o) 0 (answer.PvFailed pv) ∷ GivenUp (end_of o) 0 ∷ open_entries o line opened version
 
 -- it fences the group, since an operation on this disk failed while it was published
 abbrev pub fenced_entries : Origin → Line → ℕ → Option Version → ℕ → List ChronicleEntry
@@ -69,7 +71,8 @@ none_out pv = false
 
 -- in every image a scan of all disks finds one of these two
 abbrev pub AllFindEither : List ℕ → Option Version → Option Version → Record → Type 0
-AllFindEither sizes version next told = (image : Image) → IsImage told image → FindsVersion sizes image none_out version ⊎ FindsVersion sizes image none_out next
+AllFindEither sizes version next told =
+    (image : Image) → IsImage told image → FindsVersion sizes image none_out version ⊎ FindsVersion sizes image none_out next
 
 -- up to the start every image shows the version in force, and so does a scan then; no place of its volumes is touched at any
 -- moment
@@ -87,7 +90,9 @@ pub record StaysLaw (o : Origin) : Type 0 where
 
 -- the line has submitted no write of the physical volume that it is to create, if it is
 abbrev pub LeavesDisk : Origin → Line → Type 0
-LeavesDisk o line = (disk : ℕ) → created_disk o.names line.command ≡ Some disk → has_written (is_created_at line.command disk) (take (end_of o - o.start) o.told.steps) ≡ false
+LeavesDisk o line =
+    (disk : ℕ) → created_disk o.names line.command ≡ Some disk
+        → has_written (is_created_at line.command disk) (take (end_of o - o.start) o.told.steps) ≡ false
 
 -- nor any write, where it is to remove the group
 abbrev pub LeavesAll : Origin → Line → Type 0

@@ -37,11 +37,13 @@ apart_in_order group =
           let e : ExtentSpan = run_to_sort d in
           apart_from (get_or runs i d) (get_or runs j d)
           (subst (λ x. NoExtentInBoth x (run_to_sort (get_or runs j d))) (get_or-map run_to_sort runs i d e (omega arith))
-          (subst (NoExtentInBoth (get_or (map run_to_sort runs) i e)) (get_or-map run_to_sort runs j d e (omega arith)) (apart i j e less (omega arith)))),
+          (subst (NoExtentInBoth (get_or (map run_to_sort runs) i e)) (get_or-map run_to_sort runs j d e (omega arith))
+              (apart i j e less (omega arith)))),
     )
 
 -- a run of extents that lie in no leg lies apart from all
-pub free_run_apart : (group : Group) (run : LegRun) → LegsLieApart group → ((on : On) (extent : ℕ) → IsInRun on extent run → IsUsed group on extent → ⊥) → AllPairs LieApart (runs_of group ++ run ∷ [])
+pub free_run_apart : (group : Group) (run : LegRun) → LegsLieApart group
+    → ((on : On) (extent : ℕ) → IsInRun on extent run → IsUsed group on extent → ⊥) → AllPairs LieApart (runs_of group ++ run ∷ [])
 free_run_apart group run apart free =
     all_pairs_push LieApart (runs_of group) run apart
     (λ k d lt on extent here there. free on extent there (get_or (runs_of group) k d, Contains-get_or (runs_of group) k d lt, here))

@@ -5,7 +5,8 @@ use Rattle.std.proofs.lemmas.Bool.{cases_order, cases_eq}
 use Rattle.std.proofs.lemmas.Option.{same_Some}
 use Rattle.meta_model.specs.declared.group.Group.{Group}
 use Rattle.volume_rules.specs.declared.rule.Rule.{Rule}
-use Rattle.volume_rules.specs.declared.rule.Rule.TheVariants.{Numbers, Ids, Volumes, Segments, Extents, Follows, Stripes, Mirrors, Within, Apart, Depth, Moved, Pvmove, Locked}
+use Rattle.volume_rules.specs.declared.rule.Rule.TheVariants.{Numbers, Ids, Volumes, Segments, Extents, Follows, Stripes, Mirrors, Within,
+    Apart, Depth, Moved, Pvmove, Locked}
 use Rattle.volume_rules.specs.Rules.{Keeps, KeepsBelow, IsAccepted, IsFirstBroken, number_of}
 
 rules : List Rule
@@ -36,7 +37,8 @@ pub below_first : (group : Group) → KeepsBelow 1 group
 below_first group other lt = absurd (omega (arith, (place_of other).0))
 
 -- a test more that went well
-pub below_more : (group : Group) (rule : Rule) → KeepsBelow (number_of rule) group → Keeps group rule → KeepsBelow (number_of rule + 1) group
+pub below_more : (group : Group) (rule : Rule) → KeepsBelow (number_of rule) group → Keeps group rule
+    → KeepsBelow (number_of rule + 1) group
 below_more group rule below keeps other lt =
     elim (cases_eq (number_of other) (number_of rule)) [
       | inl same ↦ subst (Keeps group) (sym (same_rule other rule same)) keeps

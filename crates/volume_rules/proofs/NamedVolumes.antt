@@ -35,38 +35,48 @@ leg_names (l ∷ legs) zero leg m is on =
     subst (λ (o : Option ℕ). Contains (cons_option o (in_legs legs)) m) (sym named) (contains_first m (in_legs legs))
 leg_names (l ∷ legs) (suc j) leg m is on = kept (lv_number l.on) (in_legs legs) m (leg_names legs j leg m is on)
 
-segment_names : (segments : List Segment) (k : ℕ) (s : Segment) (m : ℕ) → slice_get segments k ≡ Some s → Contains (in_legs (legs_of s.kind)) m → Contains (in_segments segments) m
+segment_names : (segments : List Segment) (k : ℕ) (s : Segment) (m : ℕ) → slice_get segments k ≡ Some s
+    → Contains (in_legs (legs_of s.kind)) m → Contains (in_segments segments) m
 segment_names [] k s m is within = cc
 segment_names (x ∷ segments) zero s m is within =
-    Contains-append_left (in_legs (legs_of x.kind)) (in_segments segments) m (subst (λ (y : Segment). Contains (in_legs (legs_of y.kind)) m) (sym (same_Some x s is)) within)
-segment_names (x ∷ segments) (suc k) s m is within = Contains-append_right (in_legs (legs_of x.kind)) (in_segments segments) m (segment_names segments k s m is within)
+    Contains-append_left (in_legs (legs_of x.kind)) (in_segments segments) m
+        (subst (λ (y : Segment). Contains (in_legs (legs_of y.kind)) m) (sym (same_Some x s is)) within)
+segment_names (x ∷ segments) (suc k) s m is within =
+    Contains-append_right (in_legs (legs_of x.kind)) (in_segments segments) m (segment_names segments k s m is within)
 
 pub names_from : (group : Group) (lv m : ℕ) → LiesOn group lv m → Contains (named_by group lv) m
 names_from group lv m lies =
     let is : IsRunOf group.lvs 0 lies.0 = run_is group lies.0 lies.1 in
     let number : is.nth ≡ lv = omega (arith, is.lv_is, lies.2) in
     let volume : slice_get group.lvs lv ≡ Some is.volume = ap (λ (k : ℕ). slice_get group.lvs k) (sym number) ∙ is.is_volume in
-    subst (λ (o : Option (List ℕ × Lv)). Contains (in_segments (unwrap_or (option_map (λ (v : List ℕ × Lv). v.1.segments) o) [])) m) (sym volume)
-    (segment_names is.volume.1.segments lies.0.segment is.segment m is.is_segment (leg_names (legs_of is.segment.kind) lies.0.leg is.leg m is.is_leg (sym is.on_is ∙ lies.3)))
+    subst (λ (o : Option (List ℕ × Lv)). Contains (in_segments (unwrap_or (option_map (λ (v : List ℕ × Lv). v.1.segments) o) [])) m)
+        (sym volume)
+    (segment_names is.volume.1.segments lies.0.segment is.segment m is.is_segment
+        (leg_names (legs_of is.segment.kind) lies.0.leg is.leg m is.is_leg (sym is.on_is ∙ lies.3)))
 
 -- each that is named
-each_leg : (P : ℕ → Type 0) (legs : List Leg) → ((j : ℕ) (leg : Leg) (m : ℕ) → slice_get legs j ≡ Some leg → leg.on ≡ on.Lv m → P m) → AllByRecursion P (in_legs legs)
+each_leg : (P : ℕ → Type 0) (legs : List Leg) → ((j : ℕ) (leg : Leg) (m : ℕ) → slice_get legs j ≡ Some leg → leg.on ≡ on.Lv m → P m)
+    → AllByRecursion P (in_legs legs)
 each_leg P [] at = tt
 each_leg P (l ∷ legs) at = by_on l.on refl (each_leg P legs (λ j leg m is on. at (suc j) leg m is on)) where
   by_on : (on : On) → l.on ≡ on → AllByRecursion P (in_legs legs) → AllByRecursion P (cons_option (lv_number on) (in_legs legs))
   by_on (on.Pv n) is rest = rest
   by_on (on.Lv n) is rest = (at zero l n refl is, rest)
 
-each_segment : (P : ℕ → Type 0) (segments : List Segment) → ((k : ℕ) (s : Segment) (j : ℕ) (leg : Leg) (m : ℕ) → slice_get segments k ≡ Some s → slice_get (legs_of s.kind) j ≡ Some leg → leg.on ≡ on.Lv m → P m)
+each_segment : (P : ℕ → Type 0) (segments : List Segment)
+    → ((k : ℕ) (s : Segment) (j : ℕ) (leg : Leg) (m : ℕ) → slice_get segments k ≡ Some s → slice_get (legs_of s.kind) j ≡ Some leg
+    → leg.on ≡ on.Lv m → P m)
     → AllByRecursion P (in_segments segments)
 each_segment P [] at = tt
 each_segment P (s ∷ segments) at =
-    join_all P (in_legs (legs_of s.kind)) (in_segments segments) (each_leg P (legs_of s.kind) (λ j leg m is on. at zero s j leg m refl is on))
+    join_all P (in_legs (legs_of s.kind)) (in_segments segments)
+        (each_leg P (legs_of s.kind) (λ j leg m is on. at zero s j leg m refl is on))
     (each_segment P segments (λ k x j leg m here is on. at (suc k) x j leg m here is on))
 
 pub names_to : (group : Group) (lv m : ℕ) → Contains (named_by group lv) m → LiesOn group lv m
 names_to group lv m within = of_volume (slice_get group.lvs lv) refl within where
-  of_volume : (o : Option (List ℕ × Lv)) → slice_get group.lvs lv ≡ o → Contains (in_segments (unwrap_or (option_map (λ (v : List ℕ × Lv). v.1.segments) o) [])) m → LiesOn group lv m
+  of_volume : (o : Option (List ℕ × Lv)) → slice_get group.lvs lv ≡ o
+      → Contains (in_segments (unwrap_or (option_map (λ (v : List ℕ × Lv). v.1.segments) o) [])) m → LiesOn group lv m
   of_volume None is none = absurd (omega (arith, none.1))
   of_volume (Some volume) is named =
       All-contains (LiesOn group lv) (in_segments volume.1.segments) m
@@ -89,16 +99,20 @@ from_way group (a ∷ []) is = tt
 from_way group (a ∷ b ∷ way) is = (names_to group a b is.0, from_way group (b ∷ way) is.1)
 
 -- the ways below a volume are those of the volumes that its legs name
-below_first : (group : Group) → ((lv below : ℕ) → Contains (named_by group lv) below → (height (λ v. 1) (named_by group) 5 below ≤ 4) × (height (counts group) (named_by group) 5 below ≤ 3))
+below_first : (group : Group) → ((lv below : ℕ) → Contains (named_by group lv) below
+    → (height (λ v. 1) (named_by group) 5 below ≤ 4) × (height (counts group) (named_by group) 5 below ≤ 3))
     → (lv : ℕ) (way : List ℕ) → IsWayDown group (lv ∷ way) → (length way ≤ 4) × (load (counts group) way ≤ 3)
 below_first group low lv [] is = (omega arith, omega arith)
-below_first group low lv (b ∷ way) is = rounds_tell (counts group) (named_by group) b (low lv b (names_from group lv b is.0)) way (to_way group (b ∷ way) is.1)
+below_first group low lv (b ∷ way) is =
+    rounds_tell (counts group) (named_by group) b (low lv b (names_from group lv b is.0)) way (to_way group (b ∷ way) is.1)
 
 -- how deep ways go is what five rounds over the legs give for the volumes that legs name
 pub depth_by_rounds : (group : Group)
     → ((lv : ℕ) (way : List ℕ) → IsWayDown group (lv ∷ way) → (length way ≤ 4) × (load (counts group) way ≤ 3))
-    ↔ ((lv below : ℕ) → Contains (named_by group lv) below → (height (λ v. 1) (named_by group) 5 below ≤ 4) × (height (counts group) (named_by group) 5 below ≤ 3))
+    ↔ ((lv below : ℕ) → Contains (named_by group lv) below
+    → (height (λ v. 1) (named_by group) 5 below ≤ 4) × (height (counts group) (named_by group) 5 below ≤ 3))
 depth_by_rounds group = (
-  λ low lv below named. rounds_find (counts group) (named_by group) below (λ way is. low lv (below ∷ way) (names_to group lv below named, from_way group (below ∷ way) is)),
+  λ low lv below named. rounds_find (counts group) (named_by group) below
+      (λ way is. low lv (below ∷ way) (names_to group lv below named, from_way group (below ∷ way) is)),
   below_first group,
 )

@@ -9,7 +9,8 @@ use Rattle.volume_rules.specs.Depths.{IsWayBy, greatest, load, height}
 below_greatest : (h : ℕ → ℕ) (xs : List ℕ) (x : ℕ) → Contains xs x → h x ≤ greatest (map h xs)
 below_greatest h [] x at = absurd (omega (arith, at.1))
 below_greatest h (y ∷ xs) x (zero, lt, is) = let same : h y ≡ h x = ap h is in omega arith
-below_greatest h (y ∷ xs) x (suc k, lt, is) = let rest : h x ≤ greatest (map h xs) = below_greatest h xs x (k, omega arith, is) in omega arith
+below_greatest h (y ∷ xs) x (suc k, lt, is) =
+    let rest : h x ≤ greatest (map h xs) = below_greatest h xs x (k, omega arith, is) in omega arith
 
 -- the greatest is none, or that of one of them
 greatest_is : (h : ℕ → ℕ) (xs : List ℕ) → (greatest (map h xs) ≡ 0) ⊎ ((x : ℕ) × Contains xs x × (greatest (map h xs) ≡ h x))
@@ -25,16 +26,19 @@ greatest_is h (y ∷ xs) =
     ]
 
 -- no way of at most so many volumes weighs more
-pub load_below : (weight : ℕ → ℕ) (named : ℕ → List ℕ) (rounds lv : ℕ) (way : List ℕ) → IsWayBy named (lv ∷ way) → length (lv ∷ way) ≤ rounds → load weight (lv ∷ way) ≤ height weight named rounds lv
+pub load_below : (weight : ℕ → ℕ) (named : ℕ → List ℕ) (rounds lv : ℕ) (way : List ℕ) → IsWayBy named (lv ∷ way)
+    → length (lv ∷ way) ≤ rounds → load weight (lv ∷ way) ≤ height weight named rounds lv
 load_below weight named zero lv way is short = absurd (omega arith)
 load_below weight named (suc rounds) lv [] is short = omega arith
 load_below weight named (suc rounds) lv (below ∷ way) is short =
     let rest : load weight (below ∷ way) ≤ height weight named rounds below = load_below weight named rounds below way is.1 (omega arith) in
-    let most : height weight named rounds below ≤ greatest (map (height weight named rounds) (named lv)) = below_greatest (height weight named rounds) (named lv) below is.0 in
+    let most : height weight named rounds below ≤ greatest (map (height weight named rounds) (named lv)) =
+        below_greatest (height weight named rounds) (named lv) below is.0 in
     omega arith
 
 -- one weighs as much
-pub height_is : (weight : ℕ → ℕ) (named : ℕ → List ℕ) (rounds lv : ℕ) → (way : List ℕ) × IsWayBy named (lv ∷ way) × (height weight named (suc rounds) lv ≡ load weight (lv ∷ way))
+pub height_is : (weight : ℕ → ℕ) (named : ℕ → List ℕ) (rounds lv : ℕ)
+    → (way : List ℕ) × IsWayBy named (lv ∷ way) × (height weight named (suc rounds) lv ≡ load weight (lv ∷ way))
 height_is weight named zero lv =
     elim (greatest_is (height weight named zero) (named lv)) [
       | inl none ↦ ([], tt, omega arith)
@@ -69,7 +73,9 @@ pub rounds_tell : (weight : ℕ → ℕ) (named : ℕ → List ℕ) (lv : ℕ) �
 rounds_tell weight named lv h way is =
     elim (cases_lt 5 (length (lv ∷ way))) [
       | inl long ↦
-          let five = load_below (λ v. 1) named 5 lv (take 4 way) (front named 5 (lv ∷ way) is) (omega (arith, length-take-le 4 way (omega arith))) in
+          let five =
+              load_below (λ v. 1) named 5 lv (take 4 way) (front named 5 (lv ∷ way) is)
+                  (omega (arith, length-take-le 4 way (omega arith))) in
           absurd (omega (arith, five, h.0, count_is (lv ∷ take 4 way), length-take-le 4 way (omega arith)))
       | inr short ↦ (
         omega (arith, h.0, load_below (λ v. 1) named 5 lv way is short, count_is (lv ∷ way)),
@@ -77,7 +83,8 @@ rounds_tell weight named lv h way is =
       )
     ]
 
-pub rounds_find : (weight : ℕ → ℕ) (named : ℕ → List ℕ) (lv : ℕ) → ((way : List ℕ) → IsWayBy named (lv ∷ way) → (length (lv ∷ way) ≤ 4) × (load weight (lv ∷ way) ≤ 3))
+pub rounds_find : (weight : ℕ → ℕ) (named : ℕ → List ℕ) (lv : ℕ)
+    → ((way : List ℕ) → IsWayBy named (lv ∷ way) → (length (lv ∷ way) ≤ 4) × (load weight (lv ∷ way) ≤ 3))
     → (height (λ v. 1) named 5 lv ≤ 4) × (height weight named 5 lv ≤ 3)
 rounds_find weight named lv low =
     let a = height_is (λ v. 1) named 4 lv in

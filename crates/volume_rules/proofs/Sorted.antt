@@ -14,11 +14,13 @@ ends_through a b c (inr p) (inl q) = inl (omega arith)
 ends_through a b c (inr p) (inr q) = inr (omega arith, omega arith)
 
 -- where neighbours end before each other, all do: the distance is one more than k
-far : (runs : List ExtentSpan) → AllAdjacentBelow EndsBefore runs (length runs) → (i k : ℕ) (d : ExtentSpan) → i + 1 + k < length runs → EndsBefore (get_or runs i d) (get_or runs (i + 1 + k) d)
+far : (runs : List ExtentSpan) → AllAdjacentBelow EndsBefore runs (length runs) → (i k : ℕ) (d : ExtentSpan) → i + 1 + k < length runs
+    → EndsBefore (get_or runs i d) (get_or runs (i + 1 + k) d)
 far runs near i zero d lt = subst (λ (n : ℕ). EndsBefore (get_or runs i d) (get_or runs n d)) (omega arith) (near i d (omega arith))
 far runs near i (suc k) d lt =
     subst (λ (n : ℕ). EndsBefore (get_or runs i d) (get_or runs n d)) (omega arith)
-    (ends_through (get_or runs i d) (get_or runs (i + 1 + k) d) (get_or runs (i + 1 + k + 1) d) (far runs near i k d (omega arith)) (near (i + 1 + k) d (omega arith)))
+    (ends_through (get_or runs i d) (get_or runs (i + 1 + k) d) (get_or runs (i + 1 + k + 1) d) (far runs near i k d (omega arith))
+        (near (i + 1 + k) d (omega arith)))
 
 pub pairwise_from_neighbours : (runs : List ExtentSpan) → AllAdjacentBelow EndsBefore runs (length runs) → AllPairs EndsBefore runs
 pairwise_from_neighbours runs near i j d lt within =
@@ -38,8 +40,10 @@ ends_from_apart a b (inr p) some more apart =
     ]
 
 -- what is tested is right: neighbours in order end before each other exactly where no two runs share an extent
-pub neighbours_tell : (runs : List ExtentSpan) → AllAdjacentBelow StandsBefore runs (length runs) → All (λ run. 1 ≤ run.count) runs → AllPairs NoExtentInBoth runs → AllAdjacentBelow EndsBefore runs (length runs)
-neighbours_tell runs order some apart k d lt = ends_from_apart _ _ (order k d lt) (some k d (omega arith)) (some (k + 1) d lt) (apart k (k + 1) d (omega arith) lt)
+pub neighbours_tell : (runs : List ExtentSpan) → AllAdjacentBelow StandsBefore runs (length runs) → All (λ run. 1 ≤ run.count) runs
+    → AllPairs NoExtentInBoth runs → AllAdjacentBelow EndsBefore runs (length runs)
+neighbours_tell runs order some apart k d lt =
+    ends_from_apart _ _ (order k d lt) (some k d (omega arith)) (some (k + 1) d lt) (apart k (k + 1) d (omega arith) lt)
 
 pub neighbours_show : (runs : List ExtentSpan) → AllAdjacentBelow EndsBefore runs (length runs) → AllPairs NoExtentInBoth runs
 neighbours_show runs near i j d lt within = apart_from_ends _ _ (pairwise_from_neighbours runs near i j d lt within)

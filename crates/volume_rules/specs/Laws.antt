@@ -16,7 +16,8 @@ abbrev pub DepthIsTested : Type 0
 DepthIsTested =
     (group : Group)
     → ((lv : ℕ) (way : List ℕ) → IsWayDown group (lv ∷ way) → (length way ≤ 4) × (load (counts group) way ≤ 3))
-    ↔ ((lv below : ℕ) → Contains (named_by group lv) below → (height (λ v. 1) (named_by group) 5 below ≤ 4) × (height (counts group) (named_by group) 5 below ≤ 3))
+    ↔ ((lv below : ℕ) → Contains (named_by group lv) below
+    → (height (λ v. 1) (named_by group) 5 below ≤ 4) × (height (counts group) (named_by group) 5 below ≤ 3))
 
 -- whether a volume is moving is found over its legs
 abbrev pub MovingIsTested : Type 0

@@ -21,10 +21,12 @@ SegmentFailsAt Good group at other = (row : List ℕ × Lv) × (slice_get group.
 -- legs, the numbers of the logical volume and of its segment; of any other rule, 0 and 0.
 abbrev pub IsOffence : Group → Rule → ℕ → ℕ → Type 0
 IsOffence group Extents at other = (other ≡ 0) × FailsAt (λ pv. FitsDevice group.extent_size pv.1) group.pvs at
-IsOffence group Follows at other = (other ≡ 0) × FailsAt (λ lv. Follow 0 lv.1.segments × (extents_of lv.1 * group.extent_size < 2 ^ 48)) group.lvs at
+IsOffence group Follows at other =
+    (other ≡ 0) × FailsAt (λ lv. Follow 0 lv.1.segments × (extents_of lv.1 * group.extent_size < 2 ^ 48)) group.lvs at
 IsOffence group Stripes at other = SegmentFailsAt (λ lv segment. IsWholeStriped group.extent_size segment.count segment.kind) group at other
 IsOffence group Mirrors at other = SegmentFailsAt (λ lv segment. IsWholeMirror segment.kind) group at other
 IsOffence group Within at other =
-    (run : LegRun) × Contains (runs_of group) run × (run.lv ≡ at) × (run.segment ≡ other) × (LiesWithin group run.on (run.first + run.count) → ⊥)
+    (run : LegRun) × Contains (runs_of group) run × (run.lv ≡ at) × (run.segment ≡ other)
+        × (LiesWithin group run.on (run.first + run.count) → ⊥)
 IsOffence group Moved at other = SegmentFailsAt (λ lv segment. MovedIsAllowed lv.status.pvmove segment.count segment.kind) group at other
 IsOffence group rule at other = (at ≡ 0) × (other ≡ 0) × (Keeps group rule → ⊥)

@@ -1,5 +1,6 @@
 -- The rules that a group keeps, one for each subject, and the groups that are accepted.
-use Rattle.std.specs.Prelude.{◌≡◌, ◌≢◌, ◌≤◌, ◌<◌, ℕ, ◌+◌, ◌*◌, ◌%◌, ◌^◌, Bool, IsTrue, IsFalse, cond, nat_eq, None, Some, List, [], ◌∷◌, ◌++◌, length, map, take, codes, slice_get, sum_by, All, AllPairs, Contains}
+use Rattle.std.specs.Prelude.{◌≡◌, ◌≢◌, ◌≤◌, ◌<◌, ℕ, ◌+◌, ◌*◌, ◌%◌, ◌^◌, Bool, IsTrue, IsFalse, cond, nat_eq, None, Some, List, [], ◌∷◌,
+    ◌++◌, length, map, take, codes, slice_get, sum_by, All, AllPairs, Contains}
 use Rattle.meta_model.specs.declared.group.Group.{Group}
 use Rattle.meta_model.specs.declared.pv.Pv.{Pv}
 use Rattle.meta_model.specs.declared.lv.Lv.{Lv}
@@ -12,7 +13,8 @@ use Rattle.meta_model.specs.declared.segment.On.TheVariants as on
 use Rattle.volume_rules.specs.Depths.{load}
 use Rattle.volume_rules.specs.Legs.{runs_of, IsUsed, LiesOn, LieApart, IsWayDown}
 use Rattle.volume_rules.specs.declared.rule.Rule.{Rule}
-use Rattle.volume_rules.specs.declared.rule.Rule.TheVariants.{Numbers, Ids, Volumes, Segments, Extents, Follows, Stripes, Mirrors, Within, Apart, Depth, Moved, Pvmove, Locked}
+use Rattle.volume_rules.specs.declared.rule.Rule.TheVariants.{Numbers, Ids, Volumes, Segments, Extents, Follows, Stripes, Mirrors, Within,
+    Apart, Depth, Moved, Pvmove, Locked}
 
 -- the logical volume with this number
 abbrev pub IsLv : Group → ℕ → Lv → Type 0
@@ -75,7 +77,8 @@ pub record SegmentsAreFew (group : Group) : Type 0 where
 
 -- the extents of the physical volume end below 2^48 sectors, and on its device, where its size is known
 abbrev pub FitsDevice : ℕ → Pv → Type 0
-FitsDevice extent_size pv = (pv.pe_start + pv.pe_count * extent_size < 2 ^ 48) × (pv.dev_size ≢ 0 → pv.pe_start + pv.pe_count * extent_size ≤ pv.dev_size)
+FitsDevice extent_size pv =
+    (pv.pe_start + pv.pe_count * extent_size < 2 ^ 48) × (pv.dev_size ≢ 0 → pv.pe_start + pv.pe_count * extent_size ≤ pv.dev_size)
 
 -- Extents: those of each physical volume do
 abbrev pub ExtentsFitDevices : Group → Type 0
@@ -94,7 +97,8 @@ SegmentsFollow group = All (λ lv. Follow 0 lv.1.segments × (extents_of lv.1 * 
 -- two of at least 8 sectors that divides an extent
 abbrev pub IsWholeStriped : ℕ → ℕ → SegKind → Type 0
 IsWholeStriped extent_size count (Striped stripe legs) =
-    (1 ≤ length legs) × (length legs ≤ 8) × (count % length legs ≡ 0) × (1 < length legs → IsPowerOfTwo stripe × (8 ≤ stripe) × (extent_size % stripe ≡ 0))
+    (1 ≤ length legs) × (length legs ≤ 8) × (count % length legs ≡ 0)
+        × (1 < length legs → IsPowerOfTwo stripe × (8 ≤ stripe) × (extent_size % stripe ≡ 0))
 IsWholeStriped extent_size count (Mirror region moved legs) = Unit {0}
 
 -- Stripes: each striped segment is so
@@ -151,7 +155,8 @@ MovedIsAllowed pvmove count (Mirror region (Some moved) legs) = IsTrue pvmove ×
 
 -- Moved: each segment is so
 abbrev pub MovedStandsInPvmove : Group → Type 0
-MovedStandsInPvmove group = All (λ lv. All (λ segment. MovedIsAllowed lv.1.status.pvmove segment.count segment.kind) lv.1.segments) group.lvs
+MovedStandsInPvmove group =
+    All (λ lv. All (λ segment. MovedIsAllowed lv.1.status.pvmove segment.count segment.kind) lv.1.segments) group.lvs
 
 -- a segment of a move from this physical volume to another one
 abbrev pub IsMoveFrom : ℕ → SegKind → Type 0
@@ -171,7 +176,8 @@ pub record IsMove (group : Group) (number : ℕ) (name : List ℕ) (lv : Lv) : T
 -- Pvmove: there is one PVMOVE volume at most, and it is so
 pub record PvmoveIsAllowed (group : Group) : Type 0 where
   pub one : (a b : ℕ) → IsPvmove group a → IsPvmove group b → a ≡ b
-  pub whole : (number : ℕ) (name : List ℕ) (lv : Lv) → slice_get group.lvs number ≡ Some (name, lv) → IsTrue lv.status.pvmove → IsMove group number name lv
+  pub whole : (number : ℕ) (name : List ℕ) (lv : Lv) → slice_get group.lvs number ≡ Some (name, lv) → IsTrue lv.status.pvmove
+      → IsMove group number name lv
 
 -- a volume is moving where a way down from it meets the PVMOVE volume
 abbrev pub IsMoving : Group → ℕ → Type 0

@@ -21,7 +21,8 @@ StandsBefore a b = (a.on < b.on) ⊎ ((a.on ≡ b.on) × (a.first ≤ b.first))
 
 -- no extent lies in both runs
 abbrev pub NoExtentInBoth : ExtentSpan → ExtentSpan → Type 0
-NoExtentInBoth a b = (extent : ℕ) → a.on ≡ b.on → a.first ≤ extent → extent < a.first + a.count → b.first ≤ extent → extent < b.first + b.count → ⊥
+NoExtentInBoth a b =
+    (extent : ℕ) → a.on ≡ b.on → a.first ≤ extent → extent < a.first + a.count → b.first ≤ extent → extent < b.first + b.count → ⊥
 
 -- one number for each physical and each logical volume
 abbrev pub on_number : On → ℕ

@@ -27,26 +27,37 @@ all_stand moved sector small lt = primary_stands (example moved) 0 sector (3 ∷
 -- no other of them has the primary place of sector 29
 pub one_sector : (moved sector : ℕ) → moved ≤ 1 → primary (example moved) 0 sector ≡ Some (at 1 (4096 + 5 * 64 + 8 + 5)) → sector ≡ 29
 unfolding primary met leg_spot
-one_sector moved sector small there = ap (λ (s : Spot). s.sector) (primaries_apart (example moved) 0 0 sector 29 (at 1 (4096 + 5 * 64 + 8 + 5)) (accepted moved small) (tops moved sector small) (tops moved 29 small) there refl)
+one_sector moved sector small there =
+    ap (λ (s : Spot). s.sector) (primaries_apart (example moved) 0 0 sector 29 (at 1 (4096 + 5 * 64 + 8 + 5)) (accepted moved small)
+        (tops moved sector small) (tops moved 29 small) there refl)
 
 -- and none is read where the move goes, while it isn't finished
 pub not_read : (sector : ℕ) → primary (example 0) 0 sector ≡ Some (at 1 (4096 + 9 * 64 + 40)) → ⊥
 unfolding places primary met leg_spot deciding
 not_read sector there =
-    primary_is_no_other (example 0) 0 0 sector 168 (at 1 (4096 + 9 * 64 + 40)) (record { primary = at 0 (2048 + 2 * 64 + 40); others = at 1 (4096 + 9 * 64 + 40) ∷ []; mirror = Some (record { lv = 3; segment = 0; region = 1 }) })
+    primary_is_no_other (example 0) 0 0 sector 168 (at 1 (4096 + 9 * 64 + 40))
+        (record { primary = at 0 (2048 + 2 * 64 + 40); others = at 1 (4096 + 9 * 64 + 40) ∷ [];
+        mirror = Some (record { lv = 3; segment = 0; region = 1 }) })
     (accepted 0 (omega arith)) (tops 0 sector (omega arith)) (tops 0 168 (omega arith)) there refl (0, omega arith, refl)
 
 -- the places of sectors 168 to 175 stand side by side, in one region
 pub one_piece : (count : ℕ) → 21 ≡ (168 + count) / 8
-    → places (example 0) 0 (168 + count) ≡ Some (record { primary = at 0 (2048 + 2 * 64 + 40 + count); others = at 1 (4096 + 9 * 64 + 40 + count) ∷ []; mirror = Some (record { lv = 3; segment = 0; region = 1 }) })
-one_piece count same = places_later (example 0) 0 168 count (record { primary = at 0 (2048 + 2 * 64 + 40); others = at 1 (4096 + 9 * 64 + 40) ∷ []; mirror = Some (record { lv = 3; segment = 0; region = 1 }) }) (accepted 0 (omega arith)) same row_moving
+    → places (example 0) 0 (168 + count) ≡ Some
+    (record { primary = at 0 (2048 + 2 * 64 + 40 + count); others = at 1 (4096 + 9 * 64 + 40 + count) ∷ [];
+    mirror = Some (record { lv = 3; segment = 0; region = 1 }) })
+one_piece count same =
+    places_later (example 0) 0 168 count (record { primary = at 0 (2048 + 2 * 64 + 40); others = at 1 (4096 + 9 * 64 + 40) ∷ [];
+        mirror = Some (record { lv = 3; segment = 0; region = 1 }) }) (accepted 0 (omega arith)) same row_moving
 
 -- only the first volume is visible
 only_visible : (moved lv : ℕ) (volume : List ℕ × Lv) → slice_get (lvs moved) lv ≡ Some volume → IsTrue volume.1.status.visible → lv ≡ 0
 only_visible moved zero volume is visible = refl
-only_visible moved (suc zero) volume is visible = absurd (not_true volume.1.status.visible (sym (ap (λ (p : List ℕ × Lv). p.1.status.visible) (same_Some _ _ is))) visible)
-only_visible moved (suc (suc zero)) volume is visible = absurd (not_true volume.1.status.visible (sym (ap (λ (p : List ℕ × Lv). p.1.status.visible) (same_Some _ _ is))) visible)
-only_visible moved (suc (suc (suc zero))) volume is visible = absurd (not_true volume.1.status.visible (sym (ap (λ (p : List ℕ × Lv). p.1.status.visible) (same_Some _ _ is))) visible)
+only_visible moved (suc zero) volume is visible =
+    absurd (not_true volume.1.status.visible (sym (ap (λ (p : List ℕ × Lv). p.1.status.visible) (same_Some _ _ is))) visible)
+only_visible moved (suc (suc zero)) volume is visible =
+    absurd (not_true volume.1.status.visible (sym (ap (λ (p : List ℕ × Lv). p.1.status.visible) (same_Some _ _ is))) visible)
+only_visible moved (suc (suc (suc zero))) volume is visible =
+    absurd (not_true volume.1.status.visible (sym (ap (λ (p : List ℕ × Lv). p.1.status.visible) (same_Some _ _ is))) visible)
 only_visible moved (suc (suc (suc (suc n)))) volume is visible = cc
 
 -- its physical volumes are on disks 4 and 6
@@ -64,7 +75,8 @@ disks_differ moved (suc (suc n)) other lt lt' same = absurd (omega arith)
 disks_differ moved pv (suc (suc n)) lt lt' same = absurd (omega arith)
 
 -- what the move copies changes no view, as long as it isn't finished
-pub copy_unseen : (image new : Image) → ((disk k : ℕ) → (disk ≡ 6 → k ≡ 4096 + 9 * 64 + 40 → ⊥) → image disk k ≡ new disk k) → view image (example 0) (4 ∷ 6 ∷ []) ≡ view new (example 0) (4 ∷ 6 ∷ [])
+pub copy_unseen : (image new : Image) → ((disk k : ℕ) → (disk ≡ 6 → k ≡ 4096 + 9 * 64 + 40 → ⊥) → image disk k ≡ new disk k)
+    → view image (example 0) (4 ∷ 6 ∷ []) ≡ view new (example 0) (4 ∷ 6 ∷ [])
 copy_unseen image new beside =
     view_reads_primaries image new (example 0) (4 ∷ 6 ∷ [])
     (λ lv sector volume a is visible lt here.
@@ -72,11 +84,14 @@ copy_unseen image new beside =
     (λ disk k.
     let place : ℕ → ℕ → At = λ v x. record { pv = v; sector = x } in
     let same : a ≡ at 1 (4096 + 9 * 64 + 40) = ap (λ (n : ℕ). place n a.sector) (on_second a.pv disk) ∙ ap (place 1) k in
-    not_read sector (ap (λ (n : ℕ). primary (example 0) n sector) (sym (only_visible 0 lv volume is visible)) ∙ here ∙ ap (λ (x : At). Some x) same)))
+    not_read sector (ap (λ (n : ℕ). primary (example 0) n sector) (sym (only_visible 0 lv volume is visible)) ∙ here
+        ∙ ap (λ (x : At). Some x) same)))
 
 -- and a write of sector 29 changes no other sector
-pub write_alone : (image new : Image) (sector : ℕ) → (29 ≡ sector → ⊥) → ((disk k : ℕ) → (disk ≡ 6 → k ≡ 4096 + 5 * 64 + 8 + 5 → ⊥) → image disk k ≡ new disk k)
+pub write_alone : (image new : Image) (sector : ℕ) → (29 ≡ sector → ⊥)
+    → ((disk k : ℕ) → (disk ≡ 6 → k ≡ 4096 + 5 * 64 + 8 + 5 → ⊥) → image disk k ≡ new disk k)
     → content image (example 0) (4 ∷ 6 ∷ []) 0 sector ≡ content new (example 0) (4 ∷ 6 ∷ []) 0 sector
 unfolding primary met leg_spot
 write_alone image new sector differ beside =
-    others_stay image new (example 0) (4 ∷ 6 ∷ []) 0 29 0 sector (at 1 (4096 + 5 * 64 + 8 + 5)) (accepted 0 (omega arith)) (disks_differ 0) (tops 0 29 (omega arith)) (tops 0 sector (omega arith)) refl (λ same. differ) beside
+    others_stay image new (example 0) (4 ∷ 6 ∷ []) 0 29 0 sector (at 1 (4096 + 5 * 64 + 8 + 5)) (accepted 0 (omega arith)) (disks_differ 0)
+        (tops 0 29 (omega arith)) (tops 0 sector (omega arith)) refl (λ same. differ) beside

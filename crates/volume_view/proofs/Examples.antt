@@ -19,11 +19,13 @@ use Rattle.volume_view.specs.View.{Image, content, view}
 
 -- a status by the words that places depend on
 abbrev pub status : (visible pvmove locked : Bool) → LvStatus
-status visible pvmove locked = record { read = true; write = true; visible = visible; fixed_minor = false; pvmove = pvmove; locked = locked; notsynced = false }
+status visible pvmove locked =
+    record { read = true; write = true; visible = visible; fixed_minor = false; pvmove = pvmove; locked = locked; notsynced = false }
 
 -- a physical volume of 15 extents from this sector on, with its name
 abbrev pub pv : ℕ → ℕ → List ℕ × Pv
-pv id start = (id ∷ [], record { id = id ∷ []; device = []; allocatable = true; missing = false; dev_size = 0; pe_start = start; pe_count = 15 })
+pv id start =
+    (id ∷ [], record { id = id ∷ []; device = []; allocatable = true; missing = false; dev_size = 0; pe_start = start; pe_count = 15 })
 
 -- a logical volume without its name
 abbrev pub lv : ℕ → LvStatus → List Segment → Lv
@@ -115,7 +117,9 @@ unfolding places primary met leg_spot deciding
 row_stripe = refl
 
 -- sector 40 of the mirror is read where the move reads, and its other place is where the move goes
-pub row_moving : places (example 0) 0 168 ≡ Some (record { primary = at 0 (2048 + 2 * 64 + 40); others = at 1 (4096 + 9 * 64 + 40) ∷ []; mirror = Some (record { lv = 3; segment = 0; region = 1 }) })
+pub row_moving : places (example 0) 0 168
+    ≡ Some (record { primary = at 0 (2048 + 2 * 64 + 40); others = at 1 (4096 + 9 * 64 + 40) ∷ [];
+    mirror = Some (record { lv = 3; segment = 0; region = 1 }) })
 unfolding places primary met leg_spot deciding
 row_moving = refl
 
@@ -125,7 +129,9 @@ unfolding places primary met leg_spot deciding
 row_moved = refl
 
 -- the other leg of a mirror is followed down as it is read
-row_mirrored : places mirrored 0 45 ≡ Some (record { primary = at 0 (2048 + 7 * 64 + 45); others = at 1 (4096 + 5 * 64 + 16 + 5) ∷ []; mirror = Some (record { lv = 0; segment = 0; region = 1 }) })
+row_mirrored : places mirrored 0 45 ≡ Some
+    (record { primary = at 0 (2048 + 7 * 64 + 45); others = at 1 (4096 + 5 * 64 + 16 + 5) ∷ [];
+    mirror = Some (record { lv = 0; segment = 0; region = 1 }) })
 unfolding places primary met leg_spot deciding
 row_mirrored = refl
 

@@ -23,7 +23,8 @@ use Rattle.volume_view.proofs.Stripes.{same_stripe, within_leg}
 use Rattle.volume_view.proofs.MetSegments.{all_at, Meets, meets_is, ByLeg, by_leg}
 
 -- it lies within the leg
-pub within_share : (extent count : ℕ) (kind : SegKind) (l : ℕ) → IsWholeStriped extent count kind → l < count * extent → offset_in kind l < leg_share count kind * extent
+pub within_share : (extent count : ℕ) (kind : SegKind) (l : ℕ) → IsWholeStriped extent count kind → l < count * extent
+    → offset_in kind l < leg_share count kind * extent
 within_share extent count (Striped stripe legs) l whole lt =
     within_leg stripe (length legs) count extent l whole.0 whole.2 (λ more. let h = whole.3 more in (h.1, h.2)) lt
 within_share extent count (Mirror region moved legs) l whole lt = lt
@@ -37,25 +38,31 @@ pub record InRun (group : Group) (lv segment leg : ℕ) (spot : Spot) : Type 0 w
   pub same_leg : run.leg ≡ leg
   pub inside : IsInRun spot.on (spot.sector / group.extent_size) run
 
-extent_inside : (extent first count offset sector : ℕ) → 0 < extent → first * extent + offset ≡ sector → offset < count * extent → (first ≤ sector / extent) × (sector / extent < first + count)
+extent_inside : (extent first count offset sector : ℕ) → 0 < extent → first * extent + offset ≡ sector → offset < count * extent
+    → (first ≤ sector / extent) × (sector / extent < first + count)
 extent_inside extent first count offset sector some at lt =
     (le-div first sector extent some (omega arith), div_below sector extent (first + count) some (omega arith))
 
 -- each spot below lies in such a run
-pub in_run : (group : Group) (lv sector segment leg : ℕ) (spot : Spot) → IsAccepted group → StandsAt group lv sector segment leg spot → InRun group lv segment leg spot
+pub in_run : (group : Group) (lv sector segment leg : ℕ) (spot : Spot) → IsAccepted group → StandsAt group lv sector segment leg spot
+    → InRun group lv segment leg spot
 in_run group lv sector segment leg spot accepted stands =
     let m : Met = stands.in_segment in
     let meets : Meets group lv sector m = meets_is group lv sector m stands.meets in
     let by : ByLeg group m leg spot = by_leg group m leg spot stands.there in
     let whole : IsWholeStriped group.extent_size m.segment.count m.segment.kind =
     all_at (λ (s : Segment). IsWholeStriped group.extent_size s.count s.kind) meets.volume.1.segments m.number m.segment
-    (all_at (λ (v : List ℕ × Lv). All (λ s. IsWholeStriped group.extent_size s.count s.kind) v.1.segments) group.lvs lv meets.volume (accepted Stripes) meets.is_volume)
+    (all_at (λ (v : List ℕ × Lv). All (λ s. IsWholeStriped group.extent_size s.count s.kind) v.1.segments) group.lvs lv meets.volume
+        (accepted Stripes) meets.is_volume)
     meets.is_segment in
-    let short : offset_in m.segment.kind m.at < leg_share m.segment.count m.segment.kind * group.extent_size = within_share _ _ _ _ whole meets.within in
+    let short : offset_in m.segment.kind m.at < leg_share m.segment.count m.segment.kind * group.extent_size =
+        within_share _ _ _ _ whole meets.within in
     let some : 0 < group.extent_size = omega (arith, (accepted Numbers).extent_size.0) in
     let r = run_of group lv meets.volume m.number m.segment leg by.it meets.is_volume meets.is_segment by.is_leg in
-    let place : (by.it.first ≤ spot.sector / group.extent_size) × (spot.sector / group.extent_size < by.it.first + leg_share m.segment.count m.segment.kind) =
-    extent_inside group.extent_size by.it.first (leg_share m.segment.count m.segment.kind) (offset_in m.segment.kind m.at) spot.sector some by.at short in
+    let place : (by.it.first ≤ spot.sector / group.extent_size)
+        × (spot.sector / group.extent_size < by.it.first + leg_share m.segment.count m.segment.kind) =
+    extent_inside group.extent_size by.it.first (leg_share m.segment.count m.segment.kind) (offset_in m.segment.kind m.at) spot.sector some
+        by.at short in
     let low : by.it.first ≤ spot.sector / group.extent_size = place.0 in
     let high : spot.sector / group.extent_size < by.it.first + leg_share m.segment.count m.segment.kind = place.1 in
     record {
@@ -68,7 +75,8 @@ in_run group lv sector segment leg spot accepted stands =
     }
 
 -- two runs with an extent in both are one
-one_run : (group : Group) (a b : LegRun) (on : On) (extent : ℕ) → IsAccepted group → Contains (runs_of group) a → Contains (runs_of group) b → IsInRun on extent a → IsInRun on extent b → a ≡ b
+one_run : (group : Group) (a b : LegRun) (on : On) (extent : ℕ) → IsAccepted group → Contains (runs_of group) a → Contains (runs_of group) b
+    → IsInRun on extent a → IsInRun on extent b → a ≡ b
 one_run group a b on extent accepted in_a in_b here there =
     elim (related_or_same LieApart (runs_of group) a b (accepted Apart) in_a in_b) [
       | inl same ↦ same
@@ -80,7 +88,8 @@ one_run group a b on extent accepted in_a in_b here there =
     ]
 
 -- of one kind: the same leg and the same place there is the same sector of the segment
-same_at : (extent count : ℕ) (kind : SegKind) (leg l l' : ℕ) → IsWholeStriped extent count kind → HasSectorInLeg kind l leg → HasSectorInLeg kind l' leg → offset_in kind l ≡ offset_in kind l' → l ≡ l'
+same_at : (extent count : ℕ) (kind : SegKind) (leg l l' : ℕ) → IsWholeStriped extent count kind → HasSectorInLeg kind l leg
+    → HasSectorInLeg kind l' leg → offset_in kind l ≡ offset_in kind l' → l ≡ l'
 same_at extent count (Mirror region moved legs) leg l l' whole has has' at = at
 same_at extent count (Striped stripe legs) leg l l' whole has has' at =
     elim (cases_eq (length legs) 1) [
@@ -100,12 +109,14 @@ pub record SameAbove (lv lv' sector sector' segment segment' leg leg' : ℕ) : T
   pub leg_is : leg ≡ leg'
 
 -- a spot below is that of one sector, by one leg
-pub one_above : (group : Group) (lv lv' sector sector' segment segment' leg leg' : ℕ) (spot : Spot) → IsAccepted group → StandsAt group lv sector segment leg spot → StandsAt group lv' sector' segment' leg' spot
+pub one_above : (group : Group) (lv lv' sector sector' segment segment' leg leg' : ℕ) (spot : Spot) → IsAccepted group
+    → StandsAt group lv sector segment leg spot → StandsAt group lv' sector' segment' leg' spot
     → SameAbove lv lv' sector sector' segment segment' leg leg'
 one_above group lv lv' sector sector' segment segment' leg leg' spot accepted here there =
     let a : InRun group lv segment leg spot = in_run group lv sector segment leg spot accepted here in
     let b : InRun group lv' segment' leg' spot = in_run group lv' sector' segment' leg' spot accepted there in
-    let run : a.run ≡ b.run = one_run group a.run b.run spot.on (spot.sector / group.extent_size) accepted a.contained b.contained a.inside b.inside in
+    let run : a.run ≡ b.run =
+        one_run group a.run b.run spot.on (spot.sector / group.extent_size) accepted a.contained b.contained a.inside b.inside in
     let lvs : lv ≡ lv' = sym a.same_lv ∙ ap (λ (r : LegRun). r.lv) run ∙ b.same_lv in
     let segments : segment ≡ segment' = sym a.same_segment ∙ ap (λ (r : LegRun). r.segment) run ∙ b.same_segment in
     let legs : leg ≡ leg' = sym a.same_leg ∙ ap (λ (r : LegRun). r.leg) run ∙ b.same_leg in
@@ -117,23 +128,27 @@ one_above group lv lv' sector sector' segment segment' leg leg' spot accepted he
     let number : m.number ≡ n.number = here.number ∙ segments ∙ sym there.number in
     let same : m.segment ≡ n.segment =
     same_Some _ _
-    (sym ma.is_segment ∙ ap (λ (v : List ℕ × Lv). slice_get v.1.segments m.number) volume ∙ ap (λ (k : ℕ). slice_get mb.volume.1.segments k) number ∙ mb.is_segment) in
+    (sym ma.is_segment ∙ ap (λ (v : List ℕ × Lv). slice_get v.1.segments m.number) volume
+        ∙ ap (λ (k : ℕ). slice_get mb.volume.1.segments k) number ∙ mb.is_segment) in
     let by : ByLeg group m leg spot = by_leg group m leg spot here.there in
     let by' : ByLeg group n leg' spot = by_leg group n leg' spot there.there in
     let it : by.it ≡ by'.it =
-    same_Some _ _ (sym by.is_leg ∙ ap (λ (s : Segment). slice_get (legs_of s.kind) leg) same ∙ ap (λ (j : ℕ). slice_get (legs_of n.segment.kind) j) legs ∙ by'.is_leg) in
+    same_Some _ _ (sym by.is_leg ∙ ap (λ (s : Segment). slice_get (legs_of s.kind) leg) same
+        ∙ ap (λ (j : ℕ). slice_get (legs_of n.segment.kind) j) legs ∙ by'.is_leg) in
     let first : by.it.first * group.extent_size ≡ by'.it.first * group.extent_size = ap (λ (l : Leg). l.first * group.extent_size) it in
     let offsets : offset_in m.segment.kind m.at ≡ offset_in n.segment.kind n.at = omega (arith, by.at, by'.at) in
     let whole : IsWholeStriped group.extent_size n.segment.count n.segment.kind =
     all_at (λ (s : Segment). IsWholeStriped group.extent_size s.count s.kind) mb.volume.1.segments n.number n.segment
-    (all_at (λ (v : List ℕ × Lv). All (λ s. IsWholeStriped group.extent_size s.count s.kind) v.1.segments) group.lvs lv' mb.volume (accepted Stripes) mb.is_volume)
+    (all_at (λ (v : List ℕ × Lv). All (λ s. IsWholeStriped group.extent_size s.count s.kind) v.1.segments) group.lvs lv' mb.volume
+        (accepted Stripes) mb.is_volume)
     mb.is_segment in
     let ats : m.at ≡ n.at =
     same_at group.extent_size n.segment.count n.segment.kind leg' m.at n.at whole
     (subst (λ (s : Segment). HasSectorInLeg s.kind m.at leg') same (subst (HasSectorInLeg m.segment.kind m.at) legs here.in_leg))
     there.in_leg
     (ap (λ (s : Segment). offset_in s.kind m.at) (sym same) ∙ offsets) in
-    let start : m.segment.start * group.extent_size ≡ n.segment.start * group.extent_size = ap (λ (s : Segment). s.start * group.extent_size) same in
+    let start : m.segment.start * group.extent_size ≡ n.segment.start * group.extent_size =
+        ap (λ (s : Segment). s.start * group.extent_size) same in
     record {
       lv_is = lvs;
       sector_is = omega (arith, ma.at, mb.at);

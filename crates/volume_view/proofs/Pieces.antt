@@ -1,12 +1,14 @@
 -- Sectors between two multiples of 8 lie in one segment, one stripe and one region.
-use Rattle.std.proofs.Common.{◌≡◌, ℕ, zero, suc, ◌+◌, ◌*◌, ◌/◌, ◌%◌, ◌^◌, ◌<◌, ◌≤◌, Bool, true, false, ◌&&◌, cond, nat_le, nat_lt, List, [], ◌∷◌, length, Option, Some, None, inl, inr, refl, sym, ap, ◌∙◌, arith}
+use Rattle.std.proofs.Common.{◌≡◌, ℕ, zero, suc, ◌+◌, ◌*◌, ◌/◌, ◌%◌, ◌^◌, ◌<◌, ◌≤◌, Bool, true, false, ◌&&◌, cond, nat_le, nat_lt, List, [],
+    ◌∷◌, length, Option, Some, None, inl, inr, refl, sym, ap, ◌∙◌, arith}
 use Rattle.std.proofs.lemmas.Nat.{div-add-mod', pow-add}
 use Rattle.std.proofs.lemmas.Bool.{cases_eq, leb-true, le-leb, ltb-true, lt-ltb}
 use Rattle.meta_model.specs.declared.segment.Segment.{Segment}
 use Rattle.meta_model.specs.declared.segment.SegKind.{SegKind}
 use Rattle.meta_model.specs.declared.segment.SegKind.TheVariants.{Striped, Mirror}
 use Rattle.volume_rules.specs.Rules.{IsPowerOfTwo, IsWholeStriped, IsWholeMirror}
-use Rattle.volume_view.specs.InSegments.{segment_from, has_sector, offset_in, primary_leg, stripe_leg, stripe_offset, is_finished, region_of}
+use Rattle.volume_view.specs.InSegments.{segment_from, has_sector, offset_in, primary_leg, stripe_leg, stripe_offset, is_finished,
+    region_of}
 use Rattle.volume_view.proofs.Stripes.{more_leg, more_offset}
 
 same_bool : (b c : Bool) → (b ≡ true → c ≡ true) → (c ≡ true → b ≡ true) → b ≡ c
@@ -35,7 +37,8 @@ same_lt a n x y whole same =
     (λ t. let h : y < a * n = ltb-true y (a * n) t in lt-ltb x (a * n) (omega arith))
 
 -- both are found in the same segment
-pub same_found : (extent x y number : ℕ) (segments : List Segment) → extent % 8 ≡ 0 → x / 8 ≡ y / 8 → segment_from extent x number segments ≡ segment_from extent y number segments
+pub same_found : (extent x y number : ℕ) (segments : List Segment) → extent % 8 ≡ 0 → x / 8 ≡ y / 8
+    → segment_from extent x number segments ≡ segment_from extent y number segments
 same_found extent x y number [] whole same = refl
 same_found extent x y number (s ∷ segments) whole same =
     let test : has_sector extent x s ≡ has_sector extent y s =
@@ -56,7 +59,8 @@ whole_power n (suc (suc (suc k)), is) big = let e : 2 ^ (3 + k) ≡ 2 ^ 3 * 2 ^ 
 same_quotient : (s x y : ℕ) → 0 < s → s % 8 ≡ 0 → x / 8 ≡ y / 8 → x / s ≡ y / s
 same_quotient s x y some whole same =
     let e : s ≡ 8 * (s / 8) = omega arith in
-    ap (λ (n : ℕ). x / n) e ∙ sym (Rattle.std.proofs.Math.Nat.div-div-eq-div-mul x 8 (s / 8)) ∙ ap (λ (n : ℕ). n / (s / 8)) same ∙ Rattle.std.proofs.Math.Nat.div-div-eq-div-mul y 8 (s / 8) ∙ ap (λ (n : ℕ). y / n) (sym e)
+    ap (λ (n : ℕ). x / n) e ∙ sym (Rattle.std.proofs.Math.Nat.div-div-eq-div-mul x 8 (s / 8)) ∙ ap (λ (n : ℕ). n / (s / 8)) same
+        ∙ Rattle.std.proofs.Math.Nat.div-div-eq-div-mul y 8 (s / 8) ∙ ap (λ (n : ℕ). y / n) (sym e)
 
 -- one stripe: the same leg, and side by side in it
 pub record SameLeg (count : ℕ) (kind : SegKind) (l l' : ℕ) : Type 0 where
@@ -66,7 +70,8 @@ pub record SameLeg (count : ℕ) (kind : SegKind) (l l' : ℕ) : Type 0 where
   pub region : region_of count kind l ≡ region_of count kind l'
 
 stripes_near : (s n l l' : ℕ) → 8 ≤ s → s % 8 ≡ 0 → (n ≡ 1 → ⊥) → l / 8 ≡ l' / 8
-    → (stripe_leg s n l ≡ stripe_leg s n l') × (stripe_offset s n l / 8 ≡ stripe_offset s n l' / 8) × (stripe_offset s n l + l' ≡ stripe_offset s n l' + l)
+    → (stripe_leg s n l ≡ stripe_leg s n l') × (stripe_offset s n l / 8 ≡ stripe_offset s n l' / 8)
+    × (stripe_offset s n l + l' ≡ stripe_offset s n l' + l)
 stripes_near s n l l' big whole more same =
     let quotient : l / s ≡ l' / s = same_quotient s l l' (omega arith) whole same in
     let row : ℕ = l' / s / n in
@@ -82,7 +87,8 @@ stripes_near s n l l' big whole more same =
     (leg, omega arith, omega arith)
 
 -- sectors between two multiples of 8 are read from one leg, in one stripe and region
-pub same_leg : (extent count : ℕ) (kind : SegKind) (l l' : ℕ) → IsWholeStriped extent count kind → IsWholeMirror kind → l / 8 ≡ l' / 8 → SameLeg count kind l l'
+pub same_leg : (extent count : ℕ) (kind : SegKind) (l l' : ℕ) → IsWholeStriped extent count kind → IsWholeMirror kind → l / 8 ≡ l' / 8
+    → SameLeg count kind l l'
 same_leg extent count (Striped stripe legs) l l' whole mirror same =
     elim (cases_eq (length legs) 1) [
       | inl one ↦

@@ -12,14 +12,16 @@ use Rattle.volume_view.proofs.CopiesApart.{IsFree, copies_apart}
 use Rattle.volume_view.proofs.GoingDown.{down_has_copy}
 
 -- a visible volume lies in no leg
-pub visible_is_free : (group : Group) (lv sector : ℕ) (volume : Lv) → IsAccepted group → IsLv group lv volume → IsTrue volume.status.visible → IsFree group (sector_of lv sector)
+pub visible_is_free : (group : Group) (lv sector : ℕ) (volume : Lv) → IsAccepted group → IsLv group lv volume → IsTrue volume.status.visible
+    → IsFree group (sector_of lv sector)
 visible_is_free group lv sector volume accepted is visible used =
     let run = used.0 in
     let hidden : IsFalse volume.status.visible = (accepted Depth).hidden run.lv lv volume (run, used.1, refl, used.2.0) is in
     grind arith
 
 -- two sectors of volumes that lie in no leg never share a primary place
-pub primaries_apart : (group : Group) (lv lv' sector sector' : ℕ) (at : At) → IsAccepted group → IsFree group (sector_of lv sector) → IsFree group (sector_of lv' sector')
+pub primaries_apart : (group : Group) (lv lv' sector sector' : ℕ) (at : At) → IsAccepted group → IsFree group (sector_of lv sector)
+    → IsFree group (sector_of lv' sector')
     → primary group lv sector ≡ Some at → primary group lv' sector' ≡ Some at → sector_of lv sector ≡ sector_of lv' sector'
 unfolding primary
 primaries_apart group lv lv' sector sector' at accepted free free' here there =

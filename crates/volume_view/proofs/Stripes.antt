@@ -21,7 +21,8 @@ back s n l o j sp np at leg =
     sym (ap (λ (x : ℕ). x * s + o % s) row ∙ ap (λ (x : ℕ). l / s * s + x) rest ∙ div-add-mod' l s)
 
 -- sectors in one leg and as far into it are one
-pub same_stripe : (s n l l' : ℕ) → 0 < s → 0 < n → stripe_offset s n l ≡ stripe_offset s n l' → stripe_leg s n l ≡ stripe_leg s n l' → l ≡ l'
+pub same_stripe : (s n l l' : ℕ) → 0 < s → 0 < n → stripe_offset s n l ≡ stripe_offset s n l' → stripe_leg s n l ≡ stripe_leg s n l'
+    → l ≡ l'
 same_stripe s n l l' sp np at leg =
     elim (cases_eq n 1) [
       | inl one ↦
@@ -42,20 +43,24 @@ within s n q t l sp np lt =
     omega arith
 
 -- so is the place of any sector of the segment in its leg
-pub within_leg : (s n count extent l : ℕ) → 1 ≤ n → count % n ≡ 0 → (1 < n → (8 ≤ s) × (extent % s ≡ 0)) → l < count * extent → stripe_offset s n l < count / n * extent
+pub within_leg : (s n count extent l : ℕ) → 1 ≤ n → count % n ≡ 0 → (1 < n → (8 ≤ s) × (extent % s ≡ 0)) → l < count * extent
+    → stripe_offset s n l < count / n * extent
 within_leg s n count extent l some whole stripes lt =
     let count' : count / n * n ≡ count = omega (arith, div-add-mod' count n) in
     elim (cases_eq n 1) [
       | inl one ↦
           let e : stripe_offset s n l ≡ l = ap (λ (k : ℕ). stripe_offset s k l) one in
-          let c : count / n ≡ count = sym (Rattle.std.proofs.Math.Nat.mul-one (count / n)) ∙ ap (λ (k : ℕ). count / n * k) (sym one) ∙ count' in
+          let c : count / n ≡ count =
+              sym (Rattle.std.proofs.Math.Nat.mul-one (count / n)) ∙ ap (λ (k : ℕ). count / n * k) (sym one) ∙ count' in
           subst (λ (x : ℕ). x < count / n * extent) (sym e) (subst (λ (x : ℕ). l < x * extent) (sym c) lt)
       | inr more ↦
           let h : (8 ≤ s) × (extent % s ≡ 0) = stripes (omega arith) in
           let h0 : 8 ≤ s = h.0 in
           let h1 : extent % s ≡ 0 = h.1 in
           let extent' : extent / s * s ≡ extent = omega (arith, div-add-mod' extent s) in
-          let lt' : l < count / n * n * (extent / s * s) = subst (λ (x : ℕ). l < x * (extent / s * s)) (sym count') (subst (λ (x : ℕ). l < count * x) (sym extent') lt) in
+          let lt' : l < count / n * n * (extent / s * s) =
+              subst (λ (x : ℕ). l < x * (extent / s * s)) (sym count') (subst (λ (x : ℕ). l < count * x) (sym extent') lt) in
           subst (λ (x : ℕ). x < count / n * extent) (sym (more_offset s n l more))
-          (subst (λ (x : ℕ). l / s / n * s + l % s < count / n * x) extent' (within s n (count / n) (extent / s) l (omega arith) (omega arith) lt'))
+          (subst (λ (x : ℕ). l / s / n * s + l % s < count / n * x) extent'
+              (within s n (count / n) (extent / s) l (omega arith) (omega arith) lt'))
     ]

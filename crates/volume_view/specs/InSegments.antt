@@ -1,6 +1,7 @@
 -- Where a sector of a logical volume stands in one of its segments and in the legs of that, as lvm2's targets linear,
 -- striped and mirror have it.
-use Rattle.std.specs.Prelude.{◌≡◌, ℕ, ◌+◌, ◌-◌, ◌*◌, ◌/◌, ◌%◌, Bool, true, false, ◌&&◌, ◌==◌, nat_le, nat_lt, if◌then◌else◌, Option, None, Some, List, [], ◌∷◌, length, slice_get, option_map}
+use Rattle.std.specs.Prelude.{◌≡◌, ℕ, ◌+◌, ◌-◌, ◌*◌, ◌/◌, ◌%◌, Bool, true, false, ◌&&◌, ◌==◌, nat_le, nat_lt, if◌then◌else◌, Option, None,
+    Some, List, [], ◌∷◌, length, slice_get, option_map}
 use Rattle.std.specs.Option.{option_and_then}
 use Rattle.meta_model.specs.declared.group.Group.{Group}
 use Rattle.meta_model.specs.declared.lv.Lv.{Lv}
@@ -25,7 +26,8 @@ pub record Met : Type 0 where
 
 -- whether the sector of the volume stands in the segment
 abbrev pub has_sector : ℕ → ℕ → Segment → Bool
-has_sector extent_size sector segment = nat_le (segment.start * extent_size) sector && nat_lt sector ((segment.start + segment.count) * extent_size)
+has_sector extent_size sector segment =
+    nat_le (segment.start * extent_size) sector && nat_lt sector ((segment.start + segment.count) * extent_size)
 
 -- the first of these segments, numbered from here on, that has the sector
 abbrev pub segment_from : ℕ → ℕ → ℕ → List Segment → Option (ℕ × Segment)
@@ -72,7 +74,8 @@ spot_in extent_size offset leg = record { on = leg.on; sector = leg.first * exte
 
 -- where the leg of the segment with this number has the sector
 unfoldable pub leg_spot : ℕ → Met → ℕ → Option Spot
-leg_spot extent_size met leg = option_map (spot_in extent_size (offset_in met.segment.kind met.at)) (slice_get (legs_of met.segment.kind) leg)
+leg_spot extent_size met leg =
+    option_map (spot_in extent_size (offset_in met.segment.kind met.at)) (slice_get (legs_of met.segment.kind) leg)
 
 -- where the leg that is read has it
 abbrev pub primary_spot : ℕ → Met → Option Spot

@@ -17,7 +17,8 @@ at_place image disk_of at = image (slice_index disk_of at.pv) at.sector
 
 -- different physical volumes of the group are on different disks
 abbrev pub DisksDiffer : Group → List ℕ → Type 0
-DisksDiffer group disk_of = (pv other : ℕ) → pv < length group.pvs → other < length group.pvs → slice_index disk_of pv ≡ slice_index disk_of other → pv ≡ other
+DisksDiffer group disk_of =
+    (pv other : ℕ) → pv < length group.pvs → other < length group.pvs → slice_index disk_of pv ≡ slice_index disk_of other → pv ≡ other
 
 -- what a sector of a volume holds
 unfoldable pub content : Image → Group → List ℕ → ℕ → ℕ → List ℕ

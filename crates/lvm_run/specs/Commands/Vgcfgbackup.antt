@@ -17,7 +17,8 @@ use Rattle.lvm_run.specs.Scan.{FindsWhole}
 
 -- no group is in force that has the name
 abbrev pub unknown_group : Option Group → Word → Option OpRefusal
-unknown_group group vg = if option_map_or (λ (group : Group). pointwise nat_eq group.name vg) group false then None else Some (UnknownGroup vg)
+unknown_group group vg =
+    if option_map_or (λ (group : Group). pointwise nat_eq group.name vg) group false then None else Some (UnknownGroup vg)
 
 -- it scans the disks, and prints the backup of the group in force, which is whole, at the time of the run
 abbrev pub vgcfgbackup : Word → CommandSpec
@@ -37,5 +38,7 @@ vgcfgbackup vg = record {
   finds = λ context found given image. ⊥;
   clearing = λ context found given base image. ⊥;
   cleared = λ context found given image. ⊥;
-  reports = λ context found image text. (group : Group) × (group_in found ≡ Some group) × HasTree group × (text ≡ printed (backup_of group context.now));
+  reports =
+      λ context found image text. (group : Group) × (group_in found ≡ Some group) × HasTree group
+          × (text ≡ printed (backup_of group context.now));
 }

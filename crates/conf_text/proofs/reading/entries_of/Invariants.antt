@@ -7,4 +7,5 @@ use Rattle.conf_text.proofs.reading.entries_of.Given as goal
 
 -- the reader stands behind what it read, and what is left gives the outcome of the whole
 abbrev pub invariant-loop-at : goal.invariant-loop-at
-invariant-loop-at l = Stands Any (take l.at l.text) (reader_view l.reader) × (outcome l.at (reader_view l.reader) (drop l.at l.text) ≡ reading l.text)
+invariant-loop-at l =
+    Stands Any (take l.at l.text) (reader_view l.reader) × (outcome l.at (reader_view l.reader) (drop l.at l.text) ≡ reading l.text)

@@ -15,10 +15,14 @@ loop-pv-preserved g c =
     let e = c.in_ok-flush.ensures in
     let f = e.carried_out in
     record {
-      told = subst (λ (well : Bool). BetweenRecords (FlushesAll (c.loop-pv.pv + 1) well) s0.told s2.told) f.2 (one_more_flushed s0.told s1 c.loop-pv.pv f.0 s2 c.loop-pv.invariant.told f.1);
+      told =
+          subst (λ (well : Bool). BetweenRecords (FlushesAll (c.loop-pv.pv + 1) well) s0.told s2.told) f.2
+              (one_more_flushed s0.told s1 c.loop-pv.pv f.0 s2 c.loop-pv.invariant.told f.1);
       again = again_both s0 s1 s2 c.loop-pv.invariant.again (again_spent s1 s2 1 0 e.spends);
       faults = same_faults_both s0 s1 s2 c.loop-pv.invariant.faults e.fault;
-      ops = let same : length s2.sizes ≡ length s1.sizes = ap (λ (l : List ℕ). length l) e.spends.sizes in omega (arith, same, e.spends.spare_ops, c.loop-pv.invariant.ops);
+      ops =
+          let same : length s2.sizes ≡ length s1.sizes = ap (λ (l : List ℕ). length l) e.spends.sizes in omega
+              (arith, same, e.spends.spare_ops, c.loop-pv.invariant.ops);
     }
 
 pub returns-in_err-flush-clause-told : goal.returns-in_err-flush-clause-told
@@ -30,4 +34,5 @@ returns-in_err-flush-clause-told g c =
     let p = err_from_is_err_and c.from_residual.result c.from_residual.ensures.1 in
     rw p.1
     (flushes_stopped (length s0.sizes) (c.loop-pv.pv + 1) s0.told s2.told
-    (subst (λ (well : Bool). BetweenRecords (FlushesAll (c.loop-pv.pv + 1) well) s0.told s2.told) f.2 (one_more_flushed s0.told s1 c.loop-pv.pv f.0 s2 c.loop-pv.invariant.told f.1)))
+    (subst (λ (well : Bool). BetweenRecords (FlushesAll (c.loop-pv.pv + 1) well) s0.told s2.told) f.2
+        (one_more_flushed s0.told s1 c.loop-pv.pv f.0 s2 c.loop-pv.invariant.told f.1)))

@@ -16,13 +16,17 @@ loop-rest-preserved g c =
     let so = c.loop-rest.invariant.submits in
     let puts = c.loop-rest.rest.items in
     let rest = c.submit_last.new.list.items in
-    let many : length puts ≡ length rest + 1 = omega (arith, ap (λ (l : List (Span × List (List ℕ))). length l) f.last, length-append rest (f.put ∷ [])) in
-    let sum : sum_by span_count puts ≡ sum_by span_count rest + span_count f.put = ap (λ (l : List (Span × List (List ℕ))). sum_by span_count l) f.last ∙ sum_last span_count rest f.put in
-    let tags : length c.submit_last.new.tags.items ≡ length c.loop-rest.tags.items + 1 = omega (arith, ap (λ (l : List ℕ). length l) f.behind, length-append c.loop-rest.tags.items (f.tag ∷ [])) in
+    let many : length puts ≡ length rest + 1 =
+        omega (arith, ap (λ (l : List (Span × List (List ℕ))). length l) f.last, length-append rest (f.put ∷ [])) in
+    let sum : sum_by span_count puts ≡ sum_by span_count rest + span_count f.put =
+        ap (λ (l : List (Span × List (List ℕ))). sum_by span_count l) f.last ∙ sum_last span_count rest f.put in
+    let tags : length c.submit_last.new.tags.items ≡ length c.loop-rest.tags.items + 1 =
+        omega (arith, ap (λ (l : List ℕ). length l) f.behind, length-append c.loop-rest.tags.items (f.tag ∷ [])) in
     record {
       submits = (
         so.0 ++ write_work f.put ∷ [],
-        subst (λ (l : List ℕ). SubmitsWorks (g.S.Shelf.state c.args.shelf.now) (so.0 ++ write_work f.put ∷ []) l (g.S.Shelf.state c.submit_last.new.shelf)) (sym f.behind)
+        subst (λ (l : List ℕ). SubmitsWorks (g.S.Shelf.state c.args.shelf.now) (so.0 ++ write_work f.put ∷ []) l
+            (g.S.Shelf.state c.submit_last.new.shelf)) (sym f.behind)
             (works_more _ _ _ _ _ (Write f.put.0 f.put.1) f.tag so.1 f.submits),
         map_last puts rest f.put so.0 _ f.last so.2,
       );
@@ -38,7 +42,8 @@ loop-rest-init g c =
     let old = g.S.Shelf.state c.args.shelf.now in
     let puts = c.args.list.items in
     let rest = c.reverse.new.self.items in
-    let many : length rest ≡ length puts = ap (λ (l : List (Span × List (List ℕ))). length l) c.reverse.ensures.items ∙ length-reverse puts in
+    let many : length rest ≡ length puts =
+        ap (λ (l : List (Span × List (List ℕ))). length l) c.reverse.ensures.items ∙ length-reverse puts in
     let sum : sum_by span_count rest ≡ sum_by span_count puts = sum_by-IsPermutation span_count puts rest c.reverse.ensures.permutation in
     let none : length c.args.tags.now.items ≡ 0 = ap (λ (l : List ℕ). length l) c.requires.empty in
     record {

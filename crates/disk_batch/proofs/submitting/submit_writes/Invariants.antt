@@ -7,7 +7,8 @@ use Rattle.disk_batch.proofs.submitting.submit_writes.Given as goal
 
 abbrev pub invariant-loop-rest : goal.invariant-loop-rest
 invariant-loop-rest g l = record {
-  submits : (works : List Work) × SubmitsWorks (g.S.Shelf.state l.fn.shelf) works l.tags.items (g.S.Shelf.state l.shelf) × (works ++ map write_work (reverse l.rest.items) ≡ map write_work l.fn.list.items);
+  submits : (works : List Work) × SubmitsWorks (g.S.Shelf.state l.fn.shelf) works l.tags.items (g.S.Shelf.state l.shelf)
+      × (works ++ map write_work (reverse l.rest.items) ≡ map write_work l.fn.list.items);
   lie : LieIn (g.S.Shelf.state l.shelf).sizes l.rest.items;
   ops : length l.rest.items ≤ (g.S.Shelf.state l.shelf).spare_ops;
   sectors : sum_by span_count l.rest.items ≤ (g.S.Shelf.state l.shelf).spare_sectors;

@@ -42,7 +42,8 @@ returns-in_err-push-clause-found g c =
     let i = c.loop-area.area-index in
     let so_far = area_spans pv (take i areas) in
     rw (p.1, p.2)
-    (until_wanting pv before after _ (area_spans pv (drop (i + 1) areas)) (area_spans pv areas) (spans_all pv areas i _ c.loop-area-test.true)
+    (until_wanting pv before after _ (area_spans pv (drop (i + 1) areas)) (area_spans pv areas)
+        (spans_all pv areas i _ c.loop-area-test.true)
     (well_both before there after so_far _ c.loop-area.invariant.0 c.in_ok-found.ensures.found.0))
 
 pub loop-area-preserved : goal.loop-area-preserved
@@ -59,12 +60,16 @@ loop-area-preserved g c =
     let was : ReadsWell before so_far there = c.loop-area.invariant.0 in
     let here : HoldsOfDisk before.told c.args.pv (λ sector_at. IsAreaFound sector_at found) =
     holds_before before.told there.told so_far pv (λ sector_at. IsAreaFound sector_at found) was.reads c.in_ok-found.ensures.found.2 in (
-      subst (λ (l : List Span). ReadsWell before l after) (sym (spans_more pv areas i _ c.loop-area-test.true)) (well_both before there after so_far _ was c.in_ok-found.ensures.found.0),
-      areas_more c.args.areas.now c.loop-area.area-index _ all c.push.new.self.items found c.loop-area-test.true c.loop-area.invariant.1 c.in_ok-found.ensures.found.1 c.in_ok-push.ensures.items,
-      holds_both before.told c.args.pv (λ sector_at. All (IsAreaFound sector_at) all) (λ sector_at. IsAreaFound sector_at found) (λ sector_at. All (IsAreaFound sector_at) c.push.new.self.items)
+      subst (λ (l : List Span). ReadsWell before l after) (sym (spans_more pv areas i _ c.loop-area-test.true))
+          (well_both before there after so_far _ was c.in_ok-found.ensures.found.0),
+      areas_more c.args.areas.now c.loop-area.area-index _ all c.push.new.self.items found c.loop-area-test.true c.loop-area.invariant.1
+          c.in_ok-found.ensures.found.1 c.in_ok-push.ensures.items,
+      holds_both before.told c.args.pv (λ sector_at. All (IsAreaFound sector_at) all) (λ sector_at. IsAreaFound sector_at found)
+          (λ sector_at. All (IsAreaFound sector_at) c.push.new.self.items)
           (λ sector_at each is. all_more sector_at all c.push.new.self.items found c.in_ok-push.ensures.items each is)
           c.loop-area.invariant.2 here,
-      subst (λ (l : List AreaFound). All HasTextInside l) (sym c.in_ok-push.ensures.items) (All-push HasTextInside all found c.loop-area.invariant.3 c.in_ok-found.ensures.inside),
+      subst (λ (l : List AreaFound). All HasTextInside l) (sym c.in_ok-push.ensures.items)
+          (All-push HasTextInside all found c.loop-area.invariant.3 c.in_ok-found.ensures.inside),
     )
 
 pub returns-clause-found : goal.returns-clause-found
@@ -72,8 +77,11 @@ returns-clause-found g c =
     let areas = c.args.areas.now in
     let all = c.loop-area.list.items in
     let order = c.loop-area.invariant.1 ∙ take_all c.loop-area.area-index areas c.loop-area-test.false in (
-      subst (λ (l : List Extent). ReadsWell (g.S.Shelf.state c.args.shelf.now) (area_spans c.args.pv l) (g.S.Shelf.state c.loop-area.shelf)) (take_all c.loop-area.area-index areas c.loop-area-test.false) c.loop-area.invariant.0,
-      holds_weaker (g.S.Shelf.state c.args.shelf.now).told c.args.pv (λ sector_at. All (IsAreaFound sector_at) all) (λ sector_at. AreAreasFound sector_at areas c.from_vec.result)
-          (λ sector_at each. subst (λ (l : List AreaFound). AreAreasFound sector_at areas l) (sym c.from_vec.ensures) (record { in_order = order; each = each }))
+      subst (λ (l : List Extent). ReadsWell (g.S.Shelf.state c.args.shelf.now) (area_spans c.args.pv l) (g.S.Shelf.state c.loop-area.shelf))
+          (take_all c.loop-area.area-index areas c.loop-area-test.false) c.loop-area.invariant.0,
+      holds_weaker (g.S.Shelf.state c.args.shelf.now).told c.args.pv (λ sector_at. All (IsAreaFound sector_at) all)
+          (λ sector_at. AreAreasFound sector_at areas c.from_vec.result)
+          (λ sector_at each. subst (λ (l : List AreaFound). AreAreasFound sector_at areas l) (sym c.from_vec.ensures)
+              (record { in_order = order; each = each }))
           c.loop-area.invariant.2,
     )

@@ -16,9 +16,11 @@ returns g c =
     let sectors = c.in_ok-read_span.field-0 in
     let reserved : ReadsWell before [] ready = well_reserved before ready _ _ c.in_ok-reserve.ensures.ok c.requires.idle in
     let done = c.in_ok-read_span.ensures.carried_out in (
-      well_both before ready after [] (span ∷ []) reserved (well_read ready after span _ done.0 done.1 c.in_ok-read_span.ensures.reads c.in_ok-read_span.ensures.fault),
+      well_both before ready after [] (span ∷ []) reserved
+          (well_read ready after span _ done.0 done.1 c.in_ok-read_span.ensures.reads c.in_ok-read_span.ensures.fault),
       c.in_ok-read_span.ensures.len,
-      holds_before before.told ready.told [] span.pv (λ sector_at. (k : ℕ) → k < span.count → slice_index_or sectors k [] ≡ sector_at (span.first + k)) reserved.reads
+      holds_before before.told ready.told [] span.pv
+          (λ sector_at. (k : ℕ) → k < span.count → slice_index_or sectors k [] ≡ sector_at (span.first + k)) reserved.reads
           (read_holds ready.told span sectors c.in_ok-read_span.ensures.read),
     )
 
@@ -30,5 +32,6 @@ returns-in_err-read_span g c =
     let p = err_from_is_err_and c.from_residual-in_err-read_span.result c.from_residual-in_err-read_span.ensures.1 in
     let failed = c.in_err-read_span.ensures in
     rw (p.1, p.2)
-    (until_after c.args.span.pv before ready after [] (c.args.span ∷ []) (ReadFailed c.in_err-read_span.field-0.0) (well_reserved before ready _ _ c.in_ok-reserve.ensures.ok c.requires.idle)
+    (until_after c.args.span.pv before ready after [] (c.args.span ∷ []) (ReadFailed c.in_err-read_span.field-0.0)
+        (well_reserved before ready _ _ c.in_ok-reserve.ensures.ok c.requires.idle)
     (until_read ready after c.args.span c.in_err-read_span.field-0.0 failed.reads failed.spends failed.fault))

@@ -4,4 +4,6 @@ use Rattle.extent_map.specs.Covered.{is_in, leg_on}
 use Rattle.extent_map.proofs.used_extents.legs_have.Given as goal
 
 abbrev pub invariant-loop-leg : goal.invariant-loop-leg
-invariant-loop-leg l = list_any (is_in l.extent) (flat_map (leg_on l.pv l.share) l.legs) ≡ list_any (is_in l.extent) (flat_map (leg_on l.pv l.share) (drop l.leg-index l.legs))
+invariant-loop-leg l =
+    list_any (is_in l.extent) (flat_map (leg_on l.pv l.share) l.legs)
+        ≡ list_any (is_in l.extent) (flat_map (leg_on l.pv l.share) (drop l.leg-index l.legs))

@@ -8,7 +8,9 @@ use Rattle.group_edits.proofs.finding.find_visible.Goals.{else-lv-via-then-lv+el
 pub returns-then-is_volume-clause-found : goal.returns-then-is_volume-clause-found
 unfolding visible_named
 returns-then-is_volume-clause-found c =
-    sym (ap (option_map (λ (v : ℕ × Lv). v.0)) (sym c.loop-number.invariant ∙ found_here c.args.name.now c.args.group.now.lvs c.loop-number.number _ c.get.ensures c.if-lv.true (sym c.is_volume.ensures ∙ c.if-is_volume.true)))
+    sym (ap (option_map (λ (v : ℕ × Lv). v.0))
+        (sym c.loop-number.invariant ∙ found_here c.args.name.now c.args.group.now.lvs c.loop-number.number _ c.get.ensures c.if-lv.true
+        (sym c.is_volume.ensures ∙ c.if-is_volume.true)))
 
 pub returns-then-is_volume-clause-visible : goal.returns-then-is_volume-clause-visible
 returns-then-is_volume-clause-visible c = is_seen c.args.group.now c.loop-number.number _ c.get.ensures c.if-lv.true
@@ -16,6 +18,9 @@ returns-then-is_volume-clause-visible c = is_seen c.args.group.now c.loop-number
 pub loop-number-preserved : goal.loop-number-preserved
 loop-number-preserved c =
     elim c.else-lv.branch [
-      | else-lv-via-then-lv+else-is_volume w ↦ sym (past_other c.args.name.now c.args.group.now.lvs c.loop-number.number _ c.get.ensures (sym w.is_volume.ensures ∙ w.if-is_volume.false)) ∙ c.loop-number.invariant
-      | else-lv-via-else-lv w ↦ sym (past_hidden c.args.name.now c.args.group.now.lvs c.loop-number.number _ c.get.ensures w.if-lv.false) ∙ c.loop-number.invariant
+      | else-lv-via-then-lv+else-is_volume w ↦ sym
+          (past_other c.args.name.now c.args.group.now.lvs c.loop-number.number _ c.get.ensures
+          (sym w.is_volume.ensures ∙ w.if-is_volume.false)) ∙ c.loop-number.invariant
+      | else-lv-via-else-lv w ↦ sym (past_hidden c.args.name.now c.args.group.now.lvs c.loop-number.number _ c.get.ensures w.if-lv.false)
+          ∙ c.loop-number.invariant
     ]

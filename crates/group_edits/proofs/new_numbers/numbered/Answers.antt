@@ -11,8 +11,10 @@ loop-lv-init c = ((refl, omega arith), filled_first c.args.goes.now _ refl)
 pub loop-lv-preserved : goal.loop-lv-preserved
 loop-lv-preserved c = (
   elim c.if-not-is_marked.branch [
-    | then-not-is_marked w ↦ count_more c.args.goes.now c.loop-lv.lv c.loop-lv.number c.if-not-is_marked.number c.loop-lv.invariant.0 (ap not (sym c.is_marked.ensures ∙ w.if-not-is_marked.true)) w.number-is
-    | else-not-is_marked w ↦ count_same c.args.goes.now c.loop-lv.lv c.loop-lv.number c.if-not-is_marked.number c.loop-lv.invariant.0 (ap not (sym c.is_marked.ensures ∙ w.if-not-is_marked.false)) w.number-is
+    | then-not-is_marked w ↦ count_more c.args.goes.now c.loop-lv.lv c.loop-lv.number c.if-not-is_marked.number c.loop-lv.invariant.0
+        (ap not (sym c.is_marked.ensures ∙ w.if-not-is_marked.true)) w.number-is
+    | else-not-is_marked w ↦ count_same c.args.goes.now c.loop-lv.lv c.loop-lv.number c.if-not-is_marked.number c.loop-lv.invariant.0
+        (ap not (sym c.is_marked.ensures ∙ w.if-not-is_marked.false)) w.number-is
   ],
   filled_step c.args.goes.now c.loop-lv.table c.loop-lv.lv c.loop-lv.number c.loop-lv.invariant.1 (omega arith) c.loop-lv.invariant.0.0,
 )

@@ -15,6 +15,7 @@ below-held-requires c = (c.requires Volumes).lvs
 pub loop-round-preserved : goal.loop-round-preserved
 loop-round-preserved c = (
   λ lv below. c.next-goes-in-loop-round.ensures.told lv below
-      ∙ next_round c.args.group.now c.args.removed c.loop-round._round _ c.loop-round.goes c.below-named.result c.below-held.result refl (c.requires Volumes).lvs c.loop-round.invariant.0 lv (c.below-named.ensures lv below) (c.below-held.ensures lv below),
+      ∙ next_round c.args.group.now c.args.removed c.loop-round._round _ c.loop-round.goes c.below-named.result c.below-held.result refl
+      (c.requires Volumes).lvs c.loop-round.invariant.0 lv (c.below-named.ensures lv below) (c.below-held.ensures lv below),
   c.next-goes-in-loop-round.ensures.past,
 )

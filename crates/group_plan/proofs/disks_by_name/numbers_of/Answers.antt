@@ -15,5 +15,7 @@ loop-number-init c = λ name.
 pub loop-number-preserved : goal.loop-number-preserved
 loop-number-preserved c = λ name.
     btree_map_updates_str c.bytes_of.result.now c.loop-number.numbers c.insert.new.self _ c.in_ok-insert.ensures.updates name
-    ∙ step_from c.args.names.now c.loop-number.number c.bytes_of.result.now name (get_by (λ (key : Bor (List ℕ)). slice_cmp nat_cmp name key.now) c.loop-number.numbers) (omega arith) (omega (arith, c.len-number.ensures)) c.bytes_of.ensures
+    ∙ step_from c.args.names.now c.loop-number.number c.bytes_of.result.now name
+    (get_by (λ (key : Bor (List ℕ)). slice_cmp nat_cmp name key.now) c.loop-number.numbers) (omega arith)
+    (omega (arith, c.len-number.ensures)) c.bytes_of.ensures
     (c.loop-number.invariant name)

@@ -10,7 +10,8 @@ inside size None is = tt
 inside size (Some locn) is = is
 
 pub plan_next-requires-clause-area : goal.plan_next-requires-clause-area
-plan_next-requires-clause-area c = let within : c.loop-area.area-index < length c.args.areas.now = omega arith in (c.requires.areas c.loop-area.area-index _ within).0
+plan_next-requires-clause-area c =
+    let within : c.loop-area.area-index < length c.args.areas.now = omega arith in (c.requires.areas c.loop-area.area-index _ within).0
 
 pub plan_next-requires-clause-committed : goal.plan_next-requires-clause-committed
 plan_next-requires-clause-committed c =

@@ -5,4 +5,5 @@ use Rattle.group_plan.specs.Members.{pv_named}
 use Rattle.group_plan.proofs.members.pvs_named.Given as goal
 
 abbrev pub invariant-loop-name : goal.invariant-loop-name
-invariant-loop-name l = with_all l.all (filter_map (pv_named l.state) (drop l.name-index l.names)) ≡ set_of (filter_map (pv_named l.state) l.names)
+invariant-loop-name l =
+    with_all l.all (filter_map (pv_named l.state) (drop l.name-index l.names)) ≡ set_of (filter_map (pv_named l.state) l.names)

@@ -13,9 +13,11 @@ loop-number-init c = λ disk.
 pub loop-number-preserved : goal.loop-number-preserved
 loop-number-preserved c = λ disk.
     c.in_ok-insert.ensures.updates.0 disk
-    ∙ step_at c.args.disk_of.now c.loop-number.number _ disk (get nat_cmp c.loop-number.numbers disk) (omega arith) (omega arith) refl (c.loop-number.invariant disk)
+    ∙ step_at c.args.disk_of.now c.loop-number.number _ disk (get nat_cmp c.loop-number.numbers disk) (omega arith) (omega arith) refl
+    (c.loop-number.invariant disk)
 
 pub returns : goal.returns
 returns c = λ disk.
     let start : c.loop-number.number ≡ 0 = omega arith in
-    c.loop-number.invariant disk ∙ ap (λ (n : ℕ). place_from n (drop n c.args.disk_of.now) disk) start ∙ sym (place_from-zero c.args.disk_of.now disk)
+    c.loop-number.invariant disk ∙ ap (λ (n : ℕ). place_from n (drop n c.args.disk_of.now) disk) start
+        ∙ sym (place_from-zero c.args.disk_of.now disk)

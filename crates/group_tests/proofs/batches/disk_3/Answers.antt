@@ -10,4 +10,6 @@ has_3 : (set : FinSet nat_cmp) → contains (insert set 3) 3 ≡ true
 has_3 set = contains-insert nat_cmp_total set 3 3 ∙ ap (λ (t : Bool). t || contains set 3) (unsigned_tied 3 3)
 
 pub returns : goal.returns
-returns c = record { some = some_disk c.insert.new.self 3 (omega arith) (subst (λ (s : FinSet nat_cmp). contains s 3 ≡ true) (sym c.insert.ensures) (has_3 c.new-flush.result)) }
+returns c =
+    record { some = some_disk c.insert.new.self 3 (omega arith)
+        (subst (λ (s : FinSet nat_cmp). contains s 3 ≡ true) (sym c.insert.ensures) (has_3 c.new-flush.result)) }

@@ -5,4 +5,5 @@ use Rattle.command_table.specs.Options.{number_named, words_of}
 use Rattle.line_answers.proofs.disk_names.place_of.Given as goal
 
 abbrev pub invariant-loop-place : goal.invariant-loop-place
-invariant-loop-place l = number_named (words_of l.names) l.name ≡ option_map (λ n. n + l.place) (number_named (words_of (drop l.place l.names)) l.name)
+invariant-loop-place l =
+    number_named (words_of l.names) l.name ≡ option_map (λ n. n + l.place) (number_named (words_of (drop l.place l.names)) l.name)

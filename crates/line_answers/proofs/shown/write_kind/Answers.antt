@@ -1,5 +1,6 @@
 -- The first so many values with their spaces are a front of all of them.
-use Rattle.std.proofs.Common.{◌≡◌, ◌<◌, ℕ, ◌+◌, true, false, List, [], ◌∷◌, ◌++◌, map, take, drop, length, get_or, ap, sym, subst, ◌∙◌, append_assoc}
+use Rattle.std.proofs.Common.{◌≡◌, ◌<◌, ℕ, ◌+◌, true, false, List, [], ◌∷◌, ◌++◌, map, take, drop, length, get_or, ap, sym, subst, ◌∙◌,
+    append_assoc}
 use Rattle.std.proofs.lemmas.Grind.{flat_map-append}
 use Rattle.std.proofs.lemmas.List.{flat_map_more, map-append, take-append-drop, take_more}
 use Rattle.std.proofs.lemmas.Result.{err_from_is_err_and}
@@ -13,19 +14,24 @@ use Rattle.line_answers.specs.declared.shown.Shown.{Shown}
 use Rattle.line_answers.proofs.shown.write_kind.Goals as goal
 
 one_more : (kind : List ℕ) (values : List Shown) (i : ℕ) (d : Shown) → i < length values
-    → shown_text (kind, map value_of (take (i + 1) values)) ≡ shown_text (kind, map value_of (take i values)) ++ (codes " " ++ value_text (value_of (get_or values i d)))
+    → shown_text (kind, map value_of (take (i + 1) values))
+    ≡ shown_text (kind, map value_of (take i values)) ++ (codes " " ++ value_text (value_of (get_or values i d)))
 one_more kind values i d within =
     ap (λ (l : List Shown). shown_text (kind, map value_of l)) (take_more values i d within)
     ∙ ap (λ (l : List Value). shown_text (kind, l)) (map-append value_of (take i values) (get_or values i d ∷ []))
-    ∙ sym (flat_map_more (λ (value : Value). codes " " ++ value_text value) kind (map value_of (take i values)) (value_of (get_or values i d)))
+    ∙ sym (flat_map_more (λ (value : Value). codes " " ++ value_text value) kind (map value_of (take i values))
+    (value_of (get_or values i d)))
 
 all_of : (kind : List ℕ) (values : List Shown) (i : ℕ)
-    → shown_text (kind, map value_of values) ≡ shown_text (kind, map value_of (take i values)) ++ flat_map (λ value. codes " " ++ value_text value) (map value_of (drop i values))
+    → shown_text (kind, map value_of values)
+    ≡ shown_text (kind, map value_of (take i values)) ++ flat_map (λ value. codes " " ++ value_text value) (map value_of (drop i values))
 all_of kind values i =
     ap (λ (l : List Shown). shown_text (kind, map value_of l)) (sym (take-append-drop i values))
     ∙ ap (λ (l : List Value). shown_text (kind, l)) (map-append value_of (take i values) (drop i values))
-    ∙ ap (λ (l : List ℕ). kind ++ l) (flat_map-append (λ (value : Value). codes " " ++ value_text value) (map value_of (take i values)) (map value_of (drop i values)))
-    ∙ sym (append_assoc kind (flat_map (λ (value : Value). codes " " ++ value_text value) (map value_of (take i values))) (flat_map (λ (value : Value). codes " " ++ value_text value) (map value_of (drop i values))))
+    ∙ ap (λ (l : List ℕ). kind ++ l) (flat_map-append (λ (value : Value). codes " " ++ value_text value) (map value_of (take i values))
+    (map value_of (drop i values)))
+    ∙ sym (append_assoc kind (flat_map (λ (value : Value). codes " " ++ value_text value) (map value_of (take i values)))
+    (flat_map (λ (value : Value). codes " " ++ value_text value) (map value_of (drop i values))))
 
 pub returns-in_err-write_behind_space : goal.returns-in_err-write_behind_space
 returns-in_err-write_behind_space g c =

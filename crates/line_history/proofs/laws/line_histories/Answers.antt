@@ -15,4 +15,6 @@ pub returns-clause-looks : goal.returns-clause-looks
 returns-clause-looks c = λ handed sizes names clock start ended l. looks handed sizes names clock start ended l
 
 pub returns-clause-reports : goal.returns-clause-reports
-returns-clause-reports c = λ handed sizes names clock start ended line said l quiet none may says. reports handed sizes names clock start ended l line quiet none said may says
+returns-clause-reports c =
+    λ handed sizes names clock start ended line said l quiet none may says. reports handed sizes names clock start ended l line quiet none
+        said may says

@@ -28,10 +28,12 @@ returns-in-Err g c =
 
 pub carry_out-requires-clause-state : goal.carry_out-requires-clause-state
 carry_out-requires-clause-state g c =
-    subst IsState (sym c.in-Ok.ensures.2) (whole_is_state c.args.found c.args.names.now c.in-Ok.ensures.0 c.requires.shape c.requires.whole c.requires.count c.requires.named)
+    subst IsState (sym c.in-Ok.ensures.2) (whole_is_state c.args.found c.args.names.now c.in-Ok.ensures.0 c.requires.shape c.requires.whole
+        c.requires.count c.requires.named)
 
 pub carry_out-requires-clause-backup : goal.carry_out-requires-clause-backup
-carry_out-requires-clause-backup g c = subst (λ (state : GroupState). IsBackupOf c.args.line.now.command state.backup) (sym c.in-Ok.ensures.2) c.in-Ok.ensures.1
+carry_out-requires-clause-backup g c =
+    subst (λ (state : GroupState). IsBackupOf c.args.line.now.command state.backup) (sym c.in-Ok.ensures.2) c.in-Ok.ensures.1
 
 pub carry_out-requires-clause-disks : goal.carry_out-requires-clause-disks
 carry_out-requires-clause-disks g c = c.requires.sizes ∙ ap (λ (state : GroupState). sizes_of state.disks) (sym c.in-Ok.ensures.2)
@@ -47,5 +49,7 @@ returns g c =
       is = ap (λ (r : Outcome × Option ℕ). r.0) c.outcome_of.ensures;
       took_is = ap (λ (r : Outcome × Option ℕ). r.1) c.outcome_of.ensures;
       again = e.again;
-      carried = subst (λ (state : GroupState). IsCarried state c.args.line.now c.args.now (g.S.Shelf.state c.args.shelf.now) c.carry_out.result (g.S.Shelf.state c.carry_out.new.shelf)) judged.2 e.carried;
+      carried =
+          subst (λ (state : GroupState). IsCarried state c.args.line.now c.args.now (g.S.Shelf.state c.args.shelf.now) c.carry_out.result
+              (g.S.Shelf.state c.carry_out.new.shelf)) judged.2 e.carried;
     }

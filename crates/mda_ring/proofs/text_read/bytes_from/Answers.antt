@@ -6,7 +6,9 @@ use Rattle.mda_ring.proofs.text_read.bytes_from.Goals as goal
 
 pub loop-bytes-preserved : goal.loop-bytes-preserved
 loop-bytes-preserved c = (
-  taken_more c.args.sectors.now c.args.skip (vec_len c.loop-bytes.bytes) (c.args.skip + c.len-in-loop-bytes.result) (vec_len c.extend_from_slice.new.self) c.loop-bytes.bytes.items c.part_at-part.result.now c.extend_from_slice.new.self.items c.loop-bytes.invariant.0
+  taken_more c.args.sectors.now c.args.skip (vec_len c.loop-bytes.bytes) (c.args.skip + c.len-in-loop-bytes.result)
+      (vec_len c.extend_from_slice.new.self) c.loop-bytes.bytes.items c.part_at-part.result.now c.extend_from_slice.new.self.items
+      c.loop-bytes.invariant.0
       c.part_at-part.ensures.bytes (omega arith) c.in_ok-extend_from_slice.ensures.items c.in_ok-extend_from_slice.ensures.len,
   omega (arith, c.in_ok-extend_from_slice.ensures.len),
 )

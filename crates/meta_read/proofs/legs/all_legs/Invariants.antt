@@ -7,4 +7,5 @@ use Rattle.meta_read.proofs.Each.{each_then}
 use Rattle.meta_read.proofs.legs.all_legs.Given as goal
 
 abbrev pub invariant-loop-name : goal.invariant-loop-name
-invariant-loop-name l = each (leg_of l.places) (map as_pair l.pairs) ≡ each_then (leg_of l.places) l.legs.items (map as_pair (drop l.name-index l.pairs))
+invariant-loop-name l =
+    each (leg_of l.places) (map as_pair l.pairs) ≡ each_then (leg_of l.places) l.legs.items (map as_pair (drop l.name-index l.pairs))

@@ -10,4 +10,5 @@ use Rattle.meta_read.proofs.lv.all_segments.Given as goal
 abbrev pub invariant-loop-name : goal.invariant-loop-name
 invariant-loop-name l =
     each (λ body. segment_of l.places (items body)) (filter_map segment_body (as_sections l.sections))
-    ≡ each_then (λ body. segment_of l.places (items body)) l.segments.items (filter_map segment_body (as_sections (drop l.name-index l.sections)))
+    ≡ each_then (λ body. segment_of l.places (items body)) l.segments.items
+    (filter_map segment_body (as_sections (drop l.name-index l.sections)))

@@ -7,7 +7,8 @@ use Rattle.meta_read.proofs.Left.{items_left}
 use Rattle.meta_read.proofs.passed.pass_lvs.Given as goal
 
 abbrev pub invariant-loop-next : goal.invariant-loop-next
-invariant-loop-next l = l.fn.unknown.items ++ in_volumes in_lv l.path (items l.section) ≡ l.unknown.items ++ in_volumes in_lv l.path (items_left l.next)
+invariant-loop-next l =
+    l.fn.unknown.items ++ in_volumes in_lv l.path (items l.section) ≡ l.unknown.items ++ in_volumes in_lv l.path (items_left l.next)
 
 abbrev pub decreases-loop-next : goal.decreases-loop-next
 decreases-loop-next l = option_map_or (λ first. length first.2 + 1) l.next 0

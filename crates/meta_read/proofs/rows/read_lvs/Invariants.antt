@@ -6,4 +6,5 @@ use Rattle.meta_read.proofs.NamedRows.{named_then}
 use Rattle.meta_read.proofs.rows.read_lvs.Given as goal
 
 abbrev pub invariant-loop-name : goal.invariant-loop-name
-invariant-loop-name l = named (lv_of l.places) [] (as_sections l.sections) ≡ named_then (lv_of l.places) l.table (as_sections (drop l.name-index l.sections))
+invariant-loop-name l =
+    named (lv_of l.places) [] (as_sections l.sections) ≡ named_then (lv_of l.places) l.table (as_sections (drop l.name-index l.sections))

@@ -5,6 +5,7 @@ use Rattle.meta_read.proofs.sections.segment_count.Given as goal
 
 abbrev pub invariant-loop-name : goal.invariant-loop-name
 invariant-loop-name l = record {
-  counted : length (filter_map segment_body (as_sections l.sections)) ≡ l.count + length (filter_map segment_body (as_sections (drop l.name-index l.sections)));
+  counted : length (filter_map segment_body (as_sections l.sections))
+      ≡ l.count + length (filter_map segment_body (as_sections (drop l.name-index l.sections)));
   within : l.count ≤ l.name-index;
 }

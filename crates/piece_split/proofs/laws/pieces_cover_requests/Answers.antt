@@ -9,4 +9,6 @@ pub returns-clause-request : goal.returns-clause-request
 returns-clause-request c = λ volume first count write. All-from_recursion _ _ (all_of_request volume first count write)
 
 pub returns-clause-cut : goal.returns-clause-cut
-returns-clause-cut c = λ volume first count write. (All-from_recursion _ _ (all_in_blocks volume first count write), All-from_recursion _ _ (later_begin volume first count write))
+returns-clause-cut c =
+    λ volume first count write. (All-from_recursion _ _ (all_in_blocks volume first count write),
+        All-from_recursion _ _ (later_begin volume first count write))

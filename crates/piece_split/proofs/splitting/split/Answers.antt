@@ -15,11 +15,14 @@ loop-left-preserved c =
     record {
       so_far =
           ap (λ (pieces : List Piece). pieces ++ pieces_of volume (at + c.from-at.result) (left - count) write) c.in_ok-push.ensures.items
-          ∙ ap (λ (n : ℕ). (c.loop-left.pieces.items ++ piece volume write at count ∷ []) ++ pieces_of volume (at + n) (left - count) write) next
-          ∙ more_pieces volume at left count write c.loop-left.pieces.items (pieces_of volume c.args.first c.args.count write) (omega arith) c.up_to_multiple-count.ensures c.loop-left.invariant.so_far;
+          ∙ ap (λ (n : ℕ). (c.loop-left.pieces.items ++ piece volume write at count ∷ []) ++ pieces_of volume (at + n) (left - count) write)
+          next
+          ∙ more_pieces volume at left count write c.loop-left.pieces.items (pieces_of volume c.args.first c.args.count write) (omega arith)
+          c.up_to_multiple-count.ensures c.loop-left.invariant.so_far;
       ends = omega (arith, next, c.loop-left.invariant.ends, c.up_to_multiple-count.ensures);
     }
 
 pub returns : goal.returns
 returns c =
-    c.from_vec.ensures ∙ all_pieces c.args.volume c.loop-left.at c.loop-left.left c.args.write c.loop-left.pieces.items (pieces_of c.args.volume c.args.first c.args.count c.args.write) (omega arith) c.loop-left.invariant.so_far
+    c.from_vec.ensures ∙ all_pieces c.args.volume c.loop-left.at c.loop-left.left c.args.write c.loop-left.pieces.items
+        (pieces_of c.args.volume c.args.first c.args.count c.args.write) (omega arith) c.loop-left.invariant.so_far

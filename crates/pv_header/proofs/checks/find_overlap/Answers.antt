@@ -7,12 +7,15 @@ use Rattle.pv_header.proofs.ReadLists.{no_extent}
 use Rattle.pv_header.proofs.checks.find_overlap.Goals as goal
 
 -- what the search from the area at a place on gives, by what the search for it gave
-step : (areas : List Extent) (disk_bytes i : ℕ) (found : Option Extent) → i < length areas → first_overlap areas disk_bytes ≡ overlap_from areas disk_bytes i
+step : (areas : List Extent) (disk_bytes i : ℕ) (found : Option Extent) → i < length areas
+    → first_overlap areas disk_bytes ≡ overlap_from areas disk_bytes i
     → found ≡ find (shares_byte areas disk_bytes (get_or areas i no_extent)) (drop (i + 1) areas)
-    → first_overlap areas disk_bytes ≡ option_or (option_map (λ other. (get_or areas i no_extent, other)) found) (overlap_from areas disk_bytes (i + 1))
+    → first_overlap areas disk_bytes ≡ option_or (option_map (λ other. (get_or areas i no_extent, other)) found)
+    (overlap_from areas disk_bytes (i + 1))
 step areas disk_bytes i found h so_far e =
     so_far ∙ overlap_from-more areas disk_bytes i no_extent h
-    ∙ ap (λ (o : Option Extent). option_or (option_map (λ other. (get_or areas i no_extent, other)) o) (overlap_from areas disk_bytes (i + 1))) (sym e)
+    ∙ ap (λ (o : Option Extent). option_or (option_map (λ other. (get_or areas i no_extent, other)) o)
+    (overlap_from areas disk_bytes (i + 1))) (sym e)
 
 pub loop-i-init : goal.loop-i-init
 loop-i-init c = overlap_from-start c.args.areas.now c.args.disk_bytes

@@ -13,7 +13,8 @@ unreachable-requires c =
     said.1 (sym said.0 ∙ part_len c.as_bytes.result.now size)
 
 pub unreachable-requires-in-Err-BadHyphen : goal.unreachable-requires-in-Err-BadHyphen
-unreachable-requires-in-Err-BadHyphen c = c.in-Err-BadHyphen.ensures.bad_hyphen c.in-Err-BadHyphen.field-0-0 (ap Err c.in-Err-BadHyphen.field-0-is)
+unreachable-requires-in-Err-BadHyphen c =
+    c.in-Err-BadHyphen.ensures.bad_hyphen c.in-Err-BadHyphen.field-0-0 (ap Err c.in-Err-BadHyphen.field-0-is)
 
 pub returns-in-Err-BadChar : goal.returns-in-Err-BadChar
 returns-in-Err-BadChar c =

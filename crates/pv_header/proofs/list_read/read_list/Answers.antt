@@ -13,19 +13,25 @@ loop-place-init c = record {
 pub returns-then-place-gt512 : goal.returns-then-place-gt512
 returns-then-place-gt512 c = (
   refl,
-  IsUnended-cut c.args.sector.now c.args.at c.loop-place.place c.loop-place.list.items c.loop-place.invariant.begins c.loop-place.invariant.place c.if-place-gt512.true
+  IsUnended-cut c.args.sector.now c.args.at c.loop-place.place c.loop-place.list.items c.loop-place.invariant.begins
+      c.loop-place.invariant.place c.if-place-gt512.true
       (λ e. c.if-offset-eq0.false (c.get_u64-offset.ensures ∙ e)),
 )
 
 pub loop-place-preserved : goal.loop-place-preserved
 loop-place-preserved c =
-    let more = BeginsList-more c.args.sector.now c.args.at c.loop-place.place c.get_u64-offset.result c.get_u64-size.result c.loop-place.list.items
+    let more =
+        BeginsList-more c.args.sector.now c.args.at c.loop-place.place c.get_u64-offset.result c.get_u64-size.result c.loop-place.list.items
     c.loop-place.invariant.begins c.loop-place.invariant.place c.get_u64-offset.ensures c.get_u64-size.ensures c.if-offset-eq0.false in
     record {
-      place = omega (arith, ap length c.in_ok-push.ensures.items, length_push c.loop-place.list.items (record { offset = c.get_u64-offset.result; size = c.get_u64-size.result }));
+      place =
+          omega (arith, ap length c.in_ok-push.ensures.items,
+              length_push c.loop-place.list.items (record { offset = c.get_u64-offset.result; size = c.get_u64-size.result }));
       bound = omega arith;
       begins = subst (BeginsList c.args.sector.now c.args.at) (sym c.in_ok-push.ensures.items) more;
     }
 
 pub returns : goal.returns
-returns c = (refl, IsUnended-past c.args.sector.now c.args.at c.loop-place.place c.loop-place.list.items c.loop-place.invariant.begins c.loop-place.invariant.place c.loop-place-test.false)
+returns c =
+    (refl, IsUnended-past c.args.sector.now c.args.at c.loop-place.place c.loop-place.list.items c.loop-place.invariant.begins
+        c.loop-place.invariant.place c.loop-place-test.false)

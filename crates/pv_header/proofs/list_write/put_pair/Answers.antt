@@ -14,4 +14,5 @@ returns-clause-bytes c =
     let first = length-bytes_low_first 0 8 a.offset in
     let second = length-bytes_low_first 0 8 a.size in
     c.put_u64-2.ensures ∙ ap (λ s. with_field 8 s (c.args.at + 8) a.size) c.put_u64.ensures
-    ∙ with_bytes-with_bytes c.args.into.now c.args.at (little_bytes 8 a.offset) (little_bytes 8 a.size) (c.args.at + 8) (omega arith) (omega arith)
+    ∙ with_bytes-with_bytes c.args.into.now c.args.at (little_bytes 8 a.offset) (little_bytes 8 a.size) (c.args.at + 8) (omega arith)
+    (omega arith)

@@ -15,7 +15,9 @@ loop-number-preserved c =
     subst P (get_or_default sectors n c.index-sectors-number.result [] among) c.in-Err.ensures in
     record {
       none = below_more _ _ c.loop-number.invariant.none (IsRefused-no_label (sector_at sectors n) n c.in-Err.cause refused);
-      cause = rw c.first_of-refusal.ensures (IsFirstRefusal-more sectors n c.loop-number.refusal c.in-Err.cause c.loop-number.invariant.cause refused);
+      cause =
+          rw c.first_of-refusal.ensures (IsFirstRefusal-more sectors n c.loop-number.refusal c.in-Err.cause c.loop-number.invariant.cause
+              refused);
     }
 
 pub returns : goal.returns

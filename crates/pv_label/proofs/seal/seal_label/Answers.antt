@@ -10,7 +10,8 @@ use Rattle.pv_label.proofs.LabelBytes.{IsLabel-with_label, drop-with_label}
 use Rattle.pv_label.proofs.seal.seal_label.Goals as goal
 
 -- the bytes that the checksum covers, once they are written
-covered_is : (c : goal.After-put_u32-2) → (length c.args.contents.now ≡ 512) × (length c.put.new.self ≡ 512) × (drop 20 c.put.new.self ≡ summed_bytes c.args.contents.now)
+covered_is : (c : goal.After-put_u32-2) → (length c.args.contents.now ≡ 512) × (length c.put.new.self ≡ 512)
+    × (drop 20 c.put.new.self ≡ summed_bytes c.args.contents.now)
 covered_is c =
     let old = c.args.contents.now in
     let tail : List ℕ = little_bytes 4 32 ++ codes "LVM2 001" in
@@ -18,7 +19,8 @@ covered_is c =
     let written : length (with_bytes (with_bytes old 20 (little_bytes 4 32)) 24 (codes "LVM2 001")) ≡ 512 =
     ap length (sym (c.put.ensures ∙ ap (λ (s : List ℕ). with_bytes s 24 (codes "LVM2 001")) c.put_u32.ensures)) ∙ lowest in
     let fits : length old ≡ 512 =
-    omega (arith, written, length-with_bytes (with_bytes old 20 (little_bytes 4 32)) 24 (codes "LVM2 001"), length-with_bytes old 20 (little_bytes 4 32)) in
+    omega (arith, written, length-with_bytes (with_bytes old 20 (little_bytes 4 32)) 24 (codes "LVM2 001"),
+        length-with_bytes old 20 (little_bytes 4 32)) in
     let low : c.put.new.self ≡ with_bytes old 20 tail =
     c.put.ensures ∙ ap (λ (s : List ℕ). with_bytes s 24 (codes "LVM2 001")) c.put_u32.ensures
     ∙ with_bytes-behind old 20 (little_bytes 4 32) 24 (codes "LVM2 001") refl (omega arith) in
@@ -27,7 +29,8 @@ covered_is c =
 sum_is : (c : goal.After-put_u32-2) → c.crc-sum.result ≡ checksum lvm_crc_start (summed_bytes c.args.contents.now)
 sum_is c =
     c.crc-sum.ensures
-    ∙ ap (checksum lvm_crc_start) (between_to_end c.as_bytes.result.now 20 512 (omega arith) ∙ ap (drop 20) c.as_bytes.ensures.value ∙ (covered_is c).2)
+    ∙ ap (checksum lvm_crc_start) (between_to_end c.as_bytes.result.now 20 512 (omega arith) ∙ ap (drop 20) c.as_bytes.ensures.value
+    ∙ (covered_is c).2)
 
 sealed_is : (c : goal.After-put_u32-2) → c.put_u32-2.new.s ≡ with_label c.args.contents.now c.args.sector
 sealed_is c =
@@ -58,5 +61,6 @@ returns-clause-rest c = ap (drop 32) (sealed_is c) ∙ drop-with_label c.args.co
 pub returns-clause-label : goal.returns-clause-label
 returns-clause-label c =
     let P : List ℕ → Type 0 = λ s. IsLabel s c.args.sector in
-    let fits : checksum lvm_crc_start (summed_bytes c.args.contents.now) < 256 ^ 4 = subst (λ (n : ℕ). n < 256 ^ 4) (sum_is c) c.crc-sum.type_inv in
+    let fits : checksum lvm_crc_start (summed_bytes c.args.contents.now) < 256 ^ 4 =
+        subst (λ (n : ℕ). n < 256 ^ 4) (sum_is c) c.crc-sum.type_inv in
     subst P (sym (sealed_is c)) (IsLabel-with_label c.args.contents.now c.args.sector (omega arith) fits)

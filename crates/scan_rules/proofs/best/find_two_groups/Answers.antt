@@ -17,5 +17,6 @@ returns-in-Some c =
     sym c.loop-i.invariant
     ∙ ap (λ (l : List HeldCopy). two_groups (all_held copies l)) (next_at held i (record { disk = 0; number = 0 }) c.loop-i-test.true)
     ∙ first_here copies one c.in-Some.id (drop (i + 1) held) (sym c.in-Some.is ∙ c.id_of.ensures)
-    ∙ ap (λ (o : Option (List ℕ)). option_map (λ (ids : List ℕ × List ℕ). TwoGroups ids.0 ids.1) (option_map (λ (other : List ℕ). (c.in-Some.id, other)) o)) (sym c.find_other.ensures)
+    ∙ ap (λ (o : Option (List ℕ)). option_map (λ (ids : List ℕ × List ℕ). TwoGroups ids.0 ids.1)
+    (option_map (λ (other : List ℕ). (c.in-Some.id, other)) o)) (sym c.find_other.ensures)
     ∙ ap (λ (o : Option (List ℕ × List ℕ)). option_map (λ (ids : List ℕ × List ℕ). TwoGroups ids.0 ids.1) o) (sym c.paired.ensures)

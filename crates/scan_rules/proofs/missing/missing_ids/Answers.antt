@@ -13,8 +13,10 @@ loop-i-preserved c =
       | then-is_missing+in_ok-push w ↦
           ap (λ v. v.items ++ missing_by found (drop (c.loop-i.i + 1) pvs)) w.missing-is
           ∙ ap (λ (l : List (List ℕ)). l ++ missing_by found (drop (c.loop-i.i + 1) pvs)) w.in_ok-push.ensures.items
-          ∙ missing_here found pvs c.loop-i.i _ c.loop-i.missing.items whole c.get.ensures c.loop-i.invariant (sym c.is_missing.ensures ∙ w.if-is_missing.true)
+          ∙ missing_here found pvs c.loop-i.i _ c.loop-i.missing.items whole c.get.ensures c.loop-i.invariant
+          (sym c.is_missing.ensures ∙ w.if-is_missing.true)
       | else-is_missing w ↦
           ap (λ v. v.items ++ missing_by found (drop (c.loop-i.i + 1) pvs)) w.missing-is
-          ∙ missing_past found pvs c.loop-i.i _ c.loop-i.missing.items whole c.get.ensures c.loop-i.invariant (sym c.is_missing.ensures ∙ w.if-is_missing.false)
+          ∙ missing_past found pvs c.loop-i.i _ c.loop-i.missing.items whole c.get.ensures c.loop-i.invariant
+          (sym c.is_missing.ensures ∙ w.if-is_missing.false)
     ]

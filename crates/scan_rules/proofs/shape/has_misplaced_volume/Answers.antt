@@ -20,7 +20,8 @@ returns-in-Some c =
     c.leaves_place.ensures
     ∙ ap (λ g. test g.extent_size disk found c.in-Some.pv.now) c.group-group.ensures.group
     ∙ ap (λ (o : Option Pv). unwrap_or (option_map (test group.extent_size disk found) o) false) c.in-Some.ensures
-    ∙ first_decides group found.id (test group.extent_size disk found) (subst IsAccepted c.group-group.ensures.group c.group-group.ensures.accepted Ids)
+    ∙ first_decides group found.id (test group.extent_size disk found)
+    (subst IsAccepted c.group-group.ensures.group c.group-group.ensures.accepted Ids)
 
 pub returns-in-None : goal.returns-in-None
 returns-in-None c =
@@ -28,4 +29,5 @@ returns-in-None c =
     let found = found_of [] c.args.found.now in
     let group = c.args.members.now in
     ap (λ (o : Option Pv). unwrap_or (option_map (test group.extent_size disk found) o) false) c.in-None.ensures
-    ∙ first_decides group found.id (test group.extent_size disk found) (subst IsAccepted c.group-group.ensures.group c.group-group.ensures.accepted Ids)
+    ∙ first_decides group found.id (test group.extent_size disk found)
+    (subst IsAccepted c.group-group.ensures.group c.group-group.ensures.accepted Ids)

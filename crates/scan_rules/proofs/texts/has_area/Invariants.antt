@@ -5,4 +5,5 @@ use Rattle.scan_rules.specs.Readings.{given_by}
 use Rattle.scan_rules.proofs.texts.has_area.Given as goal
 
 abbrev pub invariant-loop-area : goal.invariant-loop-area
-invariant-loop-area l = list_any (gives l.copy.text) (given_by l.copies (drop l.area-index l.areas)) ≡ list_any (gives l.copy.text) (given_by l.copies l.areas)
+invariant-loop-area l =
+    list_any (gives l.copy.text) (given_by l.copies (drop l.area-index l.areas)) ≡ list_any (gives l.copy.text) (given_by l.copies l.areas)

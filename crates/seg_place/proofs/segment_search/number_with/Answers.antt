@@ -24,7 +24,10 @@ loop-high-preserved-then-is_at_most g c =
     let begun : found.start ≤ c.args.extent = answer.2.0 c.if-is_at_most.true in
     record {
       between = halves_up c.args.segments.now c.args.extent low high middle found old.between (omega arith) answer.1 begun;
-      halved = subst (HasHalved (length c.args.segments.now) middle high c.args.steps.now) (sym c.is_at_most.ensures.step) (halves_more (length c.args.segments.now) low high middle high c.args.steps.now c.loop-high.steps (omega arith) (omega arith) old.halved);
+      halved =
+          subst (HasHalved (length c.args.segments.now) middle high c.args.steps.now) (sym c.is_at_most.ensures.step)
+              (halves_more (length c.args.segments.now) low high middle high c.args.steps.now c.loop-high.steps (omega arith) (omega arith)
+              old.halved);
     }
 
 past : (test : Bool) (start extent : ℕ) → IsTrue test ↔ (start ≤ extent) → test ≡ false → extent < start
@@ -41,8 +44,13 @@ loop-high-preserved g c =
     let later : c.args.extent < found.start = past c.is_at_most.result found.start c.args.extent answer.2 c.if-is_at_most.false in
     record {
       between = halves_down c.args.segments.now c.args.extent low high middle found old.between (omega arith) answer.1 later;
-      halved = subst (HasHalved (length c.args.segments.now) low middle c.args.steps.now) (sym c.is_at_most.ensures.step) (halves_more (length c.args.segments.now) low high low middle c.args.steps.now c.loop-high.steps (omega arith) (omega arith) old.halved);
+      halved =
+          subst (HasHalved (length c.args.segments.now) low middle c.args.steps.now) (sym c.is_at_most.ensures.step)
+              (halves_more (length c.args.segments.now) low high low middle c.args.steps.now c.loop-high.steps (omega arith) (omega arith)
+              old.halved);
     }
 
 pub returns-clause-found : goal.returns-clause-found
-returns-clause-found g c = one_left c.args.segments.now c.args.extent c.loop-high.low c.loop-high.high c.requires.follow c.requires.within c.loop-high.invariant.between (omega arith)
+returns-clause-found g c =
+    one_left c.args.segments.now c.args.extent c.loop-high.low c.loop-high.high c.requires.follow c.requires.within
+        c.loop-high.invariant.between (omega arith)

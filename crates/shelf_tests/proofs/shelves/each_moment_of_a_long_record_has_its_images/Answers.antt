@@ -4,7 +4,8 @@ use Rattle.disk_model.specs.State.{State}
 use Rattle.dev_shelf.specs.DiskRow.{lengths_of}
 use Rattle.shelf_tests.proofs.shelves.each_moment_of_a_long_record_has_its_images.Goals as goal
 
-two_sizes : (images : List (List (List ℕ))) → length images ≡ 2 → length (slice_index_or images 0 []) ≡ 2112 → length (slice_index_or images 1 []) ≡ 2112 → lengths_of images ≡ 2112 ∷ 2112 ∷ []
+two_sizes : (images : List (List (List ℕ))) → length images ≡ 2 → length (slice_index_or images 0 []) ≡ 2112
+    → length (slice_index_or images 1 []) ≡ 2112 → lengths_of images ≡ 2112 ∷ 2112 ∷ []
 two_sizes [] many first second = absurd (omega arith)
 two_sizes (a ∷ []) many first second = absurd (omega arith)
 two_sizes (a ∷ b ∷ []) many first second =

@@ -8,7 +8,10 @@ pub put_group-count-requires-clause-room : goal.put_group-count-requires-clause-
 put_group-count-requires-clause-room c = omega (arith, group_fits c.args.group.now)
 
 pub sort_front-requires-clause-sortable : goal.sort_front-requires-clause-sortable
-sort_front-requires-clause-sortable c = subst (All CanBeSorted) (sym c.put_group-count.ensures.front) (runs_sortable c.args.group.now c.requires.below)
+sort_front-requires-clause-sortable c =
+    subst (All CanBeSorted) (sym c.put_group-count.ensures.front) (runs_sortable c.args.group.now c.requires.below)
 
 pub returns-clause-sorted : goal.returns-clause-sorted
-returns-clause-sorted c = sorted_front c.args.group.now c.put_group-count.result _ _ c.put_group-count.ensures.counted c.put_group-count.ensures.front c.sort_front.ensures.order c.sort_front.ensures.moved
+returns-clause-sorted c =
+    sorted_front c.args.group.now c.put_group-count.result _ _ c.put_group-count.ensures.counted c.put_group-count.ensures.front
+        c.sort_front.ensures.order c.sort_front.ensures.moved

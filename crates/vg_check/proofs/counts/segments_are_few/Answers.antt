@@ -10,4 +10,5 @@ decided group result few = (λ yes. record { few = (few.0 yes).0; some = (few.0 
 pub returns : goal.returns
 returns c =
     let result = c.lvs_have_few_segments.result in
-    decided c.args.group.now result (subst (λ (group : Group). IsTrue result ↔ HasFewSegments group.lvs) c.group.view_is c.lvs_have_few_segments.ensures)
+    decided c.args.group.now result (subst (λ (group : Group). IsTrue result ↔ HasFewSegments group.lvs) c.group.view_is
+        c.lvs_have_few_segments.ensures)

@@ -5,4 +5,5 @@ use Rattle.vg_check.specs.Hidden.{LegsAreHidden}
 use Rattle.vg_check.proofs.depth.volumes_below_are_hidden.Given as goal
 
 abbrev pub invariant-loop-number : goal.invariant-loop-number
-invariant-loop-number l = (n : ℕ) (row : List ℕ × Lv) → n < l.number → slice_get l.group.lvs n ≡ Some row → All (LegsAreHidden l.group) row.1.segments
+invariant-loop-number l =
+    (n : ℕ) (row : List ℕ × Lv) → n < l.number → slice_get l.group.lvs n ≡ Some row → All (LegsAreHidden l.group) row.1.segments

@@ -7,5 +7,7 @@ use Rattle.vg_check.proofs.ids.kind_differs.Goals.{then-total-from, else-total-f
 pub returns-then-not-block_differs : goal.returns-then-not-block_differs
 returns-then-not-block_differs c = (
   λ is. absurd (false≢true is),
-  λ stand. c.if-not-block_differs.ensures.1 (stand_part c.args.group.now c.args.kind _ c.loop-from.from c.if-total-from.to (elim c.if-total-from.branch [ then-total-from w ↦ omega arith | else-total-from w ↦ omega arith ]) stand),
+  λ stand. c.if-not-block_differs.ensures.1
+      (stand_part c.args.group.now c.args.kind _ c.loop-from.from c.if-total-from.to
+      (elim c.if-total-from.branch [ then-total-from w ↦ omega arith | else-total-from w ↦ omega arith ]) stand),
 )

@@ -5,4 +5,5 @@ use Rattle.vg_check.specs.Outside.{LegsLieInside}
 use Rattle.vg_check.proofs.legs.leg_outside.Given as goal
 
 abbrev pub invariant-loop-number : goal.invariant-loop-number
-invariant-loop-number l = (n : ℕ) (row : List ℕ × Lv) → n < l.number → slice_get l.group.lvs n ≡ Some row → All (LegsLieInside l.group) row.1.segments
+invariant-loop-number l =
+    (n : ℕ) (row : List ℕ × Lv) → n < l.number → slice_get l.group.lvs n ≡ Some row → All (LegsLieInside l.group) row.1.segments

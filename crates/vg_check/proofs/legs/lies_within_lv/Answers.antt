@@ -13,7 +13,9 @@ extents-requires-clause-small c = lvs_small c.args.group.now c.args.number _ c.r
 
 pub returns-then-number-lv_count : goal.returns-then-number-lv_count
 returns-then-number-lv_count c =
-    subst (λ e. IsTrue (leb c.args.end e) ↔ LiesWithin c.args.group.now (on.Lv c.args.number) c.args.end) (sym c.extents.ensures) (lv_end c.args.group.now c.args.number c.args.end _ _ c.lv.ensures.1)
+    subst (λ e. IsTrue (leb c.args.end e) ↔ LiesWithin c.args.group.now (on.Lv c.args.number) c.args.end) (sym c.extents.ensures)
+        (lv_end c.args.group.now c.args.number c.args.end _ _ c.lv.ensures.1)
 
 pub returns-else-number-lv_count : goal.returns-else-number-lv_count
-returns-else-number-lv_count c = no_lv c.args.group.now c.args.number c.args.end c.lv_count.result c.lv_count.ensures c.if-number-lv_count.false
+returns-else-number-lv_count c =
+    no_lv c.args.group.now c.args.number c.args.end c.lv_count.result c.lv_count.ensures c.if-number-lv_count.false

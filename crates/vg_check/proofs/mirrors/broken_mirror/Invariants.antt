@@ -6,4 +6,5 @@ use Rattle.volume_rules.specs.Rules.{IsWholeMirror}
 use Rattle.vg_check.proofs.mirrors.broken_mirror.Given as goal
 
 abbrev pub invariant-loop-number : goal.invariant-loop-number
-invariant-loop-number l = All (λ (row : List ℕ × Lv). All (λ (segment : Segment). IsWholeMirror segment.kind) row.1.segments) (take l.number l.group.lvs)
+invariant-loop-number l =
+    All (λ (row : List ℕ × Lv). All (λ (segment : Segment). IsWholeMirror segment.kind) row.1.segments) (take l.number l.group.lvs)

@@ -10,5 +10,6 @@ returns-in-None c = (λ is. absurd (false≢true is), λ from. absurd (none-some
 pub returns-else-is_move_from : goal.returns-else-is_move_from
 returns-else-is_move_from c = (
   λ is. absurd (false≢true (sym c.if-is_move_from.false ∙ is)),
-  λ from. c.is_move_from.ensures.1 (subst (λ s. IsMoveFrom s c.args.first.now.kind) (same_Some from.0 c.in-Some.source (sym (c.source_of.ensures from.0 from.1) ∙ c.in-Some.is)) from.1),
+  λ from. c.is_move_from.ensures.1 (subst (λ s. IsMoveFrom s c.args.first.now.kind)
+      (same_Some from.0 c.in-Some.source (sym (c.source_of.ensures from.0 from.1) ∙ c.in-Some.is)) from.1),
 )

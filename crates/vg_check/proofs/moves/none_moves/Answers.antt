@@ -4,10 +4,12 @@ use Rattle.vg_check.proofs.TheMove.{none_more}
 use Rattle.vg_check.proofs.moves.none_moves.Goals as goal
 
 pub loop-number-preserved : goal.loop-number-preserved
-loop-number-preserved c = none_more c.args.group.now c.args.from c.loop-number.number c.lv.result.now c.lv.ensures c.if-lv.false c.loop-number.invariant
+loop-number-preserved c =
+    none_more c.args.group.now c.args.from c.loop-number.number c.lv.result.now c.lv.ensures c.if-lv.false c.loop-number.invariant
 
 pub returns : goal.returns
 returns c = (
-  λ is k past there. c.loop-number.invariant k past (omega (arith, slice_get_within c.args.group.now.lvs k (there.1.0, there.0) there.1.1)) there,
+  λ is k past there. c.loop-number.invariant k past (omega (arith, slice_get_within c.args.group.now.lvs k (there.1.0, there.0) there.1.1))
+      there,
   λ none. search rules,
 )

@@ -1,6 +1,7 @@
 use Rattle.disk_batch.proofs.Elsewhere.{completes_elsewhere, submits_elsewhere, works_elsewhere}
 use Rattle.vg_commit.specs.CommitHolds.{is_own}
-use Rattle.vg_commit.proofs.CommitBeside.{com_elsewhere, com_shows, fenced_shows, lost_shows, pre_elsewhere, pre_shows, ready_elsewhere, ready_shows, whole_elsewhere, whole_shows}
+use Rattle.vg_commit.proofs.CommitBeside.{com_elsewhere, com_shows, fenced_shows, lost_shows, pre_elsewhere, pre_shows, ready_elsewhere,
+    ready_shows, whole_elsewhere, whole_shows}
 use Rattle.vg_commit.proofs.CommitLaws.{begins, commits_holding, goes_holding, publishes}
 use Rattle.vg_commit.proofs.CommitRoom.{begins_spending, commits_spending, goes_spending, publishes_spending}
 use Rattle.vg_commit.proofs.CommitTargets.{writes_its_areas}
@@ -18,7 +19,8 @@ returns c = record {
   whole_elsewhere = whole_elsewhere;
   others_complete = λ commit tags old new done foreign completes. completes_elsewhere (is_own commit) tags old new done foreign completes;
   others_submit = λ commit tags old new op tag apart submits. submits_elsewhere (is_own commit) tags old new op tag apart submits;
-  others_submit_all = λ commit tags old new works theirs apart submits. works_elsewhere (is_own commit) tags old new works theirs submits apart;
+  others_submit_all =
+      λ commit tags old new works theirs apart submits. works_elsewhere (is_own commit) tags old new works theirs submits apart;
   writes_its_areas = writes_its_areas;
   begins_spending = begins_spending;
   goes_spending = goes_spending;

@@ -7,7 +7,8 @@ use Rattle.meta_model.specs.declared.pv.Pv.{Pv}
 use Rattle.vg_found.specs.Disks.{disk_with, disks_of}
 use Rattle.vg_found.proofs.pv_disks.disks_of.Goals as goal
 
-one_more : {X : Type 0} (f : X → ℕ) (xs : List X) (i : ℕ) (x : X) (before after whole : List ℕ) (n : ℕ) → slice_get xs i ≡ Some x → n ≡ f x → after ≡ before ++ n ∷ [] → before ++ map f (drop i xs) ≡ whole
+one_more : {X : Type 0} (f : X → ℕ) (xs : List X) (i : ℕ) (x : X) (before after whole : List ℕ) (n : ℕ) → slice_get xs i ≡ Some x → n ≡ f x
+    → after ≡ before ++ n ∷ [] → before ++ map f (drop i xs) ≡ whole
     → after ++ map f (drop (i + 1) xs) ≡ whole
 one_more f xs i x before after whole n here is pushed so_far =
     ap (λ (l : List ℕ). l ++ map f (drop (i + 1) xs)) pushed
@@ -18,5 +19,7 @@ one_more f xs i x before after whole n here is pushed so_far =
 
 pub loop-number-preserved : goal.loop-number-preserved
 loop-number-preserved c =
-    one_more (λ (pv : List ℕ × Pv). disk_with c.args.disks.now pv.1.id) c.args.group.now.pvs c.loop-number.number (c.get.result.0.now, c.get.result.1.now) c.loop-number.numbers.items c.push.new.self.items
-    (disks_of c.args.group.now c.args.disks.now) c.disk_with.result c.get.ensures c.disk_with.ensures c.in_ok-push.ensures.items c.loop-number.invariant
+    one_more (λ (pv : List ℕ × Pv). disk_with c.args.disks.now pv.1.id) c.args.group.now.pvs c.loop-number.number
+        (c.get.result.0.now, c.get.result.1.now) c.loop-number.numbers.items c.push.new.self.items
+    (disks_of c.args.group.now c.args.disks.now) c.disk_with.result c.get.ensures c.disk_with.ensures c.in_ok-push.ensures.items
+        c.loop-number.invariant

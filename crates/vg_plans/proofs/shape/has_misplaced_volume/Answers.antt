@@ -18,7 +18,8 @@ pub leaves_place-requires : goal.leaves_place-requires
 leaves_place-requires c =
     let group = c.args.members.now in
     subst (λ (g : Group). FitsDevice g.extent_size c.in-Some.pv.now) (sym c.group-group.ensures.group)
-    (holds_of_found (FitsDevice group.extent_size) c.args.header.now.id c.in-Some.pv.now group.pvs (subst IsAccepted c.group-group.ensures.group c.group-group.ensures.accepted Extents) (sym c.in-Some.ensures))
+    (holds_of_found (FitsDevice group.extent_size) c.args.header.now.id c.in-Some.pv.now group.pvs
+        (subst IsAccepted c.group-group.ensures.group c.group-group.ensures.accepted Extents) (sym c.in-Some.ensures))
 
 pub returns-in-Some : goal.returns-in-Some
 returns-in-Some c =
@@ -28,7 +29,8 @@ returns-in-Some c =
     c.leaves_place.ensures
     ∙ ap (λ g. test g.extent_size disk found c.in-Some.pv.now) c.group-group.ensures.group
     ∙ ap (λ (o : Option Pv). unwrap_or (option_map (test group.extent_size disk found) o) false) c.in-Some.ensures
-    ∙ first_decides group found.id (test group.extent_size disk found) (subst IsAccepted c.group-group.ensures.group c.group-group.ensures.accepted Ids)
+    ∙ first_decides group found.id (test group.extent_size disk found)
+    (subst IsAccepted c.group-group.ensures.group c.group-group.ensures.accepted Ids)
 
 pub returns-in-None : goal.returns-in-None
 returns-in-None c =
@@ -36,4 +38,5 @@ returns-in-None c =
     let found = pv_shape c.args.header.now in
     let group = c.args.members.now in
     ap (λ (o : Option Pv). unwrap_or (option_map (test group.extent_size disk found) o) false) c.in-None.ensures
-    ∙ first_decides group found.id (test group.extent_size disk found) (subst IsAccepted c.group-group.ensures.group c.group-group.ensures.accepted Ids)
+    ∙ first_decides group found.id (test group.extent_size disk found)
+    (subst IsAccepted c.group-group.ensures.group c.group-group.ensures.accepted Ids)

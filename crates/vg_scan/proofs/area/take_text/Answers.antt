@@ -9,7 +9,8 @@ use Rattle.vg_scan.proofs.area.take_text.Goals as goal
 
 pub returns-in-Some-clause-given : goal.returns-in-Some-clause-given
 returns-in-Some-clause-given c =
-    subst (λ (l : List ℕ). IsStored c.args.locn l (gives_of c.args.collected.now.copies (Numbered c.in-Some.number))) c.deref.ensures.value c.in-Some.ensures.1
+    subst (λ (l : List ℕ). IsStored c.args.locn l (gives_of c.args.collected.now.copies (Numbered c.in-Some.number))) c.deref.ensures.value
+        c.in-Some.ensures.1
 
 pub returns-in-Some-clause-continues : goal.returns-in-Some-clause-continues
 returns-in-Some-clause-continues c = continues_same c.args.collected.now.copies c.args.collected.now.copies refl
@@ -18,15 +19,18 @@ pub returns-in_err-copy-clause-continues : goal.returns-in_err-copy-clause-conti
 returns-in_err-copy-clause-continues c = continues_same c.args.collected.now.copies c.args.collected.now.copies refl
 
 pub push_copy-requires : goal.push_copy-requires
-push_copy-requires c = record { known = copy_known c.args.locn c.args.bytes.items c.in-Ok.copy c.requires (rw c.in-Ok.is at c.in_ok-copy.ensures) }
+push_copy-requires c =
+    record { known = copy_known c.args.locn c.args.bytes.items c.in-Ok.copy c.requires (rw c.in-Ok.is at c.in_ok-copy.ensures) }
 
 pub returns-in_err-push_copy-in-Ok-clause-continues : goal.returns-in_err-push_copy-in-Ok-clause-continues
-returns-in_err-push_copy-in-Ok-clause-continues c = continues_same c.args.collected.now.copies c.push_copy.new.self.copies c.in_err-push_copy-in-Ok.ensures.copies
+returns-in_err-push_copy-in-Ok-clause-continues c =
+    continues_same c.args.collected.now.copies c.push_copy.new.self.copies c.in_err-push_copy-in-Ok.ensures.copies
 
 pub returns-in_ok-push_copy-in-Ok-clause-given : goal.returns-in_ok-push_copy-in-Ok-clause-given
 returns-in_ok-push_copy-in-Ok-clause-given c =
     let pushed = c.in_ok-push_copy-in-Ok.ensures.copies in
-    taken_copy c.args.collected.now.copies c.push_copy.new.self.copies c.in-Ok.copy c.in_ok-push_copy-in-Ok.field-0 pushed.0 pushed.1 c.args.locn c.args.bytes.items (rw c.in-Ok.is at c.in_ok-copy.ensures)
+    taken_copy c.args.collected.now.copies c.push_copy.new.self.copies c.in-Ok.copy c.in_ok-push_copy-in-Ok.field-0 pushed.0 pushed.1
+        c.args.locn c.args.bytes.items (rw c.in-Ok.is at c.in_ok-copy.ensures)
 
 pub returns-in_ok-push_copy-in-Ok-clause-numbers : goal.returns-in_ok-push_copy-in-Ok-clause-numbers
 returns-in_ok-push_copy-in-Ok-clause-numbers c =
@@ -34,7 +38,8 @@ returns-in_ok-push_copy-in-Ok-clause-numbers c =
     taken_number c.args.collected.now.copies c.push_copy.new.self.copies c.in-Ok.copy c.in_ok-push_copy-in-Ok.field-0 pushed.0 pushed.1
 
 pub returns-in_ok-push_copy-in-Ok-clause-continues : goal.returns-in_ok-push_copy-in-Ok-clause-continues
-returns-in_ok-push_copy-in-Ok-clause-continues c = continues_one c.args.collected.now.copies c.push_copy.new.self.copies c.in-Ok.copy c.in_ok-push_copy-in-Ok.ensures.copies.1
+returns-in_ok-push_copy-in-Ok-clause-continues c =
+    continues_one c.args.collected.now.copies c.push_copy.new.self.copies c.in-Ok.copy c.in_ok-push_copy-in-Ok.ensures.copies.1
 
 pub returns-in-Err-clause-continues : goal.returns-in-Err-clause-continues
 returns-in-Err-clause-continues c = continues_same c.args.collected.now.copies c.args.collected.now.copies refl

@@ -31,30 +31,35 @@ scan_disk-requires-clause-most g c =
     subst (λ (l : List ℕ). slice_index_or l c.loop-pv.pv 0 ≤ 2 ^ 40) (sym c.loop-pv.invariant.1.sizes) (c.requires.most c.loop-pv.pv within)
 
 pub scan_disk-requires-clause-room : goal.scan_disk-requires-clause-room
-scan_disk-requires-clause-room g c = omega (arith, c.loop-pv-test.true, c.count-pv-end.ensures, c.loop-pv.invariant.0.reading_count, c.requires.few)
+scan_disk-requires-clause-room g c =
+    omega (arith, c.loop-pv-test.true, c.count-pv-end.ensures, c.loop-pv.invariant.0.reading_count, c.requires.few)
 
 pub name_unread-requires : goal.name_unread-requires
 name_unread-requires g c = omega (arith, c.loop-pv-test.true, c.count-pv-end.ensures, c.requires.few)
 
 pub found_of-requires-clause-some : goal.found_of-requires-clause-some
 found_of-requires-clause-some g c =
-    some_scanned (g.S.Shelf.state c.args.shelf.now) (g.S.Shelf.state c.loop-pv.shelf) c.loop-pv.pv c.loop-pv.disks.items c.loop-pv.unread c.loop-pv.collected.disks c.loop-pv.invariant.0
+    some_scanned (g.S.Shelf.state c.args.shelf.now) (g.S.Shelf.state c.loop-pv.shelf) c.loop-pv.pv c.loop-pv.disks.items c.loop-pv.unread
+        c.loop-pv.collected.disks c.loop-pv.invariant.0
     (omega (arith, c.loop-pv-test.false, c.count-pv-end.ensures)) c.requires.some
 
 pub found_of-requires-clause-few : goal.found_of-requires-clause-few
 found_of-requires-clause-few g c =
-    few_scanned (g.S.Shelf.state c.args.shelf.now) (g.S.Shelf.state c.loop-pv.shelf) c.loop-pv.pv c.loop-pv.disks.items c.loop-pv.unread c.loop-pv.collected.disks c.loop-pv.invariant.0
+    few_scanned (g.S.Shelf.state c.args.shelf.now) (g.S.Shelf.state c.loop-pv.shelf) c.loop-pv.pv c.loop-pv.disks.items c.loop-pv.unread
+        c.loop-pv.collected.disks c.loop-pv.invariant.0
     (omega (arith, c.loop-pv.auto.pv-end, c.count-pv-end.ensures)) c.requires.few
 
 pub found_of-requires-clause-shapes : goal.found_of-requires-clause-shapes
 found_of-requires-clause-shapes g c =
-    subst (λ (all : AllRead). HaveShapes c.loop-pv.disks.items c.loop-pv.unread all.disks) (sym c.into_readings.ensures) c.loop-pv.invariant.0.shape
+    subst (λ (all : AllRead). HaveShapes c.loop-pv.disks.items c.loop-pv.unread all.disks) (sym c.into_readings.ensures)
+        c.loop-pv.invariant.0.shape
 
 -- ---- none yet
 
 pub loop-pv-init : goal.loop-pv-init
 loop-pv-init g c = (
-  none_scanned c.new-disks.result.items c.new-unread.result c.new-collected.result.disks (g.S.Shelf.state c.args.shelf.now) c.new-disks.ensures.items c.new-unread.ensures c.new-collected.ensures.disks,
+  none_scanned c.new-disks.result.items c.new-unread.result c.new-collected.result.disks (g.S.Shelf.state c.args.shelf.now)
+      c.new-disks.ensures.items c.new-unread.ensures c.new-collected.ensures.disks,
   again_nothing (g.S.Shelf.state c.args.shelf.now) c.requires.idle,
 )
 
@@ -68,45 +73,55 @@ loop-pv-preserved g c =
     let pv = c.loop-pv.pv in
     let was = c.loop-pv.invariant.1 in
     let within : pv < length s0.sizes = omega (arith, c.loop-pv-test.true, c.count-pv-end.ensures) in (
-      next_scanned pv c.loop-pv.disks.items c.push.new.self.items c.loop-pv.unread c.name_unread.new.unread c.loop-pv.collected.disks c.scan_disk.new.collected.disks c.in_ok-disk.disk s0 s1 s2 c.loop-pv.invariant.0
-          c.in_ok-disk.ensures.disk c.scan_disk.ensures.reads was.sizes within (c.requires.least pv within) (c.requires.most pv within) c.in_ok-push.ensures.items c.name_unread.ensures,
+      next_scanned pv c.loop-pv.disks.items c.push.new.self.items c.loop-pv.unread c.name_unread.new.unread c.loop-pv.collected.disks
+          c.scan_disk.new.collected.disks c.in_ok-disk.disk s0 s1 s2 c.loop-pv.invariant.0
+          c.in_ok-disk.ensures.disk c.scan_disk.ensures.reads was.sizes within (c.requires.least pv within) (c.requires.most pv within)
+              c.in_ok-push.ensures.items c.name_unread.ensures,
       again_both s0 s1 s2 was c.scan_disk.ensures.again,
     )
 
 -- ---- memory is wanting
 
 pub returns-in_err-disk-clause-scan : goal.returns-in_err-disk-clause-scan
-returns-in_err-disk-clause-scan g c = wanting (g.S.Shelf.state c.args.shelf.now) (g.S.Shelf.state c.scan_disk.new.shelf) c.from_residual.result c.from_residual.ensures.1
+returns-in_err-disk-clause-scan g c =
+    wanting (g.S.Shelf.state c.args.shelf.now) (g.S.Shelf.state c.scan_disk.new.shelf) c.from_residual.result c.from_residual.ensures.1
 
 pub returns-in_err-disk-clause-again : goal.returns-in_err-disk-clause-again
 returns-in_err-disk-clause-again g c =
-    again_both (g.S.Shelf.state c.args.shelf.now) (g.S.Shelf.state c.loop-pv.shelf) (g.S.Shelf.state c.scan_disk.new.shelf) c.loop-pv.invariant.1 c.scan_disk.ensures.again
+    again_both (g.S.Shelf.state c.args.shelf.now) (g.S.Shelf.state c.loop-pv.shelf) (g.S.Shelf.state c.scan_disk.new.shelf)
+        c.loop-pv.invariant.1 c.scan_disk.ensures.again
 
 pub returns-in_err-disk-clause-reads : goal.returns-in_err-disk-clause-reads
 returns-in_err-disk-clause-reads g c =
-    reads_stopped c.loop-pv.pv c.loop-pv.disks.items c.loop-pv.unread c.loop-pv.collected.disks (g.S.Shelf.state c.args.shelf.now) (g.S.Shelf.state c.loop-pv.shelf) (g.S.Shelf.state c.scan_disk.new.shelf) c.loop-pv.invariant.0
+    reads_stopped c.loop-pv.pv c.loop-pv.disks.items c.loop-pv.unread c.loop-pv.collected.disks (g.S.Shelf.state c.args.shelf.now)
+        (g.S.Shelf.state c.loop-pv.shelf) (g.S.Shelf.state c.scan_disk.new.shelf) c.loop-pv.invariant.0
     c.loop-pv.invariant.1.sizes c.scan_disk.ensures.reads
 
 pub returns-in_err-push-clause-scan : goal.returns-in_err-push-clause-scan
 returns-in_err-push-clause-scan g c =
-    wanting (g.S.Shelf.state c.args.shelf.now) (g.S.Shelf.state c.scan_disk.new.shelf) c.from_residual-in_err-push.result c.from_residual-in_err-push.ensures.1
+    wanting (g.S.Shelf.state c.args.shelf.now) (g.S.Shelf.state c.scan_disk.new.shelf) c.from_residual-in_err-push.result
+        c.from_residual-in_err-push.ensures.1
 
 pub returns-in_err-push-clause-again : goal.returns-in_err-push-clause-again
 returns-in_err-push-clause-again g c =
-    again_both (g.S.Shelf.state c.args.shelf.now) (g.S.Shelf.state c.loop-pv.shelf) (g.S.Shelf.state c.scan_disk.new.shelf) c.loop-pv.invariant.1 c.scan_disk.ensures.again
+    again_both (g.S.Shelf.state c.args.shelf.now) (g.S.Shelf.state c.loop-pv.shelf) (g.S.Shelf.state c.scan_disk.new.shelf)
+        c.loop-pv.invariant.1 c.scan_disk.ensures.again
 
 pub returns-in_err-push-clause-reads : goal.returns-in_err-push-clause-reads
 returns-in_err-push-clause-reads g c =
-    reads_stopped c.loop-pv.pv c.loop-pv.disks.items c.loop-pv.unread c.loop-pv.collected.disks (g.S.Shelf.state c.args.shelf.now) (g.S.Shelf.state c.loop-pv.shelf) (g.S.Shelf.state c.scan_disk.new.shelf) c.loop-pv.invariant.0
+    reads_stopped c.loop-pv.pv c.loop-pv.disks.items c.loop-pv.unread c.loop-pv.collected.disks (g.S.Shelf.state c.args.shelf.now)
+        (g.S.Shelf.state c.loop-pv.shelf) (g.S.Shelf.state c.scan_disk.new.shelf) c.loop-pv.invariant.0
     c.loop-pv.invariant.1.sizes c.scan_disk.ensures.reads
 
 -- ---- all disks were scanned
 
 pub returns-in-Ok-clause-scan : goal.returns-in-Ok-clause-scan
 returns-in-Ok-clause-scan g c =
-    scan_found (g.S.Shelf.state c.args.shelf.now) (g.S.Shelf.state c.loop-pv.shelf) c.loop-pv.pv c.loop-pv.disks.items c.loop-pv.unread c.loop-pv.collected.disks c.in-Ok.found c.loop-pv.invariant.0
+    scan_found (g.S.Shelf.state c.args.shelf.now) (g.S.Shelf.state c.loop-pv.shelf) c.loop-pv.pv c.loop-pv.disks.items c.loop-pv.unread
+        c.loop-pv.collected.disks c.in-Ok.found c.loop-pv.invariant.0
     (omega (arith, c.loop-pv-test.false, c.count-pv-end.ensures))
-    (subst (λ (all : AllRead). IsOutcome c.loop-pv.disks.items c.loop-pv.unread all.disks c.in-Ok.found) c.into_readings.ensures c.in-Ok.ensures)
+    (subst (λ (all : AllRead). IsOutcome c.loop-pv.disks.items c.loop-pv.unread all.disks c.in-Ok.found) c.into_readings.ensures
+        c.in-Ok.ensures)
 
 pub returns-in-Ok-clause-reads : goal.returns-in-Ok-clause-reads
 returns-in-Ok-clause-reads g c =
@@ -115,7 +130,8 @@ returns-in-Ok-clause-reads g c =
 
 pub returns-in-Err-clause-scan : goal.returns-in-Err-clause-scan
 returns-in-Err-clause-scan g c =
-    scan_refused (g.S.Shelf.state c.args.shelf.now) (g.S.Shelf.state c.loop-pv.shelf) c.loop-pv.pv c.loop-pv.disks.items c.loop-pv.unread c.loop-pv.collected.disks c.in-Err.why c.loop-pv.invariant.0
+    scan_refused (g.S.Shelf.state c.args.shelf.now) (g.S.Shelf.state c.loop-pv.shelf) c.loop-pv.pv c.loop-pv.disks.items c.loop-pv.unread
+        c.loop-pv.collected.disks c.in-Err.why c.loop-pv.invariant.0
     (omega (arith, c.loop-pv-test.false, c.count-pv-end.ensures))
     (subst (λ (all : AllRead). IsRefusedBy (decide_scan all.disks) c.in-Err.why) c.into_readings.ensures c.in-Err.ensures)
 

@@ -9,5 +9,6 @@ use Rattle.claim_table.proofs.pieces.Pieces.has_volume.Goals as goal
 pub returns : goal.returns
 returns c =
     c.is_of_volume.ensures ∙ ap (λ (l : List Placed). list_any (λ e. nat_eq e.volume c.args.volume) l) c.deref.ensures.value
-    ∙ any_place c.self.inside.claims.items c.self.inside.places.items c.self.inside.longest (λ (e : Placed). nat_eq e.volume c.args.volume) c.self.invariant.0
+    ∙ any_place c.self.inside.claims.items c.self.inside.places.items c.self.inside.longest (λ (e : Placed). nat_eq e.volume c.args.volume)
+    c.self.invariant.0
     ∙ ap (λ (k : Kept). list_any (λ (d : Claim). nat_eq d.piece.volume c.args.volume) k.claims) c.self.view_is

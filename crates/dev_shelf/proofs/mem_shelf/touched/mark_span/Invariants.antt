@@ -6,5 +6,6 @@ use Rattle.dev_shelf.proofs.mem_shelf.touched.mark_span.Given as goal
 abbrev pub invariant-loop-k : goal.invariant-loop-k
 invariant-loop-k l = record {
   len : vec_len l.marks ≡ vec_len l.fn.marks;
-  each : (s : ℕ) → s < vec_len l.fn.marks → slice_index_or l.marks.items s false ≡ (covers_place l.span l.k s || slice_index_or l.fn.marks.items s false);
+  each : (s : ℕ) → s < vec_len l.fn.marks → slice_index_or l.marks.items s false
+      ≡ (covers_place l.span l.k s || slice_index_or l.fn.marks.items s false);
 }

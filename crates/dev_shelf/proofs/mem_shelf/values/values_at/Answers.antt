@@ -10,8 +10,10 @@ pub loop-i-preserved : goal.loop-i-preserved
 loop-i-preserved c =
     c.in_ok-all.ensures
     ∙ ap (λ (l : List Step). values (image_of c.args.row.now.opened.items) l c.args.pv c.args.sector)
-    (sym (steps_more c.args.row.now.written.items c.args.row.now.steps.items c.loop-i.i c.index-in-loop-i.result.now (omega (arith, c.args.row.now.steps.ok.0)) c.index-in-loop-i.ensures))
+    (sym (steps_more c.args.row.now.written.items c.args.row.now.steps.items c.loop-i.i c.index-in-loop-i.result.now
+        (omega (arith, c.args.row.now.steps.ok.0)) c.index-in-loop-i.ensures))
 
 pub values_on-requires-clause-follows : goal.values_on-requires-clause-follows
 values_on-requires-clause-follows c =
-    record_more c.args.row.now.written.items c.args.row.now.steps.items c.loop-i.i c.index-in-loop-i.result.now (omega (arith, c.args.row.now.steps.ok.0)) c.index-in-loop-i.ensures c.requires.good.follows
+    record_more c.args.row.now.written.items c.args.row.now.steps.items c.loop-i.i c.index-in-loop-i.result.now
+        (omega (arith, c.args.row.now.steps.ok.0)) c.index-in-loop-i.ensures c.requires.good.follows

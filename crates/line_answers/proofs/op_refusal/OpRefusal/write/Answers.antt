@@ -25,4 +25,5 @@ pub returns-in-NotShorter : goal.returns-in-NotShorter
 returns-in-NotShorter g c = rw c.in-NotShorter.is c.write_numbers-in-NotShorter.ensures
 
 pub returns-in-OtherGroup : goal.returns-in-OtherGroup
-returns-in-OtherGroup g c = rw (c.in-OtherGroup.is, ← c.as_bytes.ensures, ← c.as_bytes-in-OtherGroup.ensures) c.write_kind-in-OtherGroup.ensures
+returns-in-OtherGroup g c =
+    rw (c.in-OtherGroup.is, ← c.as_bytes.ensures, ← c.as_bytes-in-OtherGroup.ensures) c.write_kind-in-OtherGroup.ensures

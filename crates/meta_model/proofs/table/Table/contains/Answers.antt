@@ -6,4 +6,6 @@ use Rattle.meta_model.specs.Tables.{names_of}
 use Rattle.meta_model.proofs.table.Table.contains.Goals as goal
 
 pub returns : goal.returns
-returns g c = c.contains_key.ensures ∙ is_some-lookup (pointwise nat_eq c.args.name.now) c.self.inside.rows.entries ∙ ap (λ rows. is_among (names_of rows) c.args.name.now) c.self.view_is
+returns g c =
+    c.contains_key.ensures ∙ is_some-lookup (pointwise nat_eq c.args.name.now) c.self.inside.rows.entries
+        ∙ ap (λ rows. is_among (names_of rows) c.args.name.now) c.self.view_is

@@ -6,7 +6,8 @@ use Rattle.scan_rules.proofs.OlderCopies.{all_of_more, older_readings}
 use Rattle.scan_rules.proofs.readings.Readings.push_copy.Goals as goal
 
 pub invariant_of-self-2 : goal.invariant_of-self-2
-invariant_of-self-2 c = rw c.in_ok-push.ensures.items (all_of_more c.self.inside.copies.items c.args.copy c.self.inside.disks.items c.self.invariant)
+invariant_of-self-2 c =
+    rw c.in_ok-push.ensures.items (all_of_more c.self.inside.copies.items c.args.copy c.self.inside.disks.items c.self.invariant)
 
 pub returns-clause-disks : goal.returns-clause-disks
 returns-clause-disks c =

@@ -5,5 +5,6 @@ use Rattle.sector_base.proofs.sector_list.Sectors.copy_in.Given as goal
 abbrev pub invariant-loop-k : goal.invariant-loop-k
 invariant-loop-k l = record {
   len : length l.self ≡ length l.fn.self;
-  each : (s : ℕ) → slice_index_or l.self s [] ≡ (if nat_le l.first s && nat_lt s (l.first + l.k) then slice_index_or l.from (s - l.first) [] else slice_index_or l.fn.self s []);
+  each : (s : ℕ) → slice_index_or l.self s []
+      ≡ (if nat_le l.first s && nat_lt s (l.first + l.k) then slice_index_or l.from (s - l.first) [] else slice_index_or l.fn.self s []);
 }

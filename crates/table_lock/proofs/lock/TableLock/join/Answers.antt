@@ -11,7 +11,8 @@ join_seat-requires g c = let seat = c.args.seat.now in let other = c.args.other 
   c.requires.of.1.table,
   other.carries ∙ ap slots_of c.requires.idle.1,
   omega (arith, c.args.self.now.sized.0),
-  joins g.T.Grows.origin g.T.Grows.story seat.seat.id seat.seat.me.0 other.seat.id other.seat.me.0 seat.has_parts c.requires.idle.0 c.requires.idle.1 seat.settled other.settled,
+  joins g.T.Grows.origin g.T.Grows.story seat.seat.id seat.seat.me.0 other.seat.id other.seat.me.0 seat.has_parts c.requires.idle.0
+      c.requires.idle.1 seat.settled other.settled,
 )
 
 pub load-requires : goal.load-requires
@@ -23,5 +24,6 @@ load-requires g c = let seat = c.join_seat.new.seat in (
 
 pub returns-clause-seen : goal.returns-clause-seen
 returns-clause-seen g c =
-    joined_seat g.T.Grows.origin g.T.Grows.story c.join_seat.new.seat.me c.load.new.seat.me (history c.args.seat.now) (history c.args.other) c.load.ensures.2
+    joined_seat g.T.Grows.origin g.T.Grows.story c.join_seat.new.seat.me c.load.new.seat.me (history c.args.seat.now) (history c.args.other)
+        c.load.ensures.2
     (ap (λ m. m.0.history) c.join_seat.ensures.2) (ap (λ m. m.0.told) c.join_seat.ensures.2)

@@ -24,7 +24,8 @@ loop-preserved g c =
     record {
       of = t.of.0;
       same_parts = t.of.1 ∙ l.same_parts;
-      longer = prefix_trans (history c.args.seat.now) old new l.longer (adds_longer g.T.Grows.origin g.T.Grows.story old new Missed t.none.1);
+      longer =
+          prefix_trans (history c.args.seat.now) old new l.longer (adds_longer g.T.Grows.origin g.T.Grows.story old new Missed t.none.1);
       more_seen = prefix_trans (seen c.args.seat.now) (seen c.loop.seat) (seen c.try_take.new.seat) l.more_seen t.seen;
       idle = t.none.0;
       none_missed = λ all. absurd (cc ((t.alone (l.same_parts ∙ all)).0));
@@ -33,7 +34,8 @@ loop-preserved g c =
 pub returns-in-Some-try_take-clause-taken : goal.returns-in-Some-try_take-clause-taken
 returns-in-Some-try_take-clause-taken g c =
     let t = c.in-Some-try_take.ensures.taken in
-    (t.0, adds_after g.T.Grows.origin g.T.Grows.story (history c.args.seat.now) (history c.loop.seat) (history c.try_take.new.seat) Taken c.loop.invariant.longer t.1)
+    (t.0, adds_after g.T.Grows.origin g.T.Grows.story (history c.args.seat.now) (history c.loop.seat) (history c.try_take.new.seat) Taken
+        c.loop.invariant.longer t.1)
 
 pub returns-in-Some-try_take-clause-alone : goal.returns-in-Some-try_take-clause-alone
 returns-in-Some-try_take-clause-alone g c =
