@@ -22,9 +22,9 @@ use Rattle.vg_found.specs.declared.found.Found.{Found}
 use Rattle.vg_found.specs.declared.whole.NotWhole.{NotWhole}
 use Rattle.vg_found.specs.declared.whole.NotWhole.TheVariants as not_whole
 use Rattle.vg_found.specs.Whole.{IsNotWhole}
-use Rattle.vg_scan.specs.Scans.{AreFewReads, FailedOn, HoldsNow, IsRefusalOfScan, IsScan, IsScanOf, IsScanRefused, ReadsFew}
+use Rattle.vg_scan.specs.Scans.{AreFewReads, FailedOn, HoldsNow, IsScan, IsScanOf, IsScanRefused, ReadsFew}
 use Rattle.lvm_run.specs.CommandSpec.{Lacks, Refuses}
-use Rattle.lvm_run.specs.Scan.{FindsWhole, FlushesBeforeReads, IsOpenCause, IsOpened, IsTakenAsFound, OpensDisks}
+use Rattle.lvm_run.specs.Scan.{FindsWhole, FlushesBeforeReads, IsOpenCause, IsOpened, IsTakenAsFound, OpensDisks, IsRefusedFor}
 use Rattle.lvm_run.specs.ScanEndings.{IsEndingOf, partial_ending}
 use Rattle.lvm_run.specs.declared.ending.Ending.{Ending}
 use Rattle.lvm_run.specs.declared.ending.Ending.TheVariants.{NoMemory, ScanRefused}
@@ -165,8 +165,8 @@ module _ (old mid new : State) (same_sizes : mid.sizes ≡ old.sizes)
       let r = refused_is mid new why unread ends.1 is in (
         unread,
         record { failed = failed_since unread r.1; all = ends.2 },
-        subst (λ (w : RefusalOfScan). HoldsNow old.told (λ image. IsRefusalOfScan image old.sizes unread w)) (sym ends.0)
-            (held (λ image sizes. IsRefusalOfScan image sizes unread why) r.0),
+        subst (λ (w : RefusalOfScan). HoldsNow old.told (λ image. IsRefusedFor image old.sizes unread w)) (sym ends.0)
+            (held (λ image sizes. IsRefusedFor image sizes unread why) r.0),
       )
   refused_cause why unread _ is ends = absurd ends
 

@@ -15,7 +15,7 @@ use Rattle.disk_model.specs.State.{State}
 use Rattle.disk_model.specs.Steps.{Image, now_after}
 use Rattle.scan_rules.specs.declared.decision.ScanRefusal.{ScanRefusal}
 use Rattle.vg_found.specs.declared.found.Found.{Found}
-use Rattle.vg_scan.specs.Scans.{AreFewReads, FailedOn, HoldsNow, IsRefusalOfScan, IsScan, IsScanOf, IsScanRefused, ReadsFew}
+use Rattle.vg_scan.specs.Scans.{AreFewReads, FailedOn, HoldsNow, IsScan, IsScanOf, IsScanRefused, ReadsFew}
 use Rattle.lvm_run.specs.declared.commands.scan_report.ScanReport.{ScanReport}
 use Rattle.lvm_run.specs.declared.commands.scan_report.ScanReport.TheVariants.{Pvs, Vgs, Lvs, Vgck}
 use Rattle.lvm_run.specs.declared.ending.Ending.{Ending}
@@ -25,6 +25,7 @@ use Rattle.lvm_run.specs.declared.outcome.Outcome.TheVariants.{Answered, Ended, 
 use Rattle.lvm_run.specs.declared.disks_refusal.DisksRefusal.TheVariants.{Disks}
 use Rattle.lvm_run.specs.CommandSpec.{CommandSpec, Context, no_inputs}
 use Rattle.lvm_run.specs.Meets.{DoesToDisks, Meets}
+use Rattle.lvm_run.specs.Scan.{IsRefusedFor}
 use Rattle.lvm_run.specs.ScanEndings.{IsEndingOf}
 use Rattle.lvm_run.specs.ScanReport.{IsReported, command_of, scan_report, text_of}
 use Rattle.lvm_run.proofs.ChangedDisks.{holds_now_anyway, holds_now_weaker, reads_disks}
@@ -94,7 +95,7 @@ module _ (report : ScanReport) (names : List Word) (id : Option (List ℕ)) (tim
   report_meets found _ is reported = absurd reported
 
   refused_meets : (why : ScanRefusal) (unread : set.FinSet nat_cmp) (whole : Bool)
-      → HoldsNow old.told (λ image. IsRefusalOfScan image old.sizes unread why) → FailedOn unread old new
+      → HoldsNow old.told (λ image. IsRefusedFor image old.sizes unread why) → FailedOn unread old new
       → IsTrue whole ↔ (unread ≡ set.empty)
       → Meets (scan_report report) context old (Ended (ScanRefused (Disks why) whole)) new
   refused_meets why unread whole now failed all = record {

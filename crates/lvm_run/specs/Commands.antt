@@ -39,7 +39,7 @@ is_built command.Lvs = true
 is_built command.Vgck = true
 is_built _ = false
 
--- of a command that isn't built nothing is said, so that nothing meets it
+-- of a command that isn't built nothing is said: words that ask for it are refused before
 abbrev unbuilt : CommandSpec
 unbuilt = record {
   flushes = false;

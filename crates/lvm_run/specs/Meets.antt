@@ -51,7 +51,7 @@ IsReadFault spec context AtDisks old new pv =
     (unread : set.FinSet nat_cmp) × FailedOn unread old new × IsScanned spec context unread old (Lacks pv)
 IsReadFault spec context _ old new pv = (span : Span) × IsLastFault old new pv (Reading span)
 
--- where memory was wanting no operation had failed, but for reads of a scan
+-- where memory was wanting no operation had failed; of a command that scans it isn't said which had
 abbrev pub FailedForWant : Looks → State → State → Type 0
 FailedForWant AtDisks old new = Unit {0}
 FailedForWant _ old new = HasSameFaults old new

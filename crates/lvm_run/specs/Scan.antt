@@ -7,6 +7,8 @@ use Rattle.disk_model.specs.Order.{HasFlushed, WritesNothing}
 use Rattle.disk_model.specs.Since.{spans_read}
 use Rattle.disk_model.specs.State.{State}
 use Rattle.disk_model.specs.Steps.{Image, IsSame, Reading, Flushing, Step, Submitted, Record, now_after, steps_on}
+use Rattle.scan_rules.specs.declared.decision.ScanRefusal.{ScanRefusal}
+use Rattle.scan_rules.specs.declared.decision.ScanRefusal.TheVariants as refusals
 use Rattle.vg_found.specs.declared.disk.Disk.{Disk}
 use Rattle.vg_found.specs.declared.found.Found.{Found}
 use Rattle.vg_found.specs.declared.whole.NotWhole.{NotWhole}
@@ -19,10 +21,14 @@ use Rattle.lvm_run.specs.declared.ending.Ending.{Ending}
 use Rattle.lvm_run.specs.declared.ending.Ending.TheVariants.{NoMemory, OpenFailed, ScanReadFailed, ScanRefused}
 use Rattle.lvm_run.specs.declared.disks_refusal.DisksRefusal.TheVariants.{Disks, Partial}
 
+-- a scan of disks of these sizes is refused for this, and not for want of memory, which says nothing of them
+abbrev pub IsRefusedFor : Image → List ℕ → set.FinSet nat_cmp → ScanRefusal → Type 0
+IsRefusedFor image sizes unread refusal = (refusal ≢ refusals.NoMemory) × IsRefusalOfScan image sizes unread refusal
+
 -- what a scan of disks of these sizes finds, whatever is missing and whichever are unread
 abbrev pub FindsAnything : Image → List ℕ → set.FinSet nat_cmp → Scanned → Type 0
 FindsAnything image sizes unread (Finds (Some found)) = IsScanOf image sizes found × (found.unread ≡ unread)
-FindsAnything image sizes unread (Refuses (Disks refusal)) = IsRefusalOfScan image sizes unread refusal
+FindsAnything image sizes unread (Refuses (Disks refusal)) = IsRefusedFor image sizes unread refusal
 FindsAnything image sizes unread _ = ⊥
 
 -- the same where the group has to be whole: with a physical volume missing it is refused, and with a disk unread it isn't
@@ -31,7 +37,7 @@ abbrev pub FindsWhole : Image → List ℕ → set.FinSet nat_cmp → Scanned �
 FindsWhole image sizes unread (Finds (Some found)) = IsScanOf image sizes found × (found.unread ≡ unread) × IsWhole found
 FindsWhole image sizes unread (Refuses (Partial ids)) =
     (found : Found) × IsScanOf image sizes found × (found.unread ≡ unread) × (unread ≡ set.empty) × (ids ≡ found.missing) × (ids ≢ [])
-FindsWhole image sizes unread (Refuses (Disks refusal)) = IsRefusalOfScan image sizes unread refusal
+FindsWhole image sizes unread (Refuses (Disks refusal)) = IsRefusedFor image sizes unread refusal
 FindsWhole image sizes unread (Lacks pv) =
     (found : Found) × IsScanOf image sizes found × (found.unread ≡ unread) × (first_of unread ≡ Some pv)
 FindsWhole image sizes unread _ = ⊥

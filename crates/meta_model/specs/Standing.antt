@@ -166,7 +166,7 @@ vg_status words =
     record { resizeable = is_among words (codes "RESIZEABLE"); read = is_among words (codes "READ");
         write = is_among words (codes "WRITE") }
 
--- `PVMOVE` is taken too, and decides nothing
+-- the group of a section with these keys, or the first that is refused; `PVMOVE` among its status words decides nothing
 abbrev pub group_in : List ℕ → Items → Read Group
 group_in name keys =
     id (codes "id") keys >>= λ id.

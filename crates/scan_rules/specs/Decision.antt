@@ -129,11 +129,11 @@ lists group id = list_any (λ (pv : List ℕ × Pv). same_bytes pv.1.id id) grou
 abbrev pub is_listed : Group → Reading → Bool
 is_listed group reading = unwrap_or (option_map (λ (pv : Found). lists group pv.id) reading.pv) false
 
--- whether a run of sectors, where it has any, leaves the disk, or meets sectors 0 to 7 or an area
+-- whether a run of sectors meets the area
 abbrev pub meets_area : ℕ → ℕ → Area → Bool
 meets_area start end area = nat_lt start (area.start + area.sectors) && nat_lt area.start end
 
--- whether a run does so on this disk, where it has any sector
+-- whether a run of sectors, where it has any, leaves this disk, or meets sectors 0 to 7 or an area
 abbrev pub is_misplaced : ℕ → ℕ → Reading → Found → Bool
 is_misplaced start end disk found =
     nat_lt start end && (nat_lt disk.sectors end || (nat_lt start 8 || list_any (meets_area start end) found.areas))
@@ -149,7 +149,9 @@ has_misplaced group disk =
     disk.pv)
     false
 
--- the tests, in their order
+-- ---- the tests, in their order
+
+-- two disks with one id
 abbrev pub duplicates : List Reading → Option ScanAnswer
 duplicates disks = option_map (λ (pair : ℕ × ℕ). DuplicatePv pair.0 pair.1) (first_duplicate (ids_from 0 disks))
 
@@ -183,7 +185,7 @@ conflict cs =
 abbrev pub numbered : List Reading → List (ℕ × Reading)
 numbered disks = enumerate_from 0 disks
 
--- whether a disk holds the copy with this text
+-- whether an area reads as a copy with this text
 abbrev pub gives : List ℕ → AreaReading → Bool
 gives text HoldsNone = false
 gives text (Copy group other passed) = same_bytes other text
